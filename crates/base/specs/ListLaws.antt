@@ -1,0 +1,144 @@
+-- Laws of the small functions over lists.
+use mathlib.Core.Bool.{Bool, true, false, not, _&&_, _||_, true≢false, or-true, or-assoc}
+use mathlib.Core.Path.{_≡_, refl, sym, _∙_, ap}
+use mathlib.Core.List.{List, [], _∷_, _++_}
+use mathlib.Core.Option.{Option, none, some}
+use Prim.Native.Nat.{ℕ, zero, suc, _+_, _-_, _<_, _≤_}
+use native.Mathlib.Omega.{arith}
+use native.Mathlib.Decide.{decLe}
+use lib.Dec.{eqb, leb}
+use lib.ListN.{length, take, drop}
+use borrow.Author.Tests.{le-leb, lt-leb, leb-true, eq-eqb, ne-eqb, eqb-true}
+use Rattle.base.specs.Bools.{and-left, and-right}
+use Rattle.base.specs.Lists.{put, keep, any, tail, empty, holds, front, after, or-else, same, starts}
+
+-- `any` and `keep` of two lists, one behind the other
+pub any-append : {A : Type 0} (f : A → Bool) (l k : List A) → any f (l ++ k) ≡ (any f l || any f k)
+unfolding any
+any-append f [] k = refl
+any-append f (x ∷ l) k = ap (λ (b : Bool). f x || b) (any-append f l k) ∙ sym (or-assoc (f x) (any f l) (any f k))
+
+pub keep-append : {A : Type 0} (q : A → Bool) (l k : List A) → keep q (l ++ k) ≡ keep q l ++ keep q k
+unfolding keep
+keep-append q [] k = refl
+keep-append {A} q (x ∷ l) k = ap (put (q x) x) (keep-append q l k) ∙ put-append (q x)
+  where
+    put-append : (b : Bool) → put b x (keep q l ++ keep q k) ≡ put b x (keep q l) ++ keep q k
+    put-append true = refl
+    put-append false = refl
+
+-- what passes one test passes another; one that passes there is
+pub any-implies : {A : Type 0} (f g : A → Bool) → ((x : A) → f x ≡ true → g x ≡ true)
+    → (l : List A) → any f l ≡ true → any g l ≡ true
+unfolding any
+any-implies f g h [] e = e
+any-implies {A} f g h (x ∷ l) e = go (f x) refl e (any-implies f g h l)
+  where
+    go : (b : Bool) → f x ≡ b → (b || any f l) ≡ true → (any f l ≡ true → any g l ≡ true) → (g x || any g l) ≡ true
+    go true p e k = ap (λ (c : Bool). c || any g l) (h x p)
+    go false p e k = ap (λ (c : Bool). g x || c) (k e) ∙ or-true (g x)
+
+pub any-elim : {A X : Type 0} (f : A → Bool) (l : List A) → ((x : A) → f x ≡ true → X) → any f l ≡ true → X
+unfolding any
+any-elim f [] k e = absurd (true≢false (sym e))
+any-elim {A} {X} f (x ∷ l) k e = go (f x) refl e (any-elim f l k)
+  where
+    go : (b : Bool) → f x ≡ b → (b || any f l) ≡ true → (any f l ≡ true → X) → X
+    go true q e r = k x q
+    go false q e r = r e
+
+-- Sizes as numbers
+leb-suc : (a b : ℕ) → leb a b ≡ leb (suc a) (suc b)
+leb-suc a b = go (decLe a b)
+  where
+    go : Dec (a ≤ b) → leb a b ≡ leb (suc a) (suc b)
+    go (yes k) = le-leb a b k ∙ sym (le-leb (suc a) (suc b) (omega arith))
+    go (no k) = lt-leb a b (omega arith) ∙ sym (lt-leb (suc a) (suc b) (omega arith))
+
+pub holds-is : {A : Type 0} (n : ℕ) (l : List A) → holds n l ≡ leb n (length l)
+unfolding holds
+holds-is zero l = sym (le-leb 0 (length l) (omega arith))
+holds-is (suc n) [] = sym (lt-leb (suc n) 0 (omega arith))
+holds-is (suc n) (x ∷ l) = holds-is n l ∙ leb-suc n (length l)
+
+pub holds-length : {A : Type 0} (n : ℕ) (l : List A) → holds n l ≡ true → n ≤ length l
+holds-length n l e = leb-true n (length l) (sym (holds-is n l) ∙ e)
+
+pub empty-is : {A : Type 0} (l : List A) → empty l ≡ eqb (length l) 0
+unfolding empty
+empty-is [] = refl
+empty-is (x ∷ l) = sym (ne-eqb (suc (length l)) 0 (λ z. omega arith))
+
+pub none-left : {A : Type 0} (l : List A) → empty l ≡ true → length l ≡ 0
+none-left l e = eqb-true (length l) 0 (sym (empty-is l) ∙ e)
+
+pub some-left : {A : Type 0} (l : List A) → empty l ≡ false → 0 < length l
+unfolding empty
+some-left [] e = absurd (true≢false e)
+some-left (x ∷ l) e = omega arith
+
+pub take-most : {A : Type 0} (n : ℕ) (l : List A) → length (take n l) ≤ n
+take-most zero l = omega arith
+take-most (suc n) [] = omega arith
+take-most (suc n) (x ∷ l) = let h = take-most n l in omega arith
+
+pub tail-length : {A : Type 0} (l : List A) → length (tail l) ≡ length l - 1
+tail-length [] = omega arith
+tail-length (x ∷ l) = omega arith
+
+pub front-length : {A : Type 0} (q : A → Bool) (l : List A) → length (front q l) ≤ length l
+unfolding front
+front-length q [] = omega arith
+front-length {A} q (x ∷ l) = go (q x) (front-length q l)
+  where
+    go : (b : Bool) → length (front q l) ≤ length l → length {A = A} (elim b [ true ↦ x ∷ front q l | false ↦ [] ]) ≤ suc (length l)
+    go true h = omega arith
+    go false h = omega arith
+
+-- a front and what follows it are the whole
+pub front-after : {A : Type 0} (q : A → Bool) (l : List A) → length (front q l) + length (after q l) ≡ length l
+unfolding front after
+front-after q [] = refl
+front-after {A} q (x ∷ l) = go (q x) (front-after q l)
+  where
+    go : (b : Bool) → length (front q l) + length (after q l) ≡ length l
+        → length {A = A} (elim b [ true ↦ x ∷ front q l | false ↦ [] ]) + length {A = A} (elim b [ true ↦ after q l | false ↦ x ∷ l ]) ≡ suc (length l)
+    go true h = omega arith
+    go false h = omega arith
+
+-- Equal lists of numbers
+pub same-refl : (a : List ℕ) → same a a ≡ true
+unfolding same
+same-refl [] = refl
+same-refl (x ∷ a) = ap (λ (b : Bool). b && same a a) (eq-eqb x x refl) ∙ same-refl a
+
+pub same-true : (a b : List ℕ) → same a b ≡ true → a ≡ b
+unfolding same
+same-true [] [] e = refl
+same-true [] (y ∷ b) e = absurd (true≢false (sym e))
+same-true (x ∷ a) [] e = absurd (true≢false (sym e))
+same-true (x ∷ a) (y ∷ b) e = let p = eqb-true x y (and-left _ _ e) in let q = same-true a b (and-right (eqb x y) _ e) in cc
+
+pub same-none : (a : List ℕ) → same a [] ≡ empty a
+unfolding same empty
+same-none [] = refl
+same-none (x ∷ a) = refl
+
+pub starts-append : (a b : List ℕ) → starts a (a ++ b) ≡ true
+unfolding starts
+starts-append [] b = refl
+starts-append (x ∷ a) b = ap (λ (c : Bool). c && starts a (a ++ b)) (eq-eqb x x refl) ∙ starts-append a b
+
+pub starts-split : (a b : List ℕ) → starts a b ≡ true → b ≡ a ++ drop (length a) b
+unfolding starts
+starts-split [] b e = refl
+starts-split (x ∷ a) [] e = absurd (true≢false (sym e))
+starts-split (x ∷ a) (y ∷ b) e =
+    let p = eqb-true x y (and-left _ _ e) in
+    let q = starts-split a b (and-right (eqb x y) _ e) in
+    ap (λ (z : ℕ). z ∷ b) (sym p) ∙ ap (λ (l : List ℕ). x ∷ l) q
+
+-- what is absent on both sides
+pub or-none : {A : Type 0} (a b : Option A) → or-else a b ≡ none → (a ≡ none) × (b ≡ none)
+or-none none b e = (refl, e)
+or-none (some x) b e = absurd (let w : _≡_ {A = ℕ} 0 1 = cc in omega arith)

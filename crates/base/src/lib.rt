@@ -1,0 +1,1 @@
+// Nothing to run: what every crate leans on is in specs/.

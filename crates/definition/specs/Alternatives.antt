@@ -1,0 +1,159 @@
+-- The alternatives: they only follow the path, and each has its edge's span and a text of 68 bytes at most.
+use mathlib.Core.Bool.{Bool, true, false, _&&_, _||_}
+use mathlib.Core.Path.{_≡_, refl, sym, ap, _∙_, subst}
+use mathlib.Core.List.{List, [], _∷_, _++_}
+use mathlib.Core.Logic.{_⊎_, inl, inr}
+use mathlib.Core.Option.{Option, none, some}
+use Prim.Native.Nat.{ℕ, zero, suc, _+_, _≤_, _<_}
+use native.Mathlib.Omega.{arith}
+use lib.Dec.{eqb}
+use lib.ListN.{length, take, drop}
+use lib.Seq.{drop-append-seam}
+use borrow.Author.Tests.{eqb-true}
+use Rattle.base.specs.Pick.{pick, pick-all, pick-ind}
+use Rattle.base.specs.Bools.{and-left}
+use Rattle.base.specs.Lists.{all, is, maybe, same, best}
+use Rattle.base.specs.Alls.{All, All-map, All-append, All-keep, All-best, Opt, maybe-all, all-all}
+use Rattle.definition.specs.Limits.{most-target, most-vowel, most-alternative}
+use Rattle.definition.specs.Notes.{note-core, note-orig, note-alt, note-alt2, note-alt3}
+use Rattle.definition.specs.Texts.{Text, among, vowels}
+use Rattle.definition.specs.Tables.{Rule, Lexicon, Tables, lexicon}
+use Rattle.definition.specs.Edges.{Edge, View, M, State, starting, right-best, new-in, view, ret, _>>=_}
+use Rattle.definition.specs.Rules.{valids}
+use Rattle.definition.specs.Building.{lattice}
+use Rattle.definition.specs.Capacity.{bytes}
+use Rattle.definition.specs.Paths.{join, next, path-from, akin, other, also-all, cored, by-target, by-end-target, by-rule, by-rules, by-edges, path-of, with-alternatives-of, path, with-alternatives, alternatives}
+use Rattle.definition.specs.Call.{Inputs, tables, characters, refusal}
+use Rattle.definition.specs.Accepted.{accepted-of}
+use Rattle.definition.specs.Growth.{Added, added-not, added-twice, added-new}
+use Rattle.definition.specs.Shorts.{Low, Short, short-none, short-wide, short-append, encoded-low}
+use Rattle.definition.specs.Posts.{Post, post-ret, post-bind, valids-all}
+use Rattle.definition.specs.Letters.{among-all}
+use Rattle.definition.specs.ExpandBounds.{Spoken}
+use Rattle.definition.specs.Cores.{Syllable}
+use Rattle.definition.specs.Bounds.{Bounded, Sound, lattice-sound}
+use Rattle.definition.specs.Promises.{bounded}
+
+-- An alternative within a text of `n`
+pub record Alternative (n : ℕ) (x : Edge) : Type 0 where
+  pub forward : x .from < x .to
+  pub inside : x .to ≤ n
+  pub note : (x .note ≡ note-alt) ⊎ (x .note ≡ note-alt3)
+  pub core : x .core ≡ 0
+  pub short : bytes x ≤ most-alternative
+
+-- The vowel of an edge with a core
+vowels-low : (c : ℕ) → vowels c ≡ true → Low c
+unfolding vowels
+vowels-low = among-all "aeiou" Low (omega arith, (omega arith, (omega arith, (omega arith, (omega arith, tt)))))
+
+vowel-short : (text : Text) (core : ℕ) → Syllable text core → Short most-vowel (drop core text)
+vowel-short text core y =
+    let e : drop core text ≡ y .then = ap (λ n. drop n text) (y .size) ∙ ap (drop (length (y .first))) (y .whole) ∙ drop-append-seam (y .first) (y .then) in
+    subst (Short most-vowel) (sym e) (record { long = y .few; low = all-all Low vowels vowels-low (y .then) (y .vowels) })
+
+module _ (n : ℕ) (x : Edge) (sound : Sound n x) where
+  abbrev New : List Edge → List Edge → Type 0
+  New es fs = Added (Alternative n) es fs
+
+  other-alternative : (note : ℕ) (w : Text) → (note ≡ note-alt) ⊎ (note ≡ note-alt3) → Short most-alternative w → Alternative n (other x note w)
+  unfolding other bytes
+  other-alternative note w k s = record {
+    forward = sound .forward;
+    inside = sound .inside;
+    note = k;
+    core = refl;
+    short = rw (encoded-low w (s .low)) (s .long);
+  }
+
+  also-all-new : (more : Text) (ws : List Text) (seen : List Edge) → Short most-vowel more → All (Short most-target) ws
+      → New seen (also-all x more ws seen)
+  unfolding also-all
+  also-all-new more [] seen h k = added-not seen
+  also-all-new more (w ∷ ws) seen h k = added-twice
+      (added-new akin seen (other x note-alt (w ++ more)) (other-alternative note-alt (w ++ more) (inl refl) (short-append most-target most-vowel (k .0) h)))
+      (also-all-new more ws (new-in akin seen (other x note-alt (w ++ more))) h (k .1))
+
+  more-short : (w : Text) → Short most-vowel (pick (cored x w) (drop (x .core) (x .text)) [])
+  unfolding cored
+  more-short w = pick-ind (Short most-vowel) _ _ _
+      (λ e. vowel-short (x .text) (x .core) (sound .core .there (eqb-true (x .note) note-core (and-left _ _ e))))
+      (λ e. short-none most-vowel)
+
+  by-target-new : (r : Rule) (seen : List Edge) (w : Text) → Spoken r → New seen (by-target x r seen w)
+  unfolding by-target
+  by-target-new r seen w q =
+      pick-all (New seen) _ (also-all-new (pick (cored x w) (drop (x .core) (x .text)) []) (r .others) seen (more-short w) (q .others)) (added-not seen)
+
+  by-end-new : (r : Rule) (seen : List Edge) (w : Text) → Short most-target w → New seen (by-end-target x r seen w)
+  unfolding by-end-target
+  by-end-new r seen w h =
+      pick-all (New seen) _ (added-new akin seen (other x note-alt3 w) (other-alternative note-alt3 w (inr refl) (short-wide most-target (omega arith) h))) (added-not seen)
+
+  by-rule-new : (r : Rule) (seen : List Edge) → Spoken r → New seen (by-rule x r seen)
+  unfolding by-rule
+  by-rule-new r seen q = maybe-all (New seen) (Short most-target) (r .target) (q .target) (added-not seen)
+      (λ w h. added-twice (by-target-new r seen w q) (by-end-new r (by-target x r seen w) w h))
+
+  by-rules-new : (rs : List Rule) (seen : List Edge) → All Spoken rs → New seen (by-rules x rs seen)
+  unfolding by-rules
+  by-rules-new [] seen h = added-not seen
+  by-rules-new (r ∷ rs) seen h = added-twice (by-rule-new r seen (h .0)) (by-rules-new rs (by-rule x r seen) (h .1))
+
+module _ (L : Lexicon) (t : Text) (v : View) (n : ℕ) (spoken : All Spoken (L .rules)) where
+  by-edges-new : (xs seen : List Edge) → All (Sound n) xs → Post (List Edge) (Added (Alternative n) seen) (by-edges L t v xs seen)
+  unfolding by-edges
+  by-edges-new [] seen h = post-ret seen (added-not seen)
+  by-edges-new (x ∷ xs) seen h = post-bind (All Spoken) _ (valids-all L t v Spoken (x .from) (x .to) spoken)
+      (λ rs q. after (by-rules-new n x (h .0) rs seen q) (by-edges-new xs (by-rules x rs seen) (h .1)))
+    where
+      after : {es fs : List Edge} {f : M (List Edge)} → Added (Alternative n) es fs → Post (List Edge) (Added (Alternative n) fs) f
+          → Post (List Edge) (Added (Alternative n) es) f
+      after a p = record { gives = λ m. added-twice a (p .gives m) }
+
+-- the path's edges are the lattice's
+pub path-sound : (P : Edge → Type 0) (k p : ℕ) (es : List Edge) → All P es → All P (path-from k p es)
+unfolding path-from right-best starting
+path-sound P zero p es h = tt
+path-sound P (suc k) p es h = go (right-best es p) (All-best P _ (starting es p) (All-keep P _ es h)) (λ q. path-sound P k q es h)
+  where
+    go : (o : Option Edge) → Opt P o → ((q : ℕ) → All P (path-from k q es)) → All P (join o (path-from k (next o p) es))
+    go none s f = f (p + 1)
+    go (some x) s f = (s, f (x .to))
+
+-- Mode 2 lists the path, then the alternatives
+pub record Listed (i : Inputs) : Type 0 where
+  pub whole : with-alternatives (tables i) (characters i) ≡ path (tables i) (characters i) ++ alternatives (tables i) (characters i)
+  pub path : All (Sound (length (characters i))) (path (tables i) (characters i))
+  pub alternatives : All (Alternative (length (characters i))) (alternatives (tables i) (characters i))
+
+pub listed : (i : Inputs) → refusal i ≡ none → Listed i
+unfolding path path-of with-alternatives with-alternatives-of alternatives
+listed i e =
+    let D = tables i in
+    let t = characters i in
+    let ok = bounded i (accepted-of i e) in
+    let es = lattice D t .0 in
+    let xs = path-from (length t) 0 es in
+    let h = path-sound (Sound (length t)) (length t) 0 es (lattice-sound D ok t) in
+    let v = view (D .classes) es in
+    let a = by-edges-new (lexicon D) t v (length t) (ok .rules) xs xs h .gives (lattice D t .1) in
+    let own : drop (length xs) ((by-edges (lexicon D) t v xs xs (lattice D t .1)) .0) ≡ a .more = ap (drop (length xs)) (a .is) ∙ drop-append-seam xs (a .more) in
+    record {
+      whole = a .is ∙ ap (λ l. xs ++ l) (sym own);
+      path = h;
+      alternatives = subst (All (Alternative (length t))) (sym own) (a .all);
+    }
+
+-- No listed edge has the annotation "rom-alt2"
+pub no-alt2 : (i : Inputs) → refusal i ≡ none → All (λ x. x .note ≡ note-alt2 → ⊥) (with-alternatives (tables i) (characters i))
+no-alt2 i e =
+    let l = listed i e in
+    let P : Edge → Type 0 = λ x. x .note ≡ note-alt2 → ⊥ in
+    subst (All P) (sym (l .whole)) (All-append P (path (tables i) (characters i)) (alternatives (tables i) (characters i))
+    (All-map (λ x s z. let k = s .known in omega arith) (path (tables i) (characters i)) (l .path))
+    (All-map (λ x s z. either (x .note) (s .note) z) (alternatives (tables i) (characters i)) (l .alternatives)))
+  where
+    either : (k : ℕ) → (k ≡ note-alt) ⊎ (k ≡ note-alt3) → k ≡ note-alt2 → ⊥
+    either k (inl p) z = omega arith
+    either k (inr p) z = omega arith

@@ -1,0 +1,61 @@
+-- The definition: document 01 as mathematics. What it is about
+pub mod Limits
+pub mod Notes
+pub mod Texts
+pub mod Utf8
+pub mod Tables
+-- 'Table and output bytes'
+pub mod Blocks
+pub mod RuleRows
+pub mod ClassRows
+pub mod VowelRows
+pub mod Classes
+-- 'Boundaries' and 'Choosing a rule'
+pub mod Edges
+pub mod Boundaries
+pub mod Rules
+pub mod Syllables
+-- 'Building edges'
+pub mod Vowels
+pub mod Expansion
+pub mod Building
+-- 'Path and alternatives'
+pub mod Paths
+-- 'Table and output bytes' again, and 'Numbers a call returns'
+pub mod Listing
+pub mod Capacity
+pub mod Call
+-- 'Sample table and its results', computed
+pub mod Compute
+pub mod Sample
+-- Laws. Loops over bytes, a character or a row at a time
+pub mod Utf8Turns
+pub mod BlockTurns
+-- what an accepted call has passed: a row, a table, a call; where a row's parts lie; rows rise; the space is blank
+pub mod Checked
+pub mod Accepted
+pub mod Places
+pub mod Risen
+pub mod Ranges
+pub mod Blank
+-- edges are only appended, and 17 for each character at most; what the room refuses
+pub mod Growth
+-- each edge goes forward within the text, in 198 bytes, with the core that its text has
+pub mod Shorts
+pub mod Posts
+pub mod Within
+pub mod Letters
+pub mod VowelBounds
+pub mod ExpandBounds
+pub mod Cores
+pub mod Bounds
+pub mod Promises
+-- the path covers the text
+pub mod Cover
+-- alternatives only follow the path, in 68 bytes; code 13 is absent
+pub mod Alternatives
+pub mod Alt2
+-- UTF-8 there and back; a part of an accepted text is accepted; what is returned
+pub mod Roundtrip
+pub mod Parts
+pub mod Returned

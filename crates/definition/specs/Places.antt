@@ -1,0 +1,69 @@
+-- Where the parts of a right row lie: one after another, all within the row, and the row within the block.
+use mathlib.Core.Bool.{Bool, true, false}
+use mathlib.Core.Path.{_≡_, refl}
+use mathlib.Core.List.{List, [], _∷_}
+use mathlib.Core.Option.{Option, none, some}
+use Prim.Native.Nat.{ℕ, _+_, _*_, _≤_, _<_}
+use native.Mathlib.Omega.{arith}
+use lib.ListN.{length, drop}
+use Rattle.base.specs.Rows.{Each, each-map}
+use Rattle.definition.specs.Limits.{most-source}
+use Rattle.definition.specs.Texts.{Text}
+use Rattle.definition.specs.Blocks.{head-bytes}
+use Rattle.definition.specs.RuleRows.{rule-size, rule-flag, target-bit, end-target-bit, source-count, codes-at, codes-count, target-at, past-text, end-target-at, others-at, others-end, rule-source, rule-right, rule-fault}
+use Rattle.definition.specs.ClassRows.{class-size, class-next, class-right, class-fault}
+use Rattle.definition.specs.VowelRows.{vowel-size, vowel-next, vowel-right, vowel-fault}
+use Rattle.definition.specs.BlockTurns.{chain-each}
+use Rattle.definition.specs.Checked.{rule-checked, class-checked, vowel-checked}
+use Rattle.definition.specs.Accepted.{rules-chain, classes-chain, vowels-chain}
+
+past-far : (b : Bool) (o : ℕ) (s : List ℕ) → o ≤ past-text b o s
+unfolding past-text
+past-far true o s = omega arith
+past-far false o s = omega arith
+
+-- A rule row
+pub record Placed (s : List ℕ) : Type 0 where
+  pub row : rule-size s ≤ length s
+  pub source : codes-at s ≡ 6 + 3 * source-count s
+  pub least : 1 ≤ source-count s
+  pub most : source-count s ≤ most-source
+  pub codes : target-at s ≡ codes-at s + 1 + 3 * codes-count s
+  pub target : target-at s ≤ end-target-at s
+  pub end-target : end-target-at s ≤ others-at s
+  pub others : others-at s < rule-size s
+  pub last : others-end (others-at s) s ≡ rule-size s
+
+others-far : (o : ℕ) (s : List ℕ) → o < others-end o s
+unfolding others-end
+others-far o s = omega arith
+
+rule-placed : (old : Text) (s : List ℕ) → rule-right old s ≡ true → Placed s
+rule-placed old s e =
+    let c = rule-checked old s e in
+    let y = others-far (others-at s) s in
+    record {
+      row = c .inside;
+      source = unfold codes-at in refl;
+      least = c .least;
+      most = c .most;
+      codes = unfold target-at in refl;
+      target = unfold end-target-at in past-far (rule-flag s target-bit) (target-at s) s;
+      end-target = unfold others-at in past-far (rule-flag s end-target-bit) (end-target-at s) s;
+      others = let z = c .filled in omega arith;
+      last = c .filled;
+    }
+
+-- Every row of an accepted table
+pub rules-placed : (b : List ℕ) → rule-fault b ≡ none → Each Placed rule-size (drop head-bytes b)
+rules-placed b e =
+    each-map (λ s q. rule-placed (q .0) s (q .1)) (chain-each rule-size rule-source rule-right (rules-chain b e))
+
+pub classes-placed : (b : List ℕ) → class-fault b ≡ none → Each (λ s. class-size s ≤ length s) class-size (drop head-bytes b)
+unfolding class-size
+classes-placed b e =
+    each-map (λ s q. class-checked (q .0) s (q .1) .inside) (chain-each class-size class-next class-right (classes-chain b e))
+
+pub vowels-placed : (b : List ℕ) → vowel-fault b ≡ none → Each (λ s. vowel-size s ≤ length s) vowel-size (drop head-bytes b)
+vowels-placed b e =
+    each-map (λ s q. vowel-checked (q .0) s (q .1) .inside) (chain-each vowel-size vowel-next vowel-right (vowels-chain b e))

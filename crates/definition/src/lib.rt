@@ -1,0 +1,1 @@
+// Nothing to run: document 01 as mathematics is in specs/.
