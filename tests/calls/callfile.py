@@ -1,0 +1,103 @@
+"""Call files: calls and their answers, one after another, all numbers big-endian.
+
+A call is its mode (1 byte), the bytes of slots, room and output (4 each), then rules, classes, vowels, code and text (each a
+4-byte length and its bytes). Its answer follows: number (1), place, length and edges (4 each), and `length` output bytes; past
+these the output must be zero to its end. A file whose name ends in .xz is compressed."""
+import lzma
+from typing import NamedTuple
+
+
+class Given(NamedTuple):
+    """what the engine itself is asked: a call without the room that it is lent"""
+    mode: int
+    rules: bytes
+    classes: bytes
+    vowels: bytes
+    code: bytes
+    text: bytes
+
+
+class Lent(NamedTuple):
+    """bytes of slots, text room and output"""
+    slots: int
+    room: int
+    output: int
+
+
+class Answer(NamedTuple):
+    number: int
+    place: int
+    length: int
+    edges: int
+    output: bytes
+
+
+class Call(NamedTuple):
+    given: Given
+    lent: Lent
+    answer: Answer
+
+
+def refused(number, place):
+    return Answer(number, place, 0, 0, b"")
+
+
+def four(n):
+    return n.to_bytes(4, "big")
+
+
+def parts(given):
+    """mode, tables, code and text as a call file and the oracle hold them"""
+    return bytes([given.mode]), b"".join(four(len(part)) + part for part in given[1:])
+
+
+def encode(call):
+    mode, tables = parts(call.given)
+    a = call.answer
+    assert len(a.output) == a.length
+    return mode + b"".join(map(four, call.lent)) + tables + bytes([a.number]) + four(a.place) + four(a.length) + four(a.edges) + a.output
+
+
+class Bytes:
+    """reads numbers and stretches from the front"""
+    def __init__(self, data):
+        self.data, self.at = data, 0
+
+    def take(self, n):
+        part = self.data[self.at:self.at + n]
+        if len(part) != n:
+            raise ValueError("cut short at byte %d" % self.at)
+        self.at += n
+        return part
+
+    def number(self, n):
+        return int.from_bytes(self.take(n), "big")
+
+    def done(self):
+        return self.at == len(self.data)
+
+
+def decode(b):
+    mode = b.number(1)
+    lent = Lent(b.number(4), b.number(4), b.number(4))
+    given = Given(mode, *(b.take(b.number(4)) for _ in range(5)))
+    number, place, length, edges = b.number(1), b.number(4), b.number(4), b.number(4)
+    return Call(given, lent, Answer(number, place, length, edges, b.take(length)))
+
+
+def opened(path, how):
+    return (lzma.open if str(path).endswith(".xz") else open)(path, how)
+
+
+def read(path):
+    with opened(path, "rb") as f:
+        b = Bytes(f.read())
+    calls = []
+    while not b.done():
+        calls.append(decode(b))
+    return calls
+
+
+def write(path, calls):
+    with opened(path, "wb") as f:
+        f.write(b"".join(map(encode, calls)))

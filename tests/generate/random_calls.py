@@ -1,0 +1,217 @@
+#!/usr/bin/env python3
+"""Random calls, answered by the oracle. Small alphabets of each script meet random rules made from pieces of the text, so that
+sources match, targets chain and the special characters stand beside each other.
+
+usage: random_calls.py ORACLE SEED COUNT FILE.calls[.xz]"""
+import random
+import string
+import sys
+
+from oracle import Given, Lent, ask, call, callfile
+from tables import *
+
+KHMER, GURMUKHI, LATIN = 6, 9, 0
+EN_DASH = "\u2013"
+
+# alphabets: characters and their usual classes
+ALPHABETS = {
+    "thai": {"ก": (LETTER, THAI), "ข": (LETTER, THAI), "น": (LETTER, THAI), "า": (LETTER, THAI), "อ": (LETTER, THAI),
+             "เ": (LETTER, THAI, PRE), "แ": (LETTER, THAI, PRE), "ะ": (LETTER, THAI), "\u0e48": (NONSPACING, THAI, TONE), "ิ": (NONSPACING, THAI)},
+    "coptic": {"ⲁ": (LETTER, COPTIC), "ⲃ": (LETTER, COPTIC), "ⲕ": (LETTER, COPTIC), "\u0300": (NONSPACING, 0), "ⲓ": (LETTER, COPTIC)},
+    "hiragana": {"っ": (LETTER, HIRAGANA), "か": (LETTER, HIRAGANA), "き": (LETTER, HIRAGANA), "ち": (LETTER, HIRAGANA),
+                 "ゃ": (LETTER, HIRAGANA), "ょ": (LETTER, HIRAGANA), "ー": (LETTER, 0), "ん": (LETTER, HIRAGANA)},
+    "katakana": {"ッ": (LETTER, KATAKANA), "カ": (LETTER, KATAKANA), "キ": (LETTER, KATAKANA), "ャ": (LETTER, KATAKANA),
+                 "ュ": (LETTER, KATAKANA), "ー": (LETTER, KATAKANA), "チ": (LETTER, KATAKANA)},
+    "gurmukhi": {"\u0a71": (NONSPACING, GURMUKHI), "ਕ": (LETTER, GURMUKHI), "ਚ": (LETTER, GURMUKHI), "ਾ": (MARK, GURMUKHI, SIGN),
+                 "\u0a4d": (NONSPACING, GURMUKHI, VIRAMA)},
+    "devanagari": {"क": (LETTER, DEVANAGARI), "त": (LETTER, DEVANAGARI), "य": (LETTER, DEVANAGARI), "ऋ": (LETTER, DEVANAGARI, VOCALIC),
+                   "ि": (MARK, DEVANAGARI, SIGN), "\u094d": (NONSPACING, DEVANAGARI, VIRAMA), "\u093c": (NONSPACING, DEVANAGARI),
+                   "ः": (MARK, DEVANAGARI)},
+    "khmer": {"ក": (LETTER, KHMER), "ង": (LETTER, KHMER), "យ": (LETTER, KHMER), "\u17d2": (NONSPACING, KHMER, VIRAMA),
+              "ា": (MARK, KHMER, SIGN), "\u17be": (MARK, KHMER, MEDIAL), "\u17c9": (NONSPACING, KHMER, SUBJOINED)},
+    "latin": {"a": (LETTER, LATIN), "b": (LETTER, LATIN), "Z": (LETTER, LATIN), "x": (LETTER, LATIN), "-": (OTHER,), "1": (NUMBER,)},
+    "others": {"\u200d": (CF,), "\ue000": (CO,), "\u00a0": (ZS,), "\u3000": (ZS,), "٣": (NUMBER,), "€": (OTHER,), "𐍈": (LETTER, 11),
+               "\u0301": (NONSPACING,), "\U0010ffff": (OTHER,), "\n": (OTHER,)},
+}
+VOWEL_ROWS = {"thai": THAI, "coptic": COPTIC, "hiragana": HIRAGANA, "katakana": KATAKANA, "gurmukhi": GURMUKHI, "devanagari": DEVANAGARI,
+              "khmer": KHMER, "latin": 12, "others": 11}
+# the scripts with most steps of their own come more often
+LIKELY = [*ALPHABETS, "thai", "thai", "hiragana", "devanagari", "khmer"]
+USUAL_VOWEL = ("gurmukhi", "devanagari", "khmer")
+
+# what stands together in each script, and what its characters usually become
+PHRASES = {
+    "thai": ["กอน", "เกา", "ากอา", "าก\u0e48อะ", "แกะ", "เกาะ", "ขอก", "ากน"],
+    "coptic": ["ⲁ\u0300", "ⲕⲓ\u0300", "ⲓ\u0300"],
+    "hiragana": ["っか", "っち", "っきゃ", "きょー", "かー", "ちゃー"],
+    "katakana": ["ッチャ", "キュー", "ッカ"],
+    "gurmukhi": ["\u0a71ਕ", "\u0a71ਚ", "ਕ\u0a4dਚ"],
+    "devanagari": ["क\u093cि", "क\u094dत", "क\u093c\u094dत", "तऋक", "कित", "यऋ"],
+    "khmer": ["ងយ", "កយ", "ក\u17d2ង", "កង", "ក\u17c9"],
+    "latin": ["x ", " x ", "-x", "a1"],
+    "others": ["\u0301 ", "𐍈𐍈"],
+}
+USUAL = dict(zip("กขนาอเแะⲁⲃⲕⲓかきちゃょんカキャュチਕਚकतयऋកងយ",
+                 "k k n a o e ae a a b k i ka ki chi ya yo n ka ki ya yu chi k ch k t y ri k ng y".split()))
+
+TARGETS = """k t n ng ch y w m b d z c h ka ki ku ta na cha chi ya yu kya tya bya dya kyo kyaa byoo tika ga ro ko koo a i o e u aa ao ii ia
+    K ZH Zh A Ka Ya KI 1 7 -1 ka- ya- 1ka- k- -ka +n +ng +na +m +ma +g +r +ra +ar +a + ++ +nn y v x q vi xi yi wi tsu ssi
+    bcd xyz nn kk ngy ' ~""".split() + ["", "", " ", " k", "k ", " ka ", "  k", "k  ", " a", "a ", " i"]
+CODES = ["san", "asm", "ben", "guj", "kas", "pan", "hin", "abc"]
+
+
+# far more than any of these calls needs; a long output would only make the definition slow
+MANY_SLOTS, MUCH_ROOM = 17 * 512 * 12, 512 * 198
+
+
+class World:
+    """the tables and texts of one case"""
+    def __init__(self, rng):
+        self.rng = rng
+        names = list(dict.fromkeys(rng.choice(LIKELY) for _ in range(rng.choice((1, 1, 2, 2, 3)))))
+        self.kinds = {}
+        for name in names:
+            part = list(ALPHABETS[name].items())
+            self.kinds.update(rng.sample(part, rng.randint(min(3, len(part)), len(part))))
+        self.phrases = [phrase for name in names for phrase in rng.sample(PHRASES[name], 2)]
+        self.vowels = self.vowel_rows(names)
+        self.code = rng.choice(["", "", "", *CODES])
+        self.text = self.some_text()
+        for name in names:
+            self.kinds.update((c, kind) for c, kind in ALPHABETS[name].items() if c in self.text)
+        self.bend()
+        self.rules = self.some_rules()
+
+    def chance(self, p):
+        return self.rng.random() < p
+
+    def vowel_rows(self, names):
+        rows = {}
+        for name in names:
+            if self.chance(0.95 if name in USUAL_VOWEL else 0.2):
+                letters = self.rng.choice(["a", "a", "o", "aa", "an", "n", "aeio", "u"])
+                rows[VOWEL_ROWS[name]] = (VOWEL_ROWS[name], self.rng.choice((A, A, AO)), letters)
+        return list(rows.values())
+
+    def some_text(self):
+        """letters of the alphabets, phrases, a few spaces, now and then a repeated stretch"""
+        length = self.rng.choice((0, 1, 1, 2, 2, 3, 3, 4, 4, 5, 6, 7, 8, 10, 12, 16, 20))
+        if self.chance(0.01):
+            length = self.rng.randint(21, 60)
+        letters = list(self.kinds) * 3 + [" "] * self.rng.choice((0, 0, 1, 3)) + ["q"] * self.chance(0.2)
+        text = [self.rng.choice(letters) for _ in range(length)]
+        while length > 1 and self.chance(0.5):
+            phrase = self.rng.choice(self.phrases)
+            at = self.rng.randrange(length)
+            text[at:at + len(phrase)] = phrase
+        if length > 4 and self.chance(0.3):
+            text[length // 2:] = text[:length - length // 2]
+        return "".join(text)[:60]
+
+    def bend(self):
+        """some characters get another class or none, so that every test meets its unlikely side"""
+        rng = self.rng
+        if self.chance(0.7):
+            self.kinds[" "] = (ZS,)
+        strange = self.chance(0.4)
+        scripts = [0] + [kind[1] for kind in self.kinds.values() if len(kind) > 1]
+        for c in [c for c in self.kinds if c != " "]:
+            category, script, flags = (*self.kinds[c], 0, 0)[:3]
+            if strange and self.chance(0.3):
+                category = category if c.isascii() and c.isalpha() else rng.randrange(8)
+            if strange and self.chance(0.3):
+                script = rng.choice(scripts)
+            if strange and self.chance(0.3):
+                flags = rng.choice((0, 1 << rng.randrange(7), rng.randrange(128)))
+            self.kinds[c] = (category, script, flags)
+            if self.chance(0.05):
+                del self.kinds[c]
+        for c in "1-y":               # characters of targets may be classed too
+            if self.chance(0.1):
+                self.kinds[c] = (LETTER if c == "y" else rng.randrange(8), rng.choice(scripts), 0)
+
+    def target(self, source=""):
+        if source in USUAL and self.chance(0.5):
+            return USUAL[source]
+        if self.chance(0.03):
+            return "".join(self.rng.choice("kgnyaio+- KA1") for _ in range(self.rng.choice((3, 5, 9, 64))))
+        chosen = self.rng.choice(TARGETS)
+        if chosen and self.chance(0.15):      # some other letter
+            at = self.rng.randrange(len(chosen))
+            chosen = chosen[:at] + self.rng.choice(string.ascii_lowercase) + chosen[at + 1:]
+        return chosen
+
+    def sources(self):
+        """characters of the text, stretches of it, patterns around a character, and strangers"""
+        rng, text = self.rng, self.text
+        sources = [c for c in dict.fromkeys(text) if self.chance(0.85)]
+        for _ in range(rng.choice((0, 0, 1, 2, 4))):
+            if len(text) > 1:
+                at = rng.randrange(len(text) - 1)
+                sources.append(text[at:at + rng.choice((2, 2, 2, 3, 3, 4, 6, 16))])
+        for at in range(1, len(text) - 1):
+            if self.kinds.get(text[at - 1], (0, 0, 0))[-1] & PRE and self.chance(0.4):
+                sources.append(text[at - 1] + EN_DASH + text[at + 1:at + 1 + rng.randint(1, 3)])
+        if self.chance(0.3):
+            sources.append(rng.choice(list(self.kinds)) + rng.choice(list(self.kinds)))
+        return [s[:16] for s in sources]
+
+    def rule(self, source):
+        rng = self.rng
+        plain = self.chance(0.55)
+        flags = 0 if plain else rng.choice((0, 1 << rng.randrange(5), rng.randrange(32)))
+        count = 0 if plain else rng.choice((0, 1, 1, 2, 255, 256, 65535))
+        codes = rng.sample(CODES, rng.randint(1, 3)) if self.chance(0.15) else []
+        if codes and self.code and self.chance(0.5):
+            codes[0] = self.code
+        target = None if self.chance(0.08) else self.target(source)
+        end = self.target() if self.chance(0.25) else None
+        others = [self.target() for _ in range(rng.choice((0, 0, 0, 1, 2, 3)))]
+        return Rule(source, target, flags, count, list(dict.fromkeys(codes)), end, others)
+
+    def some_rules(self):
+        made = []
+        for source in self.sources():
+            made += [self.rule(source) for _ in range(self.rng.choice((1, 1, 1, 1, 2, 2, 3)))]
+            if self.chance(0.1):      # the same target by another rule, with alternatives of its own
+                made.append(Rule(source, "k", others=["x", "k"]))
+        return made
+
+    def given(self):
+        return Given(self.rng.choice((0, 1, 2, 2, 3, 3)), rules(*self.rules), classes(self.kinds), vowels(*self.vowels),
+                     self.code.encode(), self.text.encode())
+
+
+def lent(rng, built):
+    """what is lent: enough, exactly enough, or short of slots, of room or of output"""
+    slots, room, output = exact = built.lent()
+    way = rng.random()
+    if way < 0.2:
+        return exact
+    if way < 0.75:
+        return Lent(rng.choice((slots + rng.randrange(30), MANY_SLOTS)), rng.choice((room + rng.randrange(9), MUCH_ROOM)), output + rng.randrange(9))
+    less = [rng.randrange(n) if n else 0 for n in exact]
+    if way < 0.84:
+        return Lent(less[0], room, output)
+    if way < 0.93:
+        return Lent(slots, less[1], output)
+    return Lent(rng.choice((slots, less[0])), rng.choice((room, less[1])), less[2])
+
+
+def generated(program, seed, count):
+    rng = random.Random(seed)
+    cases = [World(rng).given() for _ in range(count)]
+    built = ask(program, cases)
+    assert None not in built
+    return [call(case, b, lent(rng, b)) for case, b in zip(cases, built)]
+
+
+def main(program, seed, count, path):
+    calls = generated(program, int(seed), int(count))
+    callfile.write(path, calls)
+    numbers = [c.answer.number for c in calls]
+    print("%d calls: %s" % (len(calls), ", ".join("%d of %d" % (numbers.count(n), n) for n in sorted(set(numbers)))))
+
+
+if __name__ == "__main__":
+    main(*sys.argv[1:])

@@ -1,0 +1,391 @@
+#!/usr/bin/env python3
+"""Small cases made by hand: document 01's sample results, and for each corner of its text the smallest call that tells a wrong
+reading from the right one. Where a string or a count of edges is stated here, the oracle must give it.
+
+usage: reading.py ORACLE FILE.calls.xz"""
+import sys
+
+import sample
+from oracle import Given, Lent, ask, call, callfile, string_of
+from tables import *
+
+L = (LETTER, 0)          # a letter of no script
+DEVA = (LETTER, DEVANAGARI)
+SIX = (LETTER, 6)        # a letter of a script that the Rust does not name
+T = (LETTER, THAI)
+COPT = (LETTER, COPTIC)
+HIRA = (LETTER, HIRAGANA)
+TONE_MARK = (NONSPACING, THAI, TONE)
+DEAD = (NONSPACING, 0, VIRAMA)
+A6, A5 = (6, A, "a"), (5, A, "a")
+
+
+class Corner:
+    """a case in all four modes; `want` is the path's string, `begins` how it begins, `edges` the lattice's count, where stated"""
+    def __init__(self, text, rows, kinds, vowel_rows=(), code="", want=None, edges=None, begins=""):
+        self.text, self.code, self.want, self.edges, self.begins = text, code, want, edges, begins
+        self.tables = rows if isinstance(rows, bytes) else rules(*rows), \
+            kinds if isinstance(kinds, bytes) else classes(kinds), \
+            vowel_rows if isinstance(vowel_rows, bytes) else vowels(*vowel_rows)
+
+    def given(self, mode):
+        return Given(mode, *self.tables, self.code.encode(), self.text.encode())
+
+
+def sample_results():
+    for text, code, want in sample.RESULTS:
+        yield Corner(text, sample.RULES, sample.CLASSES, sample.VOWELS, code, want, 4 if text == "क\u094dत" else None)
+    for text in ("", "\u0eff", "\u1000", "क" * 40):
+        yield Corner(text, sample.RULES, sample.CLASSES, sample.VOWELS)
+    yield Corner("कत\n", sample.RULES, sample.CLASSES, sample.VOWELS, want="kat\n")
+
+
+def longest_and_most():
+    # the longest text an edge can have: 64, vowel 4, doubled 1, pre-vowel 64, e 1, small ya 64 for one, long mark 1
+    yield Corner("เっกⲁ\u0300ゃー", [("กⲁ", "k" * 64), ("เ", "e" * 62 + "ki"), ("ゃ", "y" + "a" * 63)],
+                 {"เ": (OTHER, THAI, PRE), "っ": (OTHER, THAI), "ก": T, "ⲁ": COPT, "\u0300": (NONSPACING, HIRAGANA), "ゃ": HIRA, "ー": L},
+                 [(THAI, A, "aeio")], want="e" + "k" * 65 + "aeio" + "e" * 62 + "ky" + "a" * 64)
+    # 48 edges start at 0, since those found at 1 and 2 move there; then 16, 15 .. 1 from 3 on, and two fallbacks
+    text = "เっ" + "ก" * 17
+    rows = [(text[p:p + n], "kmn"[p] + "a" * (n % 3)) for p in range(3) for n in range(1, 17)]
+    yield Corner(text, rows, {"เ": (LETTER, THAI, PRE), "っ": T, "ก": T}, edges=48 + 136 + 2)
+
+
+def vowel_step():
+    for c in "bcdfghjklmnpqrstvwxyz":     # the first pattern has a set of its own before y
+        want = (c if c in "cfghkmnqrstxy" else "") + "ya"
+        yield Corner("क", [("क", c + "ya")], {"क": SIX}, [A6], want=want)
+    yield Corner("क", [("क", "kyya")], {"क": SIX}, [A6], want="yya")
+    yield Corner("क", [("क", "dya")], {"क": SIX}, [A6], want="ya")
+    yield Corner("क", [("क", "kyoo")], {"क": SIX}, [(6, AO, "o")], want="kyoo")
+    yield Corner("क", [("क", "byaa")], {"क": SIX}, [(6, AO, "o")], want="yaa")
+    yield Corner("क", [("क", "byo")], {"क": SIX}, [A6])
+    yield Corner("क", [("क", "ko")], {"क": SIX}, [(6, AO, "o")], want="ko")
+    yield Corner("क", [("क", "koo")], {"क": SIX}, [(6, AO, "o")])
+    yield Corner("A", [("A", "k")], {"A": SIX}, [A6], want="ka")
+    yield Corner("A", [("A", "k")], {}, [A6], want="k")
+    sign = {"क": SIX, "ि": (MARK, 6, SIGN)}
+    yield Corner("कि", [("क", "tika")], sign, [A6], want="kि")
+    yield Corner("क", [("क", "tika")], sign, [A6], want="ka")
+    for kind, row in ((DEVA, A5), (SIX, A6)):
+        for target in ("ka-", "1ka-", "ya-", "k-", "-", "Ka-", "~ka-"):
+            yield Corner("क", [("क", target)], {"क": kind}, [row])
+            yield Corner("कत", [("कत", target)], {"क": kind, "त": kind}, [row])
+    yield Corner("क", [("क", "ka-")], {"क": DEVA}, [A5], want="ka")
+    yield Corner("क", [("क", "1ka-")], {"क": DEVA}, [A5], want="1ka-")
+    yield Corner("क", [("क", "ya-")], {"क": DEVA}, [A5], want="ya-")
+    yield Corner("क", [("क", "ya-")], {"क": SIX}, [A6], want="ya")
+    for code in ("", "asm", "ben", "guj", "kas", "pan", "hin", "san"):   # a word's end
+        keeps = code in ("asm", "ben", "guj", "kas", "pan")
+        yield Corner("गक", [("ग", "ga"), ("क", "k")], {"ग": SIX, "क": SIX}, [A6], code, want="gak" if keeps else "gaka")
+        yield Corner("गक", [("ग", "ga"), ("क", "k")], {"ग": DEVA, "क": DEVA}, [A5], code, want="gaka" if code == "san" else "gak")
+    # a vowel at a word's start only where there is none of aeiou
+    for target in ("1ka", "1ko", "1kya", "1kyo"):
+        for kind in (A, AO):
+            yield Corner("क", [("क", target)], {"क": DEVA}, [(5, kind, "o")])
+    yield Corner("कत", [("क", "ik"), ("त", "t")], {"क": SIX, "त": SIX}, [A6])
+    yield Corner("कत", [("क", "k"), ("त", "t")], {"क": SIX, "त": SIX}, [A6])
+    # all added letters must be vowels for a core
+    yield Corner("h", [("h", "h")], {"h": SIX}, [(6, A, "n")], want="hn")
+    yield Corner("h", [("h", "h")], {"h": SIX}, [(6, A, "an")], want="han")
+    yield Corner("h", [("h", "h")], {"h": SIX}, [(6, A, "ae")], want="hae")
+    # Khmer yo after b c d z ng, and after others
+    for target in ("b", "c", "d", "z", "ng", "n", "k", "ba", "nga"):
+        yield Corner("កយ", [("ក", target), ("យ", "y")], {"ក": SIX, "យ": SIX}, [A6])
+    # what stands after: medial, subjoined, virama, and the same after a nonspacing mark
+    for flag in (SIGN, MEDIAL, SUBJOINED, VIRAMA, VOCALIC, TONE, PRE):
+        kinds = {"क": SIX, "x": (LETTER, 6, flag), "\u0301": (NONSPACING, 0), "\u0302": (MARK, 0)}
+        for text in ("कx", "क\u0301x", "क\u0302x", "कxx", "xक", "xकx", "ककx"):
+            yield Corner(text, [("क", "k")], kinds, [A6])
+    # vocalic, and neighbours of the same and of another script, inside a word
+    for before in (SIX, (LETTER, 7)):
+        for after in (SIX, (LETTER, 7)):
+            for flags in (0, VOCALIC):
+                yield Corner("aकb", [("क", "k"), ("क", "ik", 0, 1, ["abc"])], {"a": before, "क": (LETTER, 6, flags), "b": after}, [A6])
+    # a tail keeps its own
+    yield Corner("aकb", [("क", "+n")], {"a": SIX, "क": SIX, "b": SIX}, [A6])
+    # capital letters are no base
+    yield Corner("Ж", [("Ж", "ZH")], {"Ж": SIX}, [A6], want="ZH")
+
+
+def word_boundaries():
+    # asked once, remembered: a foreign rule's start test in the look-ahead
+    rows, foreign = [Rule("क-", "", end="n"), Rule("त", "t")], Rule("त", "x", START, codes=["abc"])
+    kinds = {"क": L, "त": DEVA}
+    yield Corner("क-त", [foreign, *rows], kinds, [A5], want="nta")
+    yield Corner("क-त", [*rows, foreign], kinds, [A5], want="nta")
+    yield Corner("क-त", [foreign, *rows], kinds, [A5], code="abc")
+    yield Corner("क-त", rows, kinds, [A5], want="nt")
+    # asked before anything ended there, used in the fallback
+    yield Corner("っっ", [("っ", "n", START)], {"っ": (OTHER, 0, VIRAMA)})
+    # an edge's last character, looked up in the class table
+    for kinds, want in (({"1": L}, "1y"), ({}, "1x"), ({"1": (NONSPACING,)}, "1y"), ({"1": (MARK,)}, "1y"), ({"1": (NUMBER,)}, "1x")):
+        yield Corner("-x", [("-", "1"), ("x", "y", NOT_START)], kinds, want=want)
+    # a character of category 1 to 3 before; others
+    for category in range(8):
+        kinds = {"é": (category,)}
+        yield Corner("éx", [("x", "s", START)], kinds)
+        yield Corner("xé", [("x", "e", END)], kinds)
+        yield Corner("éxé", [("x", "w", WHOLE)], kinds)
+        yield Corner("éxé", [("x", "n", NOT_START), ("x", "m", NOT_END, 1)], kinds)
+    # end of word looks ahead at targets, asks no validity, and leaves out rules of bit 0
+    ends = [("x", "q", END, 1), ("x", "p")]
+    for row, want in ((Rule("-", "k", codes=["abc"]), "p--"), (Rule("-", "k", START), "q"), (Rule("-", "k", NOT_START), "pkk"),
+                      (Rule("-", "k", END), "p"), (Rule("-", "k", NOT_END), "p"), (Rule("-", "k", WHOLE), "p"), (Rule("-", "1"), "q11"),
+                      (Rule("-", None, end="k"), "q"), (Rule("-", "1", others=["k"]), "q11"), (Rule("-", "12k3"), "p12k312k3"),
+                      (Rule("--", "k"), "pk"), (Rule("---", "k"), "q--"), (Rule("-", ""), "q")):
+        yield Corner("x--", [*ends, row], {}, begins=want)
+        yield Corner("x--", [*ends, row, Rule("-", "7", 0, 9)], {}, begins=want[0])
+
+
+def rule_choice():
+    for high in (1, 255, 256, 65535):
+        yield Corner("x", [("x", "a"), ("x", "b", 0, high)], {}, want="b")
+        yield Corner("x", [("x", "a", 0, high), ("x", "b")], {}, want="a")
+        yield Corner("x", [("x", "a"), ("x", None, 0, high)], {}, want="a")
+    yield Corner("x", [("x", "a", 0, 256), ("x", "b", 0, 255)], {}, want="a")
+    yield Corner("x", [("x", "a", 0, 7), ("x", "b", 0, 7)], {}, want="a")
+    yield Corner("x", [("x", None), ("x", None, 0, 5)], {}, want="x")
+    yield Corner("x", [("x", "")], {}, want="", edges=1)
+    for codes in ((), ("abc",), ("abc", "def"), ("def",)):
+        for code in ("", "abc", "def"):
+            yield Corner("x", [Rule("x", "a", codes=codes)], {}, code=code, want="a" if not codes or code in codes else "x")
+    # a rule without target but with an end target answers full search alone
+    yield Corner("あつ", [Rule("つ", None, end="t")], {"あ": HIRA, "つ": HIRA}, want="あt")
+    yield Corner("つ", [Rule("つ", None, end="t")], {"あ": HIRA, "つ": HIRA}, want="つ")
+    yield Corner("あつ", [Rule("つ", None, 0, 0, (), "t"), Rule("つ", None, 0, 3, (), "d")], {"あ": HIRA, "つ": HIRA}, want="あd")
+    # the tail rule, of targets and end targets
+    for target in ("+n", "+", "+a", "+ng", "+nga", "+ar", "++", "+nn", "+gn", "+m", "+r", "+ra", "n+"):
+        yield Corner("x", [("x", target)], {})
+        yield Corner("x-", [("x", target)], {"x": L, "-": DEAD})
+        yield Corner("xx", [Rule("x", "s", end=target)], {})
+    yield Corner("xx", [Rule("x", "s", end="+n")], {}, want="sn")
+    # prefixes of sources carry the search on, over lengths without a rule
+    yield Corner("abcd", [("abc", "X"), ("bcd", "Y"), ("c", "Z")], {}, want="Xd")
+    yield Corner("abcd", [("abcde", "X"), ("ab", "Y")], {}, want="Ycd")
+    yield Corner("a" * 17, [("a" * 16, "X")], {}, want="Xa")
+
+
+def syllables():
+    thai = {"ก": T, "เ": (LETTER, THAI, PRE), "า": T, "\u0e48": TONE_MARK, "อ": T, " ": (ZS,)}
+    k = Rule("ก", "k", end="t")
+    yield Corner("ก", [k], thai, want="k")
+    yield Corner("กก", [k], thai, want="kt")
+    vowel = [k, ("า", "a"), ("เ", "e"), ("อ", "o")]
+    for text in ("กกา", "ากา", "ากก", "าก", "เก", "เกก", "ากเก", "าก า", " กก", "าก\u0e48", "าก\u0e48า", "าก\u0e48\u0e48า", "าก\u0e48เ",
+                 "ากอ", "ากอา", "ากอก", "ากอ\u0e48", "าก\u0e48อา", "าก\u0e48อ", "ากxา", "ากx"):
+        yield Corner(text, vowel, thai)
+    # a capital vowel ahead counts; consonants to the left are small ones, without w and y
+    for ahead in ("A", "a", "E", "I", "O", "U", "b", "", "1", "Ya"):
+        yield Corner("ากา", [k, ("า", ahead)], thai)
+    for left in "bcdfghjklmnpqrstvwxyzaBKY":
+        yield Corner("xxกา", [("xx", "q" if left == "z" else "a" + left), k, ("า", "a")], {**thai, "x": L})
+        yield Corner("xyกา", [("x", "a" + left), ("y", "u" + left), k, ("า", "a")], {**thai, "x": T, "y": T})
+    # a source of two before a source of one
+    yield Corner("ากาก", [k, ("า", "a"), ("าก", "z")], thai)
+    yield Corner("ากาก", [k, ("า", "z"), ("าก", "a")], thai)
+    # characters two back: letters and marks or not
+    for category in range(8):
+        yield Corner("éกา", [k, ("า", "z")], {**thai, "é": (category,)})
+        yield Corner("ากé", [k], {**thai, "é": (category,)})
+
+
+def expansion():
+    # doubling: equal scripts, 0 and 0 too; ch becomes tch or cch; not v x y
+    for small in "っッ\u0a71":
+        for target in ("ka", "chi", "cha", "c", "va", "xa", "ya", "wa", "za", "a", "Ka", "h"):
+            yield Corner(small + "か", [("か", target)], {small: HIRA, "か": HIRA})
+    yield Corner("っか", [("か", "ka")], {}, want="kka")
+    yield Corner("っか", [("か", "ka")], {"っ": (LETTER, KATAKANA), "か": HIRA}, want="っka")
+    yield Corner("xっか", [("か", "ka"), ("x", "s")], {"っ": HIRA, "か": HIRA})
+    yield Corner("っかき", [("かき", "ka")], {"っ": HIRA, "か": HIRA, "き": (LETTER, KATAKANA)}, want="kka")
+    yield Corner("っかき", [("かき", "ka")], {"っ": HIRA, "か": (LETTER, KATAKANA), "き": HIRA}, want="っka")
+    # the capitalizing step never acts
+    yield Corner("Жж", [("Ж", "ZH"), ("ж", "zh")], {"Ж": L, "ж": L}, want="ZHzh")
+    # long mark, small ya and Coptic look at the last character, which moves on
+    copt = {"ⲁ": COPT, "\u0300": (NONSPACING, HIRAGANA), "ー": L}
+    yield Corner("ⲁ\u0300ー", [("ⲁ", "i")], copt, want="eii")
+    yield Corner("ⲁ\u0300ー", [("ⲁ", "i")], {**copt, "\u0300": (NONSPACING, COPTIC)}, want="eiー")
+    yield Corner("ⲁ\u0300ー", [("ⲁ", "i")], {**copt, "\u0300": (NONSPACING, KATAKANA)}, want="eii")
+    yield Corner("ⲁ\u0300ー", [("ⲁ", "n")], copt, want="enー")
+    yield Corner("ⲁ\u0300ゃー", [("ⲁ", "ki"), ("ゃ", "ya")], {**copt, "ゃ": HIRA}, want="ekyaa")
+    # Coptic is blocked by a valid rule with a target, not by a mere row
+    for row in (Rule("ⲁ\u0300", "z"), Rule("ⲁ\u0300", None), Rule("ⲁ\u0300", "z", codes=["abc"]), Rule("ⲁ\u0300", "")):
+        yield Corner("ⲁ\u0300", [("ⲁ", "a"), row], copt)
+        yield Corner("ⲁ\u0300", [("ⲁ", "a"), row], copt, code="abc")
+    # small ya: all six, equal scripts, an i after a consonant, the first rule, and both spans asked
+    for small in "ゃゅょャュョ":
+        yield Corner("き" + small, [("き", "ki"), (small, "ya")], {"き": HIRA, small: HIRA}, want="kya")
+    hira = {c: HIRA for c in "っきゃゅ"}
+    for target in ("ki", "i", "ai", "ni", "yi", "wi", "vi", "Ki", "k", "ka", "kI"):
+        yield Corner("きゃ", [("き", target), ("ゃ", "ya")], hira)
+    yield Corner("きゃ", [("き", "ki"), ("ゃ", "ya")], {"き": HIRA, "ゃ": (LETTER, KATAKANA)}, want="kiya")
+    yield Corner("きゃ", [("き", "ki")], hira, want="kiゃ")
+    yield Corner("きゃ", [("き", "ki"), ("ゃ", None), ("ゃ", "ya")], hira, want="kiya")
+    yield Corner("きゃ", [("き", "ki"), Rule("ゃ", "ja", NOT_START, 0, ["abc"]), ("ゃ", "ya", 0, 9)], hira, want="kja")
+    yield Corner("きゃ", [("き", "ki"), ("ゃ", "")], hira, want="k")
+    for row in (Rule("きゃ", "z"), Rule("きゃ", None), Rule("きゃ", "z", codes=["abc"]), Rule("っきゃ", "z"), Rule("っきゃ", None)):
+        yield Corner("っきゃ", [("き", "ki"), ("ゃ", "ya"), row], hira)
+    # the long mark
+    for target in ("ka", "k", "kA", "ke", "ki", "ko", "ku", "", "y"):
+        yield Corner("かー", [("か", target)], {"か": HIRA, "ー": L})
+    yield Corner("かー", [("か", "ka")], {"か": (LETTER, KATAKANA), "ー": L}, want="kaa")
+    yield Corner("かー", [("か", "ka")], {"か": L, "ー": L}, want="kaー")
+    yield Corner("かーー", [("か", "ka")], {"か": HIRA, "ー": HIRA})
+    yield Corner("かー", [("か", "k")], {"か": HIRA, "ー": (LETTER, 0, VIRAMA)})
+    # a virama is absorbed, but not by an empty romanization, and before spaces are trimmed
+    for target in ("k", "", " k", "k ", " "):
+        yield Corner("x-", [("x", target)], {"-": DEAD})
+        yield Corner(" x- ", [("x", target)], {"-": DEAD, " ": (ZS,)})
+    # one space a side; U+0020 itself; the text's front counts, its end does not
+    for target in (" k", "  k", "k ", "k  ", " k ", " ", "  "):
+        for text in ("x", " x", "x ", " x ", "\u00a0x\u00a0", "yx", "xy", "x x"):
+            yield Corner(text, [("x", target)], {"\u00a0": (ZS,), " ": (ZS,)})
+    # the best edge is the first added
+    yield Corner("か\u094d", [("か", "k"), ("か\u094d", "z")], {"か": HIRA, "\u094d": DEAD}, want="k")
+    # equal edges are added once
+    yield Corner("っか", [("っ", "kka"), ("か", "ka")], {"か": (LETTER, HIRAGANA, VIRAMA), "っ": HIRA}, edges=3)
+
+
+def thai():
+    kinds = {**{c: T for c in "กขคาอย"}, "เ": (LETTER, THAI, PRE), "แ": (LETTER, THAI, PRE), "\u0e48": TONE_MARK, "っ": T, " ": (ZS,)}
+    k = ("ก", "k")
+    pattern = [k, ("เ", "e"), ("เ\u2013า", "ao"), ("า", "a")]
+    yield Corner("เกา", pattern, kinds, want="kao")
+    yield Corner("เกา", pattern, {**kinds, "เ": (LETTER, 0, PRE)}, want="kao")      # the pattern asks no script of it,
+    yield Corner("เก", pattern, {**kinds, "เ": (LETTER, 0, PRE)}, want="ek")        # the pre-vowel step does
+    yield Corner("เกา", pattern, {**kinds, "เ": T})
+    yield Corner("เกา", pattern, {**kinds, "ก": L})
+    longest = [k, ("เ\u2013า", "1"), ("เ\u2013าข", "2"), ("เ\u2013าขค", "3")]
+    for text in ("เกา", "เกาข", "เกาขค", "เกาขคา", "เกาคข"):
+        yield Corner(text, longest, kinds)
+    yield Corner("เกาข", [k, ("เ\u2013า", "1"), ("เ\u2013าข", None), ("เ\u2013าข", "2")], kinds, want="k1ข")
+    yield Corner("เกา", [k, Rule("เ\u2013า", "x", START, 0, ["abc"]), ("เ\u2013า", "y", 0, 9)], kinds, want="kx")
+    for target in ("k", "ka", "y", "w", "kya", "K", "ky"):
+        yield Corner("เกา", [("ก", target), ("เ", "e"), ("เ\u2013า", "ao")], kinds)
+        yield Corner("เก", [("ก", target), ("เ", "e")], kinds)
+    yield Corner("เกขา", [("กข", "k"), ("เ", "e"), ("เ\u2013า", "ao")], kinds)
+    yield Corner("เก", [k, ("เ", None), ("เ", "e")], kinds)
+    yield Corner("เก", [k, Rule("เ", "x", START, 0, ["abc"]), ("เ", "e", 0, 9)], kinds, want="kx")
+    # after doubling the span is two wide
+    yield Corner("เっกา", [k, ("เ", "e"), ("เ\u2013า", "ao")], kinds)
+    yield Corner("っอ", [("อ", "k")], kinds, want="kk")
+    # after a pre-vowel there is no O ang
+    yield Corner("แอ", [("อ", "k"), ("แ", "")], kinds, want="k")
+    yield Corner("แอ", [("อ", "o"), ("แ", "")], kinds, want="")
+    # O ang: between consonants, y being none on either side
+    for left in ("k", "y", "w", "ka", "v", "", "1", "K", "ky", "yk"):
+        yield Corner("กอข", [("ก", left), ("อ", "o"), ("ข", "k")], kinds)
+        yield Corner("กอข", [("ก", "k"), ("อ", "o"), ("ข", left)], kinds)
+    for text in ("อ", "กอ", "อก", "กออก", "ก อก", " อก", "ก\u0e48อก", "กอ\u0e48ก", "xอก", "กอx", "ก \u0e48อก", "ก  อก"):
+        yield Corner(text, [k, ("อ", "o"), ("x", "k")], kinds)
+    yield Corner("ก\u0e48อก", [k, ("อ", "o")], kinds, want="kok")
+    yield Corner("กอข", [k, ("อ", "o"), ("ข", None), ("ข", "k")], kinds)
+    yield Corner("กอข", [k, ("อ", "o"), Rule("ข", "k", END, 0, ["abc"]), ("ข", "a", 0, 9)], kinds)
+    yield Corner("กอข", [k, ("ก", "k"), ("อข", "o")], kinds)
+    yield Corner("กขอค", [("กข", "a"), ("ข", "k"), ("อ", "o"), ("ค", "k")], kinds)
+    yield Corner("กขอค", [("กข", "k"), ("ข", "a"), ("อ", "o"), ("ค", "k")], kinds)
+
+
+def fallbacks():
+    for category in range(8):
+        kinds = {"é": (category,)}
+        yield Corner("é", [], kinds)
+        yield Corner("é", [("é", "+ng", END)], kinds)
+        yield Corner("é-", [("é", "+ng")], {**kinds, "-": DEAD})
+    yield Corner(" ", [], {})
+    yield Corner(" ", [], {" ": (ZS,)})
+    for target in ("+m", "+n", "+g", "+r", "+a", "+", "+ma", "++m", "m+", "+ra", "+rab", ""):
+        yield Corner("x-", [("x", target)], {"-": DEAD})
+    yield Corner("", [], {})
+    yield Corner("é€𐍈a", [], {})
+    yield Corner("\u0eff\u1000", [], {})
+    yield Corner("\ud7ff\ue000\U0010ffff", [], {})
+
+
+def alternatives():
+    yield Corner("ж", [Rule("ж", "a", others=["b"])], {"ж": (LETTER, 7)}, want="a", edges=1)
+    yield Corner("ж", [Rule("ж", "a", others=["b", "b", "a", "c"]), Rule("ж", "a", others=["d", "c"]), Rule("ж", "b", others=["e"])], {})
+    yield Corner("ж", [Rule("ж", "a"), Rule("ж", "a", NOT_START, others=["b"]), Rule("ж", None, others=["c"])], {})
+    yield Corner("ж", [Rule("ж", "a"), Rule("ж", "a", codes=["abc"], others=["b"])], {})
+    yield Corner("ж", [Rule("ж", "a"), Rule("ж", "a", codes=["abc"], others=["b"])], {}, code="abc")
+    # by core the vowel is appended, by the whole text it is not
+    core = [Rule("क", "k", others=["g", "h"]), Rule("क", "ka", 0, 0, (), None, ["x"])]
+    yield Corner("क", core, {"क": SIX}, [A6], want="ka")
+    yield Corner("क", [Rule("क", "h", others=["g"])], {"क": SIX}, [(6, A, "n")], want="hn")
+    # a tail's text is not its target; the end target is
+    yield Corner("x", [Rule("x", "+n", others=["m"])], {})
+    yield Corner("x", [Rule("x", "+n", end="n", others=["m"])], {})
+    yield Corner("xx", [Rule("x", "s", end="t", others=["u"])], {})
+    yield Corner("xx", [Rule("x", "s", end="s", others=["u"])], {})
+    yield Corner("xx", [Rule("x", "s", end="t"), Rule("x", "s2", end="t"), Rule("x", "s", end="t")], {})
+    yield Corner("xx", [Rule("x", None, end="t", others=["u"])], {})
+    # of every edge of the path, in order; of fallbacks too
+    yield Corner("xyx", [Rule("x", "a", others=["b"]), Rule("y", "c", others=["d"]), Rule("xy", "e", others=["f", "g"])], {})
+    yield Corner("x-", [Rule("x", "k", others=["b"])], {"-": DEAD})
+    yield Corner("-x", [Rule("x", "k", START, others=["b"]), Rule("-", "k", others=["a"])], {"-": (OTHER, 0, VIRAMA)})
+    yield Corner("x", [Rule("x", "", others=["b", ""])], {})
+
+
+def letters():
+    """every set of letters, letter by letter"""
+    thai = {**{c: T for c in "กขอายx"}, "เ": (LETTER, THAI, PRE)}
+    hira = {c: HIRA for c in "っかきゃ"}
+    sign = {"क": SIX, "ि": (MARK, 6, SIGN)}
+    for c in "abcdefghijklmnopqrstuvwxyzKA1":
+        yield Corner("っか", [("か", c + "a")], hira)                                              # doubling
+        yield Corner("เก", [("ก", c + "a"), ("เ", "e")], thai)                                     # a pre-vowel
+        yield Corner("เกา", [("ก", "k" + c), ("เ\u2013า", "ao")], thai)                            # the Thai pattern
+        yield Corner("กอข", [("ก", "a" + c), ("อ", "o"), ("ข", "k")], thai)                        # O ang, left and right
+        yield Corner("กอข", [("ก", "k"), ("อ", "o"), ("ข", "k" + c)], thai)
+        yield Corner("xยกา", [("ย", "u" + c), Rule("ก", "k", end="t"), ("า", "a")], thai)          # end of syllable, left and right
+        yield Corner("ากา", [Rule("ก", "k", end="t"), ("า", c)], thai)
+        yield Corner("きゃ", [("き", c + "i"), ("ゃ", "ya")], hira)                                # small ya
+        yield Corner("かー", [("か", "k" + c)], {**hira, "ー": L})                                  # the long mark
+        yield Corner("x-", [("x", "+" + c + "a")], {"-": DEAD})                                    # tails, and their fallbacks
+        yield Corner("क", [("क", "k" + c)], {"क": SIX}, [A6])                                      # the vowel step's consonants
+        for target in (c + "a", c + "o", c + "ka", c + "ko", c + "ya", c + "yoo", c + "y"):
+            for kind in (A, AO):
+                yield Corner("कि", [("क", target)], sign, [(6, kind, "a")])
+        if c.islower():
+            yield Corner("क", [("क", "h")], {"क": SIX}, [(6, A, c)])                               # a core's vowel
+            yield Corner("क", [("क", "h")], {"क": SIX}, [(6, A, "a" + c)])
+
+
+# what each group tells is seen in these modes: all edges, and the others in turn
+TURNS = lambda k: (k % 3, 3)
+GROUPS = {
+    sample_results: lambda k: range(4), longest_and_most: TURNS, vowel_step: TURNS, word_boundaries: TURNS, rule_choice: TURNS,
+    syllables: TURNS, expansion: TURNS, thai: TURNS, fallbacks: TURNS, alternatives: lambda k: (k % 2, 2), letters: lambda k: (3,),
+}
+
+
+def checked(corner, built):
+    """what is stated here must be what the oracle says"""
+    got = string_of(corner.given(0), built[0])
+    stated = corner.begins if corner.want is None else corner.want
+    if got != corner.want and not (corner.want is None and got.startswith(stated)):
+        raise SystemExit("%r: the oracle says %r, stated is %r" % (corner.text, got, stated))
+    if corner.edges is not None and len(built[0].added) != corner.edges:
+        raise SystemExit("%r: the oracle has %d edges, stated are %d" % (corner.text, len(built[0].added), corner.edges))
+
+
+def main(program, path):
+    corners = [(corner, modes) for group, modes in GROUPS.items() for corner in group()]
+    built = iter(ask(program, [corner.given(mode) for corner, _ in corners for mode in range(4)]))
+    calls = []
+    for k, (corner, modes) in enumerate(corners):
+        answers = [next(built) for _ in range(4)]
+        checked(corner, answers)
+        for mode in modes(k):
+            exact, more = answers[mode].lent(), (k + mode) % 4          # exactly what is needed, or a little more
+            lent = Lent(exact.slots + 7 * more, exact.room + more, exact.output + more)
+            calls.append(call(corner.given(mode), answers[mode], lent))
+    outputs = {c.answer.output.hex() for c in calls}
+    assert sample.LINE in outputs and sample.LINE_WITH_END in outputs
+    callfile.write(path, calls)
+    print("%d calls of %d corners" % (len(calls), len(corners)))
+
+
+if __name__ == "__main__":
+    main(*sys.argv[1:])

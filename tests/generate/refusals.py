@@ -1,0 +1,362 @@
+#!/usr/bin/env python3
+"""Refusals made by hand from document 01's table 'Numbers a call returns': each number with its place, and both sides of each
+border. Number and place are written here; the oracle only confirms that it refuses too (1 to 8), or that its edges in their
+adding order give the same (9 to 11). The accepted side of a border is answered by the oracle.
+
+usage: refusals.py ORACLE FILE.calls.xz MOST_RULES.calls.xz"""
+import sys
+
+from oracle import Call, Given, Lent, answered, ask, call, callfile, refused
+from tables import *
+
+PLAIN = Given(0, rules(("b", "B"), ("d", "D")), classes({"b": (LETTER, 6), "d": (LETTER,)}), vowels((5, A, "a"), (9, AO, "o")), b"", b"bad")
+PLENTY = Lent(1200, 400, 8)
+NONE = block([])
+
+
+class Border:
+    """a call, and the number and place it is refused by, or none where it is accepted"""
+    def __init__(self, refusal, lent=PLENTY, **changes):
+        self.given, self.lent, self.refusal = PLAIN._replace(**changes), lent, refusal
+
+
+def accepted(**changes):
+    return Border(None, None, **changes)
+
+
+def in_table(number, table, before, bad, after):
+    """a faulty row as a table's only row, its last, and with one after it"""
+    bad = bytes(bad)
+    yield Border((number, 5), **{table: block([bad])})
+    yield Border((number, 5 + len(before)), **{table: block([before, bad])})
+    yield Border((number, 5 + len(before)), **{table: block([before, bad, after])})
+
+
+def cut_rows(number, table, before, row):
+    """a row that the block ends in the midst of"""
+    for n in range(1, len(row)):
+        yield Border((number, 5 + len(before)), **{table: block([before, row[:n]])})
+
+
+def modes():
+    for mode in (4, 5, 128, 255):
+        yield Border((1, 0), mode=mode)
+    for mode in range(4):
+        yield accepted(mode=mode)
+
+
+def headers():
+    for number, table in ((2, "rules"), (3, "classes"), (4, "vowels")):
+        good = getattr(PLAIN, table)
+        body = good[5:]
+
+        def headed(version, length, rest=body):
+            return bytes([version]) + length.to_bytes(4, "big") + rest
+        n = len(body)
+        bad = [b"", b"\x01", b"\x01\0\0\0", good[:-1], good + b"\0", headed(0, n), headed(2, n), headed(255, n), headed(1, n - 1),
+               headed(1, n + 1), headed(1, n + 2 ** 24), headed(1, 2 ** 32 - 1), headed(1, 0), headed(1, 1, b""), headed(0, 0, b"")]
+        for table_bytes in bad:
+            yield Border((number, 0), **{table: table_bytes})
+        yield accepted(**{table: NONE})
+
+
+def resized(rest):
+    """a rule row's rest with its length"""
+    return len(rest).to_bytes(2, "big") + rest
+
+
+def rule_rows():
+    before, after = rule_row("b", "B"), rule_row("d", "D")
+    full = rule_row("cc", "t", WHOLE, 258, ["abc", "xyz"], "e", ["v", "w"])
+    c = ord("c").to_bytes(3, "big")
+    bad = [
+        rule_row("c", "t", 128), rule_row("c", None, 128), rule_row("c", "t", 128 | 31, end="e"),                  # bit 7
+        resized(b"\0\0\0\0\0\0"), resized(b"\x20\0\0\0\0\x01t\0"),                                                 # no source
+        rule_row("c" * 17, "t"), resized(b"\0\0\0\x20" + c * 32 + b"\0\0"), resized(b"\0\0\0\xff" + c * 255 + b"\0\0"),
+        resized(b"\0\0\0\x02" + c + b"\0\0"),                                                                      # a source cut short
+        rule_row("c", "t", codes=["abc"] * 9),
+        resized(b"\0\0\0\x01" + c + b"\xff" + b"abc" * 255 + b"\0"),
+        rule_row("c", "t", others=["x"] * 9), rule_row("c", "t", others=[""] * 255),
+        b"\0\0", b"\0\x01\0", b"\0\x03\0\0\0",
+        full[:1] + bytes([full[1] + 1]) + full[2:] + b"\0", full[:1] + bytes([full[1] + 2]) + full[2:] + b"\0\0",  # bytes left over
+    ]
+    for value in (0xD800, 0xDBFF, 0xDFFF, 0x110000, 0xFFFFFF):
+        bad.append(resized(b"\0\0\0\x01" + value.to_bytes(3, "big") + b"\0\0"))
+        bad.append(resized(b"\0\0\0\x02" + c + value.to_bytes(3, "big") + b"\0\0"))
+    for code in ("ABC", "ab1", "`bc", "ab{", "a\0c", "a c"):
+        bad.append(rule_row("c", "t", codes=[code]))
+        bad.append(rule_row("c", "t", codes=["abc", code]))
+    for text in ("\x1f", "\x7f", "\0", "\x80", "\xff", "ab\x1f", "\x7fab", "x" * 65, "x" * 255):
+        bad += [rule_row("c", text), rule_row("c", "t", end=text), rule_row("c", None, end=text),
+                rule_row("c", "t", others=[text]), rule_row("c", "t", others=["x", text])]
+    for row in bad:
+        yield from in_table(2, "rules", before, row, after)
+    # a row's rest that ends before its parts do
+    for n in range(len(full) - 2):
+        yield from in_table(2, "rules", before, resized(full[2:2 + n]), after)
+    yield from cut_rows(2, "rules", before, full)
+    # one byte less than its parts take, the row after it as it was
+    yield Border((2, 5), rules=block([full[:1] + bytes([full[1] - 1]) + full[2:], after]))
+    # order: character by character, a prefix first
+    for first, second in (("d", "b"), ("ab", "a"), ("b", "ab"), ("\U00010000", "\uffff"), ("ba", "aab"), ("aab", "aaa"), ("a\u0100", "a\xff")):
+        one, two, three = rule_row(first, "x"), rule_row(second, "y"), rule_row("\U0010ffff", "z")
+        yield Border((2, 5 + len(one)), rules=block([one, two]))
+        yield Border((2, 5 + len(one)), rules=block([one, two, three]))
+        yield Border((2, 5 + 2 * len(one)), rules=block([one, one, two]))
+        yield accepted(rules=block([two, one, three]), mode=3)
+    yield accepted(rules=block([rule_row("b", "x"), rule_row("b", "y"), rule_row("ba", "z")]), mode=3)
+    # what is still allowed
+    for row in (rule_row("c" * 16, "t"), rule_row("c", "x" * 64, end="y" * 64, others=["z" * 64]), rule_row("c", " ~", end=""),
+                rule_row("c", "t", codes=["abc"] * 8), rule_row("c", "", others=["w"] * 8), rule_row("c", "t", 31, 65535),
+                rule_row("\ud7ff", "t"), rule_row("\ue000", "t"), rule_row("\U0010ffff", "t"), rule_row("\0", "t"), rule_row("c", "az")):
+        yield accepted(rules=block([row]), text=b"c" * 17, mode=2)
+    # the first faulty row decides
+    bad = rule_row("c", "\x7f")
+    yield Border((2, 5), rules=block([bad, bad]))
+    yield Border((2, 5 + len(before)), rules=block([before, bad, before]))
+
+
+def class_rows():
+    before, after = class_row("B", LETTER, 6), class_row("z", LETTER)
+    bad = [(c, category, 0, 0) for c in "ZacyC" for category in (0, 2, 3, 4, 5, 6, 7)]
+    bad += [("c", LETTER, 0, 128), ("c", LETTER, 0, 255), ("c", LETTER, 128, 0), ("c", LETTER, 255, 0), ("c", 8, 0, 0), ("c", 255, 0, 0),
+            ("^", 8, 0, 0), ("^", 0, 128, 0), ("^", 0, 0, 128), ("^", 9, 130, 200)]
+    for row in bad:
+        yield from in_table(3, "classes", before, class_row(*row), after)
+    for value in (0xD800, 0xDFFF, 0x110000, 0xFFFFFF):
+        yield from in_table(3, "classes", before, value.to_bytes(3, "big") + bytes([1, 0, 0]), class_row("\U0010ffff", OTHER))
+    # U+0020 is category 7, script 0, no flags
+    start = class_row("\n", OTHER)
+    for row in [(" ", category) for category in range(7)] + [(" ", ZS, 1), (" ", ZS, 127), (" ", ZS, 0, 1), (" ", ZS, 0, 64), (" ", 8), (" ", ZS, 5, 3)]:
+        yield from in_table(3, "classes", start, class_row(*row), after)
+    # strictly rising
+    for first, second in (("b", "b"), ("c", "b"), ("\U00010000", "\uffff"), ("\u0100", "\xff")):
+        one, two = class_row(first, LETTER), class_row(second, LETTER)
+        yield Border((3, 11), classes=block([one, two]))
+        yield Border((3, 11), classes=block([one, two, class_row("\U0010ffff", OTHER)]))
+        yield Border((3, 17), classes=block([class_row("A", LETTER), one, two]))
+    yield from cut_rows(3, "classes", before, after)
+    yield from cut_rows(3, "classes", b"", after)
+    # what is still allowed: neighbours of the letters, the borders of each field
+    for row in (("@", 0), ("[", 2), ("`", 5), ("{", 7), ("A", 1, 127, 127), ("z", 1, 6, 0), (" ", ZS), ("!", 6, 127, 127), ("\ud7ff", 3),
+                ("\ue000", 4), ("\U0010ffff", 7), ("\0", 0)):
+        yield accepted(classes=block([class_row(*row)]), text="bA@[`{z! d".encode(), mode=1)
+    yield Border((3, 5), classes=block([class_row("c", 0), class_row("d", 0)]))
+
+
+def vowel_rows():
+    before, after = vowel_row(5, A, "a"), vowel_row(9, AO, "o")
+    bad = [(7, A, ""), (7, A, "aaaaa"), (7, A, "a" * 255), (7, 2, "a"), (7, 255, "a"), (7, A, "A"), (7, A, "aB"), (7, A, "`"), (7, A, "{"),
+           (7, A, "a1"), (7, A, "\0"), (7, AO, "a b"), (0, A, "a"), (128, A, "a"), (255, A, "a"), (0, 2, "")]
+    for row in bad:
+        yield from in_table(4, "vowels", before, vowel_row(*row), after)
+    for first, second in ((5, 5), (6, 5), (127, 1), (9, 8)):
+        one, two = vowel_row(first, A, "ae"), vowel_row(second, AO, "o")
+        yield Border((4, 10), vowels=block([one, two]))
+        yield Border((4, 10), vowels=block([one, two, vowel_row(127, A, "a")]))
+        yield Border((4, 10), vowels=block([one, two, one]))
+    yield from cut_rows(4, "vowels", before, vowel_row(6, A, "abcd"))
+    yield from cut_rows(4, "vowels", b"", vowel_row(6, A, "ab"))
+    yield Border((4, 5), vowels=block([bytes([6, 0, 2]) + b"a", after]))      # its letters reach into the next row
+    for row in ((1, A, "a"), (127, AO, "zzzz"), (6, A, "abcd"), (6, AO, "z")):
+        yield accepted(vowels=block([vowel_row(*row)]), mode=1)
+    yield accepted(vowels=block(vowel_row(s, s % 2, "a") for s in range(1, 128)), mode=1)
+
+
+def codes():
+    for code in (b"a", b"ab", b"abcd", b"abcabc", b"ABC", b"Abc", b"abC", b"ab1", b"`bc", b"ab{", b"a c", b"\0\0\0", b"ab\0", b"\xc3\xa9a", b"a-b"):
+        yield Border((5, 0), code=code)
+    for code in (b"", b"aaa", b"zzz", b"san"):
+        yield accepted(code=code)
+
+
+BAD_UTF8 = """80 | BF | C0 80 | C0 AF | C1 BF | C2 | C2 41 | C2 C2 80 | C3 28 | DF | DF FF | E0 80 80 | E0 9F BF | E0 A0 | E0 | E0 A0 41 | E1 80
+    | E1 41 80 | E1 C2 80 | ED A0 80 | ED AF BF | ED B0 80 | ED BF BF | ED A0 80 ED B0 80 | EF BF | EF BF C0 | F0 80 80 80 | F0 8F BF BF
+    | F0 90 80 | F0 90 | F0 | F0 90 80 41 | F0 90 41 80 | F0 41 80 80 | F1 80 80 | F4 90 80 80 | F4 BF BF BF | F4 8F BF | F5 80 80 80
+    | F7 BF BF BF | F8 88 80 80 80 | FC 84 80 80 80 80 | FE | FF | FF FE | EF BB | 80 80 80"""
+GOOD_UTF8 = "00 | 7F | C2 80 | DF BF | E0 A0 80 | ED 9F BF | EE 80 80 | EF BF BF | EF BB BF | F0 90 80 80 | F4 8F BF BF"
+
+
+def sequences(listed):
+    return [bytes.fromhex(s) for s in listed.split("|")]
+
+
+def utf8():
+    for s in sequences(BAD_UTF8):
+        yield Border((6, 0), text=s)
+        yield Border((6, 1), text=b"a" + s + b"b")
+        yield Border((6, 9), text="é€𐍈".encode() + s)
+    yield Border((6, 3), text=b"\xe2\x82\xac\x80\xff")                   # a good one, then two bad ones
+    yield Border((6, 512), text=b"a" * 512 + b"\xff")
+    yield Border((6, 600), text=b"a" * 600 + b"\xc2")                    # before 7
+    yield Border((6, 3), text="\u0f00".encode() + b"\xed\xa0\x80")       # before 8
+    for s in sequences(GOOD_UTF8):
+        yield accepted(text=s, mode=0)
+        yield accepted(text=b"b" + s + b"d", mode=3)
+
+
+def lengths():
+    for n in (513, 514, 700):
+        yield Border((7, 512), text=b"a" * n)
+    yield Border((7, 512), text="€".encode() * 513)
+    yield Border((7, 512), text=b"a" * 512 + "𐍈".encode())
+    yield Border((7, 512), text="\u0f00".encode() + b"a" * 512)          # before 8
+    yield accepted(text=b"b" * 512, mode=0)
+    yield accepted(text="€".encode() * 512, mode=1, rules=NONE, classes=NONE, vowels=NONE)
+
+
+def left_out():
+    for low, high in ((0x0F00, 0x0FFF), (0x2800, 0x28FF), (0xAC00, 0xD7A3)):
+        for c in (low, low + 1, high - 1, high):
+            for text, place in (("%s", 0), ("b%sd", 1), ("é€𐍈%s", 3), ("bb%s%s", 2)):
+                yield Border((8, place), text=text.replace("%s", chr(c)).encode())
+        for c in (low - 1, high + 1):
+            yield accepted(text=("b" + chr(c)).encode(), mode=3)
+        yield Border((8, 511), text=b"a" * 511 + chr(low).encode())
+    yield Border((8, 1), text="a\ud7a3\u0f00".encode())
+
+
+def rooms():
+    """9 and 10 at the first edge that does not fit, 11 with the bytes needed"""
+    def lent(slots, room, output=200):
+        return Lent(slots, room, output)
+
+    def case(slots_places, room_places, needs, **changes):
+        """places by count of slots and by bytes of room, and what is exactly enough"""
+        full = 12 * len(slots_places)
+        for k, place in enumerate(slots_places):
+            yield Border((9, place), lent(12 * k, needs), **changes)
+            yield Border((9, place), lent(12 * k + 11, 1000), **changes)
+        for room, place in enumerate(room_places):
+            yield Border((10, place), lent(full, room), **changes)
+        assert len(room_places) == needs
+        yield Border(None, lent(full, needs), **changes)
+        yield Border(None, lent(full + 11, needs + 1), **changes)
+        yield Border(None, lent(120000, 100000), **changes)
+
+    plain = dict(rules=NONE, classes=NONE, vowels=NONE)
+    # characters without rules fall back in their order: 1, 2, 3, 4 bytes
+    yield from case([0, 1, 2, 3], [0, 1, 1, 2, 2, 2, 3, 3, 3, 3], 10, **plain, text="aé€𐍈".encode(), mode=1)
+    # an empty text needs a slot and no room
+    mark = dict(plain, classes=classes({"\u0301": (NONSPACING,), "\u0302": (CF,), "\u0303": (CO,)}))
+    yield from case([0, 1, 2], [0, 2], 2, **mark, text="a\u0301b".encode(), mode=3)
+    yield from case([0, 1, 2], [], 0, **mark, text="\u0301\u0302\u0303".encode(), mode=3)
+    yield Border((9, 1), lent(12, 0), **mark, text="\u0301a".encode())
+    yield Border((10, 1), lent(24, 0), **mark, text="\u0301a".encode())
+    # the slot is asked before the room
+    yield Border((9, 0), lent(0, 0), text=b"a")
+    yield Border((9, 1), lent(12, 1), **plain, text=b"aa")
+    yield Border((10, 0), lent(12, 0), **plain, text=b"aa")
+    # the edge's own, moved start: found at 1, it starts at 0; then the fallbacks (0,1) of 3 bytes and (1,2) of 2
+    doubled = dict(rules=rules(("か", "ka")), classes=classes({"っ": (LETTER, 3), "か": (LETTER, 3)}), vowels=NONE, text="っか".encode())
+    yield from case([0, 0, 1], [0, 0, 0, 0, 0, 0, 1, 1], 8, **doubled, mode=3)
+    # an equal edge needs neither: (0,2) "kka" comes twice, then (0,1) "kka" and (1,2) "ka"
+    equal = dict(doubled, rules=rules(("っ", "kka"), ("か", "ka")), classes=classes({"っ": (LETTER, 3), "か": (LETTER, 3, VIRAMA)}))
+    yield from case([0, 0, 1], [0, 0, 0, 0, 0, 0, 1, 1], 8, **equal, mode=3)
+    # (0,1) "e", (0,3) "kao" found at 1, (2,3) "a", then the fallback (1,2) "k"
+    thai = dict(rules=rules(("เ", "e"), ("ก", "k"), ("า", "a"), ("เ\u2013า", "ao")), vowels=NONE, text="เกา".encode(),
+                classes=classes({"เ": (LETTER, THAI, PRE), "ก": (LETTER, THAI), "า": (LETTER, THAI)}))
+    yield from case([0, 0, 2, 1], [0, 0, 0, 0, 2, 1], 6, **thai, mode=2)
+    # alternatives take neither slots nor room
+    other = dict(plain, rules=rules(Rule("a", "x", others=["yyyy", "zzzz"])), text=b"a")
+    yield from case([0], [0], 1, **other, mode=2)
+    # an empty text takes nothing
+    for mode in range(4):
+        yield Border(None, Lent(0, 0, 5 if mode else 0), **plain, text=b"", mode=mode)
+        yield Border(None, Lent(11, 3, 6), **plain, text=b"", mode=mode)
+        if mode:
+            for output in range(5):
+                yield Border((11, 5), Lent(0, 0, output), **plain, text=b"", mode=mode)
+    # 11: the string's 10 bytes; the listing's 5, 8 for each edge and the texts
+    for output in (0, 1, 9):
+        yield Border((11, 10), Lent(48, 10, output), **plain, text="aé€𐍈".encode())
+    yield Border(None, Lent(48, 10, 10), **plain, text="aé€𐍈".encode())
+    for mode in (1, 2, 3):
+        for output in (0, 4, 5, 46):
+            yield Border((11, 47), Lent(48, 10, output), **plain, text="aé€𐍈".encode(), mode=mode)
+        yield Border(None, Lent(48, 10, 47), **plain, text="aé€𐍈".encode(), mode=mode)
+        yield Border(None, Lent(48, 10, 60), **plain, text="aé€𐍈".encode(), mode=mode)
+    # mode 2 needs more than mode 1 by its alternatives
+    for output in (13, 14, 25, 37):
+        yield Border((11, 38), Lent(12, 1, output), **other, mode=2)
+    yield Border((11, 14), Lent(12, 1, 13), **other, mode=1)
+
+
+def orders():
+    """two faults at once: the lower number comes first; all of them together give the first"""
+    faults = {
+        1: dict(mode=9), 2: dict(rules=block([rule_row("b", "B"), b"\0"])), 3: dict(classes=block([class_row("b", 2)])),
+        4: dict(vowels=b"\x02\0\0\0\0"), 5: dict(code=b"xx"), 6: dict(text=b"a\xff"), 7: dict(text=b"a" * 513), 8: dict(text="ab\u0f00".encode()),
+    }
+    place = {1: 0, 2: 5 + len(rule_row("b", "B")), 3: 5, 4: 0, 5: 0, 6: 1, 7: 512, 8: 2}
+    both = {(6, 7): (b"a\xff" + b"a" * 600, 1), (6, 8): ("\u0f00a".encode() + b"\xff", 4), (7, 8): ("\u0f00".encode() * 513, 512)}
+    small = {9: Lent(0, 0, 0), 10: Lent(1200, 0, 0), 11: Lent(1200, 100, 0)}
+    for i in faults:
+        for j in faults:
+            if (i, j) in both:
+                yield Border((i, both[i, j][1]), text=both[i, j][0])
+            elif i < j:
+                yield Border((i, place[i]), **{**faults[i], **faults[j]})
+        for lent in small.values():
+            yield Border((i, place[i]), lent, **faults[i])
+    for lowest in range(1, 6):
+        every = {}
+        for i in range(lowest, 9):
+            every.update(faults[i])
+        yield Border((lowest, place[lowest]), Lent(0, 0, 0), **every)
+        yield Border((lowest, place[lowest]), Lent(5, 5, 5), **every)
+    yield Border((9, 0), small[9])
+    yield Border((10, 0), small[10])
+    yield Border((11, 3), small[11], rules=NONE)
+
+
+def most_classes():
+    """8,192 rows are allowed, the next is faulty; these are large and slow, so there are few"""
+    row = [class_row(chr(0x4E00 + k), OTHER) for k in range(8193)]
+    yield Border((3, 5 + 8192 * 6), classes=block(row))
+    yield accepted(classes=block(row[:8192]), text=b"")
+
+
+def most_rules():
+    """the same of rules, in a file of their own: one row again and again, which is how a computation can write 90,000 bytes"""
+    rule = rule_row("b")
+    yield Border((2, 5 + 8192 * len(rule)), rules=block([rule] * 8193))
+    yield Border((2, 5 + 8192 * len(rule)), rules=block([rule] * 8192 + [b"\0"]))
+    yield accepted(rules=block([rule] * 8192), text=b"")
+    yield accepted(rules=block([rule] * 8191 + [rule_row("b", "x")]), text=b"b")
+
+
+GROUPS = [modes, headers, rule_rows, class_rows, vowel_rows, codes, utf8, lengths, left_out, rooms, orders, most_classes]
+
+
+def made(border, built):
+    """the call, once the oracle has confirmed it"""
+    number, _ = border.refusal or (0, 0)
+    if (built is None) != (1 <= number <= 8):
+        raise SystemExit("%s is wanted, but the oracle %s: %r" % (border.refusal, "refuses" if built is None else "accepts", border.given))
+    if built is None:
+        return Call(border.given, border.lent, refused(*border.refusal))
+    lent = border.lent or built.lent()
+    if border.refusal and answered(built, lent) != refused(*border.refusal):
+        raise SystemExit("%s is wanted, the oracle's edges give %s: %r" % (border.refusal, answered(built, lent)[:2], border.given))
+    done = call(border.given, built, lent)
+    if border.refusal is None and done.answer.number != 0:
+        raise SystemExit("refused with %s: %r" % (done.answer[:2], border))
+    return done
+
+
+def save(program, path, groups):
+    borders = [border for group in groups for border in group()]
+    calls = [made(border, built) for border, built in zip(borders, ask(program, [b.given for b in borders]))]
+    callfile.write(path, calls)
+    numbers = [c.answer.number for c in calls]
+    print("%d calls: %s" % (len(calls), ", ".join("%d of %d" % (numbers.count(n), n) for n in sorted(set(numbers)))))
+
+
+def main(program, path, rules_path):
+    save(program, path, GROUPS)
+    save(program, rules_path, [most_rules])
+
+
+if __name__ == "__main__":
+    main(*sys.argv[1:])

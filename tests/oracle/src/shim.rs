@@ -1,0 +1,146 @@
+//! What the published files import but the oracle must supply itself.
+
+use crate::edge::Edge;
+use std::cell::RefCell;
+
+thread_local! {
+    /// start and text length of every edge, in adding order
+    static ADDED: RefCell<Vec<(usize, usize)>> = const { RefCell::new(Vec::new()) };
+}
+
+pub fn forget_added() {
+    ADDED.take();
+}
+
+pub fn added() -> Vec<(usize, usize)> {
+    ADDED.with_borrow(|a| a.clone())
+}
+
+/// A set that iterates in adding order and never holds two equal members
+/// (stands for `HashSet<Edge>`). Every member that is new is noted in `ADDED`.
+#[derive(Clone, Debug, Default)]
+pub struct OrderedSet {
+    members: Vec<Edge>,
+}
+impl OrderedSet {
+    pub fn insert(&mut self, edge: Edge) -> bool {
+        if self.members.contains(&edge) {
+            return false;
+        }
+        ADDED.with_borrow_mut(|a| a.push((edge.start(), edge.txt().len())));
+        self.members.push(edge);
+        true
+    }
+    pub fn is_empty(&self) -> bool {
+        self.members.is_empty()
+    }
+    pub fn iter(&self) -> std::slice::Iter<'_, Edge> {
+        self.members.iter()
+    }
+}
+impl<'a> IntoIterator for &'a OrderedSet {
+    type Item = &'a Edge;
+    type IntoIter = std::slice::Iter<'a, Edge>;
+    fn into_iter(self) -> Self::IntoIter {
+        self.members.iter()
+    }
+}
+
+/// Counts of the blocks entered; coverage.py writes the calls of `enter`, a plain build has none.
+pub mod blocks {
+    use std::collections::HashMap;
+    use std::sync::Mutex;
+
+    static ENTERED: Mutex<Option<HashMap<u32, u64>>> = Mutex::new(None);
+
+    pub fn enter(block: u32) {
+        *ENTERED.lock().unwrap().get_or_insert_default().entry(block).or_default() += 1;
+    }
+    /// the blocks entered and how often, on standard error
+    pub fn report() {
+        for (block, n) in ENTERED.lock().unwrap().iter().flatten() {
+            eprintln!("{block} {n}");
+        }
+    }
+}
+
+/// Stands for the two regexes `[\p{L}\p{M}]` and `[\p{L}\p{M}]$`, with \p{L}
+/// and \p{M} taken from the class table.
+pub struct LOrM {
+    pub at_end: bool,
+}
+impl LOrM {
+    pub fn is_match(&self, s: &str) -> bool {
+        let lm = |c: char| (1..=3).contains(&crate::dicts::class_of(c).0);
+        if self.at_end {
+            s.chars().last().is_some_and(lm)
+        } else {
+            s.chars().any(lm)
+        }
+    }
+}
+
+pub mod unicode_properties {
+    #[derive(Debug, Clone, Copy, PartialEq, Eq)]
+    pub enum GeneralCategory {
+        OtherSymbol,
+        OtherLetter,
+        NonspacingMark,
+        SpacingMark,
+        DecimalNumber,
+        Format,
+        PrivateUse,
+        SpaceSeparator,
+    }
+    #[derive(Debug, Clone, Copy, PartialEq, Eq)]
+    pub enum GeneralCategoryGroup {
+        Letter,
+        Mark,
+        Number,
+        Separator,
+        Other,
+    }
+    pub trait UnicodeGeneralCategory {
+        fn general_category(self) -> GeneralCategory;
+        fn general_category_group(self) -> GeneralCategoryGroup;
+    }
+    impl UnicodeGeneralCategory for char {
+        fn general_category(self) -> GeneralCategory {
+            match crate::dicts::class_of(self).0 {
+                1 => GeneralCategory::OtherLetter,
+                2 => GeneralCategory::NonspacingMark,
+                3 => GeneralCategory::SpacingMark,
+                4 => GeneralCategory::DecimalNumber,
+                5 => GeneralCategory::Format,
+                6 => GeneralCategory::PrivateUse,
+                7 => GeneralCategory::SpaceSeparator,
+                _ => GeneralCategory::OtherSymbol,
+            }
+        }
+        fn general_category_group(self) -> GeneralCategoryGroup {
+            match crate::dicts::class_of(self).0 {
+                1 => GeneralCategoryGroup::Letter,
+                2 | 3 => GeneralCategoryGroup::Mark,
+                4 => GeneralCategoryGroup::Number,
+                7 => GeneralCategoryGroup::Separator,
+                _ => GeneralCategoryGroup::Other,
+            }
+        }
+    }
+}
+
+pub mod num_rational {
+    #[derive(Debug, Clone, Copy, PartialEq, PartialOrd)]
+    pub struct Ratio<T>(T, T);
+    impl<T> Ratio<T> {
+        pub fn new(n: T, d: T) -> Self {
+            Ratio(n, d)
+        }
+        pub fn numer(&self) -> &T {
+            &self.0
+        }
+        pub fn denom(&self) -> &T {
+            &self.1
+        }
+    }
+}
