@@ -1,15 +1,15 @@
 -- What holds of every element of a list, and of what may be absent.
-use mathlib.Core.Bool.{Bool, true, false, _&&_, _||_}
-use mathlib.Core.Path.{_≡_, refl, sym, _∙_, ap}
+use mathlib.Core.Bool.{Bool, true, false, _&&_}
+use mathlib.Core.Path.{_≡_, refl, _∙_, ap}
 use mathlib.Core.List.{List, [], _∷_, _++_, reverse, reverseAux}
 use mathlib.Core.Option.{Option, none, some}
 use Prim.Native.Nat.{ℕ, zero, suc, _<_}
 use native.Mathlib.Omega.{arith}
-use lib.ListN.{getD, take, drop, length, length-drop}
+use lib.ListN.{getD, take, drop}
 use Rattle.base.specs.Pick.{pick, pick-all}
 use Rattle.base.specs.Bools.{and-left, and-right, conj}
 use Rattle.base.specs.Lists.{put, keep, any, all, head, or-else, maybe, front, after, tail, bind, best-of, best}
-use Rattle.base.specs.Rows.{Each, over, more, rows, rows-nil, rows-cons}
+use Rattle.base.specs.Rows.{Each, no-row, row-then, rows, rows-nil, rows-cons}
 
 abbrev pub All : {A : Type 0} → (A → Type 0) → List A → Type 0
 All P [] = Unit {0}
@@ -161,8 +161,8 @@ all-all P f k (x ∷ l) e = (k x (and-left _ _ e), all-all P f k l (and-right (f
 -- what holds of each row's bytes, as a fact of each row
 pub rows-all : {A : Type 0} {P : List ℕ → Type 0} {size : List ℕ → ℕ} (one : List ℕ → A) (Q : A → Type 0) → ((s : List ℕ) → 0 < size s)
     → ((s : List ℕ) → P s → Q (one s)) → {s : List ℕ} → Each P size s → All Q (rows one size s)
-rows-all {size = size} one Q moves f (over {s} e) = rw (rows-nil one size s e) tt
-rows-all {A = A} {P = P} {size = size} one Q moves f (more {s} p r) = go s p (rows-all one Q moves f r)
+rows-all {size = size} one Q moves f (no-row {s} e) = rw (rows-nil one size s e) tt
+rows-all {A = A} {P = P} {size = size} one Q moves f (row-then {s} p r) = go s p (rows-all one Q moves f r)
   where
     go : (s : List ℕ) → P s → All Q (rows one size (drop (size s) s)) → All Q (rows one size s)
     go [] p h = rw (rows-nil one size [] refl) tt
@@ -176,3 +176,22 @@ All-all f (x ∷ l) h = ap (λ (b : Bool). b && all f l) (h .0) ∙ All-all f l 
 
 pub all-reverse : {A : Type 0} (f : A → Bool) (l : List A) → all f l ≡ true → all f (reverse l) ≡ true
 all-reverse f l e = All-all f (reverse l) (All-reverse (λ x. f x ≡ true) l (all-all (λ x. f x ≡ true) f (λ x q. q) l e))
+
+-- what holds of each; of what is there, and something besides; of what is kept
+module _ {A : Type 0} where
+  pub All-each : (P : A → Type 0) → ((x : A) → P x) → (l : List A) → All P l
+  All-each P f [] = tt
+  All-each P f (x ∷ l) = (f x, All-each P f l)
+
+  pub Opt-map : {P Q : A → Type 0} → ((x : A) → P x → Q x) → (o : Option A) → Opt P o → Opt Q o
+  Opt-map f none h = tt
+  Opt-map f (some x) h = f x h
+
+  pub Opt-with : {X : Type 0} (P : A → Type 0) (o : Option A) → Opt P o → X → Opt (λ y. P y × X) o
+  Opt-with P o h x = Opt-map (λ y p. (p, x)) o h
+
+  pub All-kept : (P : A → Type 0) (q : A → Bool) (l : List A) → All P l → All (λ x. P x × (q x ≡ true)) (keep q l)
+  unfolding keep
+  All-kept P q [] h = tt
+  All-kept P q (x ∷ l) h =
+      All-put (λ x. P x × (q x ≡ true)) (q x) x (keep q l) (λ e. (h .0, e)) (All-kept P q l (h .1))

@@ -1,7 +1,12 @@
--- What a test of several tells.
+-- What a test of several tells, and two tests with one answer.
 use mathlib.Core.Bool.{Bool, true, false, not, _&&_, _||_, true≢false}
-use mathlib.Core.Path.{_≡_, refl, sym}
+use mathlib.Core.Path.{_≡_, refl, sym, _∙_, ap}
 use mathlib.Core.List.{List, [], _∷_}
+use Prim.Native.Nat.{ℕ, _≤_}
+use native.Mathlib.Nat.{lt-of-not-le}
+use native.Mathlib.Decide.{decLe, ℕ-discrete}
+use lib.Dec.{eqb, leb}
+use borrow.Author.Tests.{le-leb, lt-leb, eq-eqb, ne-eqb}
 
 pub and-left : (x y : Bool) → (x && y) ≡ true → x ≡ true
 and-left true y e = refl
@@ -25,3 +30,23 @@ or-cases false y f g e = g e
 abbrev pub conj : Bool → List Bool → Bool
 conj a [] = a
 conj a (b ∷ l) = conj (a && b) l
+
+-- Two comparisons with one answer
+pub eqb-alike : (X Y x y : ℕ) → (X ≡ Y → x ≡ y) → (x ≡ y → X ≡ Y) → eqb X Y ≡ eqb x y
+eqb-alike X Y x y f g = go (ℕ-discrete x y)
+  where
+    go : Dec (x ≡ y) → eqb X Y ≡ eqb x y
+    go (yes k) = eq-eqb X Y (g k) ∙ sym (eq-eqb x y k)
+    go (no k) = ne-eqb X Y (λ e. k (f e)) ∙ sym (ne-eqb x y k)
+
+pub leb-alike : (X Y x y : ℕ) → (X ≤ Y → x ≤ y) → (x ≤ y → X ≤ Y) → leb X Y ≡ leb x y
+leb-alike X Y x y f g = go (decLe x y)
+  where
+    go : Dec (x ≤ y) → leb X Y ≡ leb x y
+    go (yes k) = le-leb X Y (g k) ∙ sym (le-leb x y k)
+    go (no k) = lt-leb X Y (lt-of-not-le (λ e. k (f e))) ∙ sym (lt-leb x y (lt-of-not-le k))
+
+-- what counts only where the first test holds
+pub and-then : (b c : Bool) {X x : Bool} → (b ≡ true → X ≡ x) → (b && c && X) ≡ (b && c && x)
+and-then true c f = ap (λ y. c && y) (f refl)
+and-then false c f = refl

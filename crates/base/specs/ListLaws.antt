@@ -1,16 +1,19 @@
 -- Laws of the small functions over lists.
-use mathlib.Core.Bool.{Bool, true, false, not, _&&_, _||_, true≢false, or-true, or-assoc}
+use mathlib.Core.Bool.{Bool, true, false, _&&_, _||_, true≢false, or-true, or-assoc}
 use mathlib.Core.Path.{_≡_, refl, sym, _∙_, ap}
-use mathlib.Core.List.{List, [], _∷_, _++_}
-use mathlib.Core.Option.{Option, none, some}
+use mathlib.Core.List.{List, [], _∷_, _++_, map}
+use mathlib.Core.Logic.{_⊎_, ⊎-elim}
+use mathlib.Core.Option.{Option, none, some, Option·map}
 use Prim.Native.Nat.{ℕ, zero, suc, _+_, _-_, _<_, _≤_}
 use native.Mathlib.Omega.{arith}
 use native.Mathlib.Decide.{decLe}
 use lib.Dec.{eqb, leb}
-use lib.ListN.{length, take, drop}
+use lib.ListN.{length, take, drop, replicate}
 use borrow.Author.Tests.{le-leb, lt-leb, leb-true, eq-eqb, ne-eqb, eqb-true}
 use Rattle.base.specs.Bools.{and-left, and-right}
-use Rattle.base.specs.Lists.{put, keep, any, tail, empty, holds, front, after, or-else, same, starts}
+use Rattle.base.specs.Pick.{pick}
+use Rattle.base.specs.Lists.{put, keep, any, tail, empty, holds, front, after, best-of, best, is, or-else, same, starts}
+use Rattle.base.specs.Alls.{All}
 
 -- `any` and `keep` of two lists, one behind the other
 pub any-append : {A : Type 0} (f : A → Bool) (l k : List A) → any f (l ++ k) ≡ (any f l || any f k)
@@ -142,3 +145,103 @@ starts-split (x ∷ a) (y ∷ b) e =
 pub or-none : {A : Type 0} (a b : Option A) → or-else a b ≡ none → (a ≡ none) × (b ≡ none)
 or-none none b e = (refl, e)
 or-none (some x) b e = absurd (let w : _≡_ {A = ℕ} 0 1 = cc in omega arith)
+
+module _ {A : Type 0} where
+  -- A test that none passes
+  pub any-none : (P : A → Type 0) (f : A → Bool) (l : List A) → All P l → ((x : A) → P x → f x ≡ false)
+      → any f l ≡ false
+  unfolding any
+  any-none P f [] h k = refl
+  any-none P f (x ∷ l) h k = rw (k x (h .0)) (any-none P f l (h .1) k)
+
+  pub keep-none : (P : A → Type 0) (f : A → Bool) (l : List A) → All P l → ((x : A) → P x → f x ≡ false)
+      → keep f l ≡ []
+  unfolding keep
+  keep-none P f [] h k = refl
+  keep-none P f (x ∷ l) h k = rw (k x (h .0)) (keep-none P f l (h .1) k)
+
+  -- where nothing is kept, none has passed
+  pub keep-nothing : (q : A → Bool) (l : List A) → keep q l ≡ [] → All (λ x. q x ≡ false) l
+  unfolding keep
+  keep-nothing q [] e = tt
+  keep-nothing q (x ∷ l) e = go (q x) refl e (keep-nothing q l)
+    where
+      go : (b : Bool) → q x ≡ b → put b x (keep q l) ≡ [] → (keep q l ≡ [] → All (λ x. q x ≡ false) l)
+          → All (λ x. q x ≡ false) (x ∷ l)
+      go true z e f = absurd (let w : _≡_ {A = ℕ} 0 1 = cc in omega arith)
+      go false z e f = (z, f e)
+
+  -- A list moved by `s`
+  pub any-map : (f g : A → Bool) (s : A → A) → ((x : A) → f (s x) ≡ g x) → (l : List A) → any f (map s l) ≡ any g l
+  unfolding any
+  any-map f g s q [] = refl
+  any-map f g s q (x ∷ l) = rw (q x, any-map f g s q l)
+
+  pub keep-map : (q r : A → Bool) (s : A → A) (l : List A) → All (λ x. q (s x) ≡ r x) l
+      → keep q (map s l) ≡ map s (keep r l)
+  unfolding keep
+  keep-map q r s [] h = refl
+  keep-map q r s (x ∷ l) h = rw (h .0, keep-map q r s l (h .1)) (go (r x))
+    where
+      go : (b : Bool) → put b (s x) (map s (keep r l)) ≡ map s (put b x (keep r l))
+      go true = refl
+      go false = refl
+
+  best-of-map : (c : A → A → Bool) (s : A → A) → ((x y : A) → c (s x) (s y) ≡ c x y)
+      → (x : A) (l : List A) → best-of c (s x) (map s l) ≡ s (best-of c x l)
+  unfolding best-of pick
+  best-of-map c s q x [] = refl
+  best-of-map c s q x (y ∷ l) =
+      ap (λ b. best-of c (pick b (s y) (s x)) (map s l)) (q y x) ∙ go (c y x) (λ z. best-of-map c s q z l)
+    where
+      go : (b : Bool) → ((z : A) → best-of c (s z) (map s l) ≡ s (best-of c z l))
+          → best-of c (pick b (s y) (s x)) (map s l) ≡ s (best-of c (pick b y x) l)
+      go true k = k y
+      go false k = k x
+
+  pub best-map : (c : A → A → Bool) (s : A → A) → ((x y : A) → c (s x) (s y) ≡ c x y)
+      → (l : List A) → best c (map s l) ≡ Option·map s (best c l)
+  unfolding best
+  best-map c s q [] = refl
+  best-map c s q (x ∷ l) = ap some (best-of-map c s q x l)
+
+  pub is-map : (q : A → Bool) (s : A → A) → ((x : A) → q (s x) ≡ q x) → (o : Option A)
+      → is q (Option·map s o) ≡ is q o
+  is-map q s k none = refl
+  is-map q s k (some x) = k x
+
+  -- the head of a moved list is a moved head
+  pub map-uncons : (s : A → A) (X : A) (K xs : List A) → X ∷ K ≡ map s xs
+      → (x : A) × (ys : List A) × (xs ≡ x ∷ ys) × (X ≡ s x) × (K ≡ map s ys)
+  map-uncons s X K [] e = absurd (let z : _≡_ {A = ℕ} 0 1 = cc in omega arith)
+  map-uncons s X K (x ∷ xs) e = (x, xs, refl, cc, cc)
+
+  pub take-replicate : (x : A) (n k : ℕ) → n ≤ k → take n (replicate k x) ≡ replicate n x
+  take-replicate x zero k l = refl
+  take-replicate x (suc n) zero l = absurd (omega arith)
+  take-replicate x (suc n) (suc k) l = ap (λ r. x ∷ r) (take-replicate x n k (omega arith))
+
+  -- Kept twice: first what the second test keeps anyway; in either order
+  pub keep-keep : (q r : A → Bool) (l : List A) → All (λ x. (q x ≡ false) ⊎ (r x ≡ true)) l
+      → keep q l ≡ keep q (keep r l)
+  unfolding keep
+  keep-keep q r [] h = refl
+  keep-keep q r (x ∷ l) h = ⊎-elim
+      (λ e. ap (λ b. put b x (keep q l)) e ∙ keep-keep q r l (h .1) ∙ go (r x) e)
+      (λ e. ap (put (q x) x) (keep-keep q r l (h .1)) ∙ ap (λ b. keep q (put b x (keep r l))) (sym e)) (h .0)
+    where
+      go : (b : Bool) → q x ≡ false → keep q (keep r l) ≡ keep q (put b x (keep r l))
+      go true e = rw e
+      go false e = refl
+
+  pub keep-swap : (q r : A → Bool) (l : List A) → keep q (keep r l) ≡ keep r (keep q l)
+  unfolding keep
+  keep-swap q r [] = refl
+  keep-swap q r (x ∷ l) = go (q x) (r x) refl refl (keep-swap q r l)
+    where
+      go : (b c : Bool) → q x ≡ b → r x ≡ c → keep q (keep r l) ≡ keep r (keep q l)
+          → keep q (put c x (keep r l)) ≡ keep r (put b x (keep q l))
+      go true true e f h = rw (e, f) (ap (λ k. x ∷ k) h)
+      go true false e f h = rw f h
+      go false true e f h = rw e h
+      go false false e f h = h

@@ -1,6 +1,6 @@
 -- A table as a list of rows: the first row of what is left, and the rest past its size. The law of a walk asks only that each size is above 0.
 use Prim.Native.Nat.{ℕ, zero, suc, _+_, _-_, _<_, _≤_}
-use mathlib.Core.Path.{_≡_, refl, sym, ap, _∙_}
+use mathlib.Core.Path.{_≡_, refl, ap}
 use mathlib.Core.List.{List, [], _∷_}
 use native.Mathlib.Omega.{arith}
 use lib.ListN.{length, drop, length-drop}
@@ -8,21 +8,21 @@ use lib.Seq.{drop-drop}
 
 -- every row is as `P` says of what is left there
 pub data Each (P : List ℕ → Type 0) (size : List ℕ → ℕ) : List ℕ → Type 0 where
-  over : {s : List ℕ} → length s ≡ 0 → Each P size s
-  more : {s : List ℕ} → P s → Each P size (drop (size s) s) → Each P size s
+  no-row : {s : List ℕ} → length s ≡ 0 → Each P size s
+  row-then : {s : List ℕ} → P s → Each P size (drop (size s) s) → Each P size s
 
 module _ {P : List ℕ → Type 0} {size : List ℕ → ℕ} where
   pub each-here : {s : List ℕ} → Each P size s → 0 < length s → P s
-  each-here (over e) h = absurd (omega arith)
-  each-here (more p r) h = p
+  each-here (no-row e) h = absurd (omega arith)
+  each-here (row-then p r) h = p
 
   pub each-next : {s : List ℕ} → Each P size s → 0 < length s → Each P size (drop (size s) s)
-  each-next (over e) h = absurd (omega arith)
-  each-next (more p r) h = r
+  each-next (no-row e) h = absurd (omega arith)
+  each-next (row-then p r) h = r
 
 pub each-map : {P Q : List ℕ → Type 0} {size : List ℕ → ℕ} → ((s : List ℕ) → P s → Q s) → {s : List ℕ} → Each P size s → Each Q size s
-each-map f (over e) = over e
-each-map f (more {s} p r) = more (f s p) (each-map f r)
+each-map f (no-row e) = no-row e
+each-map f (row-then {s} p r) = row-then (f s p) (each-map f r)
 
 module _ {A : Type 0} (one : List ℕ → A) (size : List ℕ → ℕ) where
   unfoldable pub rowsBy : ℕ → List ℕ → List A

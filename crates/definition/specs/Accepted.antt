@@ -1,11 +1,10 @@
 -- What a call has checked when it refuses nothing of 1 to 8: its tables' rows are right, and its text is short enough.
-use mathlib.Core.Bool.{Bool, true, false, not}
+use mathlib.Core.Bool.{Bool, true, false}
 use mathlib.Core.Path.{_≡_, refl}
-use mathlib.Core.List.{List, [], _∷_}
+use mathlib.Core.List.{List, []}
 use mathlib.Core.Option.{Option, none, some}
-use Prim.Native.Nat.{ℕ, _+_, _≤_, _<_}
+use Prim.Native.Nat.{ℕ, _≤_, _<_}
 use native.Mathlib.Omega.{arith}
-use lib.Dec.{ltb}
 use lib.ListN.{length, drop}
 use borrow.Author.Tests.{ltb-false, le-ltb, not-false}
 use Rattle.base.specs.Pick.{pick}

@@ -1,24 +1,24 @@
 -- Why code 13 is absent. `add_alternatives` would also add "rom-alt2", the rule's target, where the target is the edge's
 -- text: but that span and text are the edge's own, and so listed already. Here it is with that step, and it is the same.
 use mathlib.Core.Bool.{Bool, true, false, _&&_, _||_, or-true}
-use mathlib.Core.Path.{_≡_, refl, sym, ap, _∙_}
-use mathlib.Core.List.{List, [], _∷_, _++_}
+use mathlib.Core.Path.{_≡_, refl, ap, _∙_}
+use mathlib.Core.List.{List, [], _∷_}
 use mathlib.Core.Option.{Option, none, some}
-use Prim.Native.Nat.{ℕ}
 use lib.Dec.{eqb}
 use borrow.Author.Tests.{eq-eqb}
-use Rattle.base.specs.Pick.{pick, pick-ind, pick-all}
+use Rattle.base.specs.Pick.{pick, pick-ind}
 use Rattle.base.specs.Bools.{and-right}
 use Rattle.base.specs.Lists.{put, keep, any, has, is, maybe, same}
 use Rattle.base.specs.ListLaws.{same-refl, same-true}
-use Rattle.base.specs.Alls.{All, All-map}
-use Rattle.definition.specs.Notes.{note-alt, note-alt2, note-alt3}
+use Rattle.base.specs.Alls.{All, All-each, All-map}
+use Rattle.definition.specs.Notes.{note-alt2}
 use Rattle.definition.specs.Texts.{Text}
 use Rattle.definition.specs.Tables.{Rule, Lexicon, Tables, lexicon}
 use Rattle.definition.specs.Edges.{Edge, View, Mem, M, State, starting, new-in, view, ret, _>>=_}
 use Rattle.definition.specs.Rules.{valids}
-use Rattle.definition.specs.Paths.{akin, other, also-all, by-target, by-end-target, by-rule, by-rules, by-edges, path-of, with-alternatives-of}
-use Rattle.definition.specs.Growth.{Added, added-not, added-twice, added-new, found-added}
+use Rattle.definition.specs.Paths.{akin, other, by-target, by-end-target, by-rule, by-rules, by-edges, path-of, with-alternatives-of}
+use Rattle.definition.specs.Growth.{Added, found-added}
+use Rattle.definition.specs.Alternatives.{Gives, gives-any, by-target-added, by-rule-added, by-rules-added}
 
 -- With "rom-alt2", as published
 unfoldable pub by-text : Edge → Rule → List Edge → Text → List Edge
@@ -68,32 +68,9 @@ in-own (x ∷ es) = (first, All-map later es (in-own es))
         go true = unfold any in (ap (λ c. akin y x || c) h ∙ or-true (akin y x))
         go false = h
 
--- the steps only append
-also-more : (x : Edge) (more : Text) (ws : List Text) (seen : List Edge) → More seen (also-all x more ws seen)
-unfolding also-all
-also-more x more [] seen = added-not seen
-also-more x more (w ∷ ws) seen = added-twice (added-new akin seen (other x note-alt (w ++ more)) tt) (also-more x more ws _)
-
-target-more : (x : Edge) (r : Rule) (seen : List Edge) (w : Text) → More seen (by-target x r seen w)
-unfolding by-target
-target-more x r seen w = pick-all (More seen) _ (also-more x _ (r .others) seen) (added-not seen)
-
-end-more : (x : Edge) (r : Rule) (seen : List Edge) (w : Text) → More seen (by-end-target x r seen w)
-unfolding by-end-target
-end-more x r seen w = pick-all (More seen) _ (added-new akin seen (other x note-alt3 w) tt) (added-not seen)
-
-rule-more : (x : Edge) (r : Rule) (seen : List Edge) → More seen (by-rule x r seen)
-unfolding by-rule
-rule-more x r seen = go (r .target)
-  where
-    go : (o : Option Text) → More seen (maybe o seen (λ w. by-end-target x r (by-target x r seen w) w))
-    go none = unfold maybe in added-not seen
-    go (some w) = unfold maybe in added-twice (target-more x r seen w) (end-more x r (by-target x r seen w) w)
-
-rules-more : (x : Edge) (rs : List Rule) (seen : List Edge) → More seen (by-rules x rs seen)
-unfolding by-rules
-rules-more x [] seen = added-not seen
-rules-more x (r ∷ rs) seen = added-twice (rule-more x r seen) (rules-more x rs (by-rule x r seen))
+-- whatever its texts, a rule only adds
+any-gives : (x : Edge) (r : Rule) → Gives (λ y. Unit {0}) x r
+any-gives x r = gives-any x (λ k w. tt) r
 
 -- so the step adds nothing
 text-nothing : (x : Edge) (r : Rule) (seen : List Edge) (w : Text) → In seen x → by-text x r seen w ≡ seen
@@ -112,13 +89,13 @@ rule-same x r seen h = go (r .target)
         ≡ maybe o seen (λ w. by-end-target x r (by-target x r seen w) w)
     go none = unfold maybe in refl
     go (some w) = unfold maybe in
-        ap (λ l. by-end-target x r l w) (text-nothing x r (by-target x r seen w) w (in-more (target-more x r seen w) x h))
+        ap (λ l. by-end-target x r l w) (text-nothing x r (by-target x r seen w) w (in-more (by-target-added x r seen w (any-gives x r)) x h))
 
 rules-same : (x : Edge) (rs : List Rule) (seen : List Edge) → In seen x → published-rules x rs seen ≡ by-rules x rs seen
 unfolding published-rules by-rules
 rules-same x [] seen h = refl
 rules-same x (r ∷ rs) seen h =
-    ap (published-rules x rs) (rule-same x r seen h) ∙ rules-same x rs (by-rule x r seen) (in-more (rule-more x r seen) x h)
+    ap (published-rules x rs) (rule-same x r seen h) ∙ rules-same x rs (by-rule x r seen) (in-more (by-rule-added x r seen (any-gives x r)) x h)
 
 module _ (L : Lexicon) (t : Text) (v : View) where
   edges-same : (xs seen : List Edge) → All (In seen) xs → (m : Mem) → published-edges L t v xs seen m ≡ by-edges L t v xs seen m
@@ -127,7 +104,7 @@ module _ (L : Lexicon) (t : Text) (v : View) where
   edges-same (x ∷ xs) seen h m =
       let rs = valids L t v (x .from) (x .to) m in
       ap (λ l. published-edges L t v xs l (rs .1)) (rules-same x (rs .0) seen (h .0))
-      ∙ edges-same xs (by-rules x (rs .0) seen) (All-map (in-more (rules-more x (rs .0) seen)) xs (h .1)) (rs .1)
+      ∙ edges-same xs (by-rules x (rs .0) seen) (All-map (in-more (by-rules-added x (rs .0) seen (All-each _ (any-gives x) (rs .0)))) xs (h .1)) (rs .1)
 
 -- What `add_alternatives` lists, "rom-alt2" and all, is mode 2's list
 pub alt2-absent : (D : Tables) (t : Text) (st : State)

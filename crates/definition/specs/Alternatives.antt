@@ -1,25 +1,23 @@
 -- The alternatives: they only follow the path, and each has its edge's span and a text of 68 bytes at most.
-use mathlib.Core.Bool.{Bool, true, false, _&&_, _||_}
+use mathlib.Core.Bool.{true}
 use mathlib.Core.Path.{_≡_, refl, sym, ap, _∙_, subst}
 use mathlib.Core.List.{List, [], _∷_, _++_}
 use mathlib.Core.Logic.{_⊎_, inl, inr}
 use mathlib.Core.Option.{Option, none, some}
 use Prim.Native.Nat.{ℕ, zero, suc, _+_, _≤_, _<_}
 use native.Mathlib.Omega.{arith}
-use lib.Dec.{eqb}
-use lib.ListN.{length, take, drop}
+use lib.ListN.{length, drop}
 use lib.Seq.{drop-append-seam}
 use borrow.Author.Tests.{eqb-true}
 use Rattle.base.specs.Pick.{pick, pick-all, pick-ind}
 use Rattle.base.specs.Bools.{and-left}
-use Rattle.base.specs.Lists.{all, is, maybe, same, best}
-use Rattle.base.specs.Alls.{All, All-map, All-append, All-keep, All-best, Opt, maybe-all, all-all}
+use Rattle.base.specs.Lists.{all, is}
+use Rattle.base.specs.Alls.{All, All-each, All-map, All-append, All-keep, All-best, Opt, Opt-any, Opt-map, maybe-all, all-all}
 use Rattle.definition.specs.Limits.{most-target, most-vowel, most-alternative}
-use Rattle.definition.specs.Notes.{note-core, note-orig, note-alt, note-alt2, note-alt3}
-use Rattle.definition.specs.Texts.{Text, among, vowels}
-use Rattle.definition.specs.Tables.{Rule, Lexicon, Tables, lexicon}
-use Rattle.definition.specs.Edges.{Edge, View, M, State, starting, right-best, new-in, view, ret, _>>=_}
-use Rattle.definition.specs.Rules.{valids}
+use Rattle.definition.specs.Notes.{note-core, note-alt, note-alt2, note-alt3}
+use Rattle.definition.specs.Texts.{Text, vowels}
+use Rattle.definition.specs.Tables.{Rule, Lexicon, lexicon}
+use Rattle.definition.specs.Edges.{Edge, View, M, starting, right-best, new-in, view}
 use Rattle.definition.specs.Building.{lattice}
 use Rattle.definition.specs.Capacity.{bytes}
 use Rattle.definition.specs.Paths.{join, next, path-from, akin, other, also-all, cored, by-target, by-end-target, by-rule, by-rules, by-edges, path-of, with-alternatives-of, path, with-alternatives, alternatives}
@@ -31,8 +29,53 @@ use Rattle.definition.specs.Posts.{Post, post-ret, post-bind, valids-all
 use Rattle.definition.specs.Letters.{among-all}
 use Rattle.definition.specs.ExpandBounds.{Spoken}
 use Rattle.definition.specs.Cores.{Syllable}
-use Rattle.definition.specs.Bounds.{Bounded, Sound, lattice-sound}
+use Rattle.definition.specs.Bounds.{Sound, lattice-sound}
 use Rattle.definition.specs.Promises.{bounded}
+
+-- What the rules of an edge add, each of it as `P` says, where each rule's texts would give such edges
+abbrev pub edge-vowel : Edge → Text → Text
+edge-vowel x w = pick (cored x w) (drop (x .core) (x .text)) []
+
+pub record Gives (P : Edge → Type 0) (x : Edge) (r : Rule) : Type 0 where
+  pub others : (w : Text) → All (λ u. P (other x note-alt (u ++ edge-vowel x w))) (r .others)
+  pub target : Opt (λ w. P (other x note-alt3 w)) (r .target)
+
+-- any texts would
+pub gives-any : {P : Edge → Type 0} (x : Edge) → ((k : ℕ) (w : Text) → P (other x k w)) → (r : Rule) → Gives P x r
+gives-any {P} x f r = record {
+  others = λ w. All-each _ (λ u. f note-alt (u ++ edge-vowel x w)) (r .others);
+  target = Opt-map (λ w t. f note-alt3 w) (r .target) (Opt-any (r .target));
+}
+
+module _ {P : Edge → Type 0} (x : Edge) where
+  also-all-added : (more : Text) (ws : List Text) (seen : List Edge) → All (λ u. P (other x note-alt (u ++ more))) ws
+      → Added P seen (also-all x more ws seen)
+  unfolding also-all
+  also-all-added more [] seen h = added-not seen
+  also-all-added more (w ∷ ws) seen h = added-twice
+      (added-new akin seen (other x note-alt (w ++ more)) (h .0))
+      (also-all-added more ws (new-in akin seen (other x note-alt (w ++ more))) (h .1))
+
+  pub by-target-added : (r : Rule) (seen : List Edge) (w : Text) → Gives P x r → Added P seen (by-target x r seen w)
+  unfolding by-target
+  by-target-added r seen w g =
+      pick-all (Added P seen) _ (also-all-added (edge-vowel x w) (r .others) seen (g .others w)) (added-not seen)
+
+  by-end-added : (r : Rule) (seen : List Edge) (w : Text) → P (other x note-alt3 w) → Added P seen (by-end-target x r seen w)
+  unfolding by-end-target
+  by-end-added r seen w h = pick-all (Added P seen) _ (added-new akin seen (other x note-alt3 w) h) (added-not seen)
+
+  pub by-rule-added : (r : Rule) (seen : List Edge) → Gives P x r → Added P seen (by-rule x r seen)
+  unfolding by-rule
+  by-rule-added r seen g =
+      maybe-all (Added P seen) (λ w. P (other x note-alt3 w)) (r .target) (g .target) (added-not seen)
+      (λ w h. added-twice (by-target-added r seen w g) (by-end-added r (by-target x r seen w) w h))
+
+  pub by-rules-added : (rs : List Rule) (seen : List Edge) → All (Gives P x) rs → Added P seen (by-rules x rs seen)
+  unfolding by-rules
+  by-rules-added [] seen h = added-not seen
+  by-rules-added (r ∷ rs) seen h =
+      added-twice (by-rule-added r seen (h .0)) (by-rules-added rs (by-rule x r seen) (h .1))
 
 -- An alternative within a text of `n`
 pub record Alternative (n : ℕ) (x : Edge) : Type 0 where
@@ -47,16 +90,15 @@ vowels-low : (c : ℕ) → vowels c ≡ true → Low c
 unfolding vowels
 vowels-low = among-all "aeiou" Low (omega arith, (omega arith, (omega arith, (omega arith, (omega arith, tt)))))
 
-vowel-short : (text : Text) (core : ℕ) → Syllable text core → Short most-vowel (drop core text)
-vowel-short text core y =
-    let e : drop core text ≡ y .then = ap (λ n. drop n text) (y .size) ∙ ap (drop (length (y .first))) (y .whole) ∙ drop-append-seam (y .first) (y .then) in
+then-short : (text : Text) (core : ℕ) → Syllable text core → Short most-vowel (drop core text)
+then-short text core y =
+    let e : drop core text ≡ y .then =
+    ap (λ n. drop n text) (y .size) ∙ ap (drop (length (y .first))) (y .whole) ∙ drop-append-seam (y .first) (y .then) in
     subst (Short most-vowel) (sym e) (record { long = y .few; low = all-all Low vowels vowels-low (y .then) (y .vowels) })
 
 module _ (n : ℕ) (x : Edge) (sound : Sound n x) where
-  abbrev New : List Edge → List Edge → Type 0
-  New es fs = Added (Alternative n) es fs
-
-  other-alternative : (note : ℕ) (w : Text) → (note ≡ note-alt) ⊎ (note ≡ note-alt3) → Short most-alternative w → Alternative n (other x note w)
+  other-alternative : (note : ℕ) (w : Text) → (note ≡ note-alt) ⊎ (note ≡ note-alt3) → Short most-alternative w
+      → Alternative n (other x note w)
   unfolding other bytes
   other-alternative note w k s = record {
     forward = sound .forward;
@@ -66,46 +108,25 @@ module _ (n : ℕ) (x : Edge) (sound : Sound n x) where
     short = rw (encoded-low w (s .low)) (s .long);
   }
 
-  also-all-new : (more : Text) (ws : List Text) (seen : List Edge) → Short most-vowel more → All (Short most-target) ws
-      → New seen (also-all x more ws seen)
-  unfolding also-all
-  also-all-new more [] seen h k = added-not seen
-  also-all-new more (w ∷ ws) seen h k = added-twice
-      (added-new akin seen (other x note-alt (w ++ more)) (other-alternative note-alt (w ++ more) (inl refl) (short-append most-target most-vowel (k .0) h)))
-      (also-all-new more ws (new-in akin seen (other x note-alt (w ++ more))) h (k .1))
-
-  more-short : (w : Text) → Short most-vowel (pick (cored x w) (drop (x .core) (x .text)) [])
+  vowel-short : (w : Text) → Short most-vowel (edge-vowel x w)
   unfolding cored
-  more-short w = pick-ind (Short most-vowel) _ _ _
-      (λ e. vowel-short (x .text) (x .core) (sound .core .there (eqb-true (x .note) note-core (and-left _ _ e))))
+  vowel-short w = pick-ind (Short most-vowel) _ _ _
+      (λ e. then-short (x .text) (x .core) (sound .core .there (eqb-true (x .note) note-core (and-left _ _ e))))
       (λ e. short-none most-vowel)
 
-  by-target-new : (r : Rule) (seen : List Edge) (w : Text) → Spoken r → New seen (by-target x r seen w)
-  unfolding by-target
-  by-target-new r seen w q =
-      pick-all (New seen) _ (also-all-new (pick (cored x w) (drop (x .core) (x .text)) []) (r .others) seen (more-short w) (q .others)) (added-not seen)
-
-  by-end-new : (r : Rule) (seen : List Edge) (w : Text) → Short most-target w → New seen (by-end-target x r seen w)
-  unfolding by-end-target
-  by-end-new r seen w h =
-      pick-all (New seen) _ (added-new akin seen (other x note-alt3 w) (other-alternative note-alt3 w (inr refl) (short-wide most-target (omega arith) h))) (added-not seen)
-
-  by-rule-new : (r : Rule) (seen : List Edge) → Spoken r → New seen (by-rule x r seen)
-  unfolding by-rule
-  by-rule-new r seen q = maybe-all (New seen) (Short most-target) (r .target) (q .target) (added-not seen)
-      (λ w h. added-twice (by-target-new r seen w q) (by-end-new r (by-target x r seen w) w h))
-
-  by-rules-new : (rs : List Rule) (seen : List Edge) → All Spoken rs → New seen (by-rules x rs seen)
-  unfolding by-rules
-  by-rules-new [] seen h = added-not seen
-  by-rules-new (r ∷ rs) seen h = added-twice (by-rule-new r seen (h .0)) (by-rules-new rs (by-rule x r seen) (h .1))
+  spoken-gives : (r : Rule) → Spoken r → Gives (Alternative n) x r
+  spoken-gives r q = record {
+    others = λ w. All-map (λ u s. other-alternative note-alt (u ++ edge-vowel x w) (inl refl)
+        (short-append most-target most-vowel s (vowel-short w))) (r .others) (q .others);
+    target = Opt-map (λ w s. other-alternative note-alt3 w (inr refl) (short-wide most-target (omega arith) s)) (r .target) (q .target);
+  }
 
 module _ (L : Lexicon) (t : Text) (v : View) (n : ℕ) (spoken : All Spoken (L .rules)) where
   by-edges-new : (xs seen : List Edge) → All (Sound n) xs → Post (List Edge) (Added (Alternative n) seen) (by-edges L t v xs seen)
   unfolding by-edges
   by-edges-new [] seen h = post-ret seen (added-not seen)
   by-edges-new (x ∷ xs) seen h = post-bind (All Spoken) _ (valids-all L t v Spoken (x .from) (x .to) spoken)
-      (λ rs q. after (by-rules-new n x (h .0) rs seen q) (by-edges-new xs (by-rules x rs seen) (h .1)))
+      (λ rs q. after (by-rules-added x rs seen (All-map (spoken-gives n x (h .0)) rs q)) (by-edges-new xs (by-rules x rs seen) (h .1)))
     where
       after : {es fs : List Edge} {f : M (List Edge)} → Added (Alternative n) es fs → Post (List Edge) (Added (Alternative n) fs) f
           → Post (List Edge) (Added (Alternative n) es) f

@@ -1,19 +1,19 @@
 -- A block checked row by row: one law for each way that the walk can turn, and what a block without fault has.
 use mathlib.Core.Bool.{Bool, true, false, _&&_}
-use mathlib.Core.Path.{_≡_, refl, sym, ap, _∙_}
+use mathlib.Core.Path.{_≡_, refl, sym, _∙_}
 use mathlib.Core.List.{List, [], _∷_}
-use mathlib.Core.Option.{Option, none, some}
-use Prim.Native.Nat.{ℕ, zero, suc, _+_, _-_, _≤_, _<_}
+use mathlib.Core.Option.{none, some}
+use Prim.Native.Nat.{ℕ, zero, suc, _-_, _≤_, _<_}
 use native.Mathlib.Omega.{arith}
 use lib.Dec.{ltb}
 use lib.ListN.{length, drop, length-drop}
 use borrow.Author.Tests.{lt-ltb, ltb-true, eq-eqb, ne-eqb}
 use Rattle.base.specs.Pick.{pick, pick-ind}
 use Rattle.base.specs.Bools.{and-left, and-right}
-use Rattle.base.specs.Turn.{Turn, again, stop, turns, Lower, whole-again, whole-stop}
+use Rattle.base.specs.Turn.{Lower, whole-again, whole-stop}
 use Rattle.base.specs.Lists.{empty}
 use Rattle.base.specs.ListLaws.{empty-is, none-left, some-left}
-use Rattle.base.specs.Rows.{Each, over, more, rows, rows-nil, rows-cons}
+use Rattle.base.specs.Rows.{Each, no-row, row-then, rows, rows-nil, rows-cons}
 use Rattle.base.specs.Alls.{All, All-map, Ordered}
 use Rattle.definition.specs.Blocks.{Walk, head-bytes, headed, past, row-turn, fault-from, begin, fault}
 
@@ -28,8 +28,8 @@ module _ {K : Type 0} (size : List ℕ → ℕ) (mark : List ℕ → K) (right :
   Right s = (k : K) × (right k s ≡ true)
 
   pub chain-each : {n : ℕ} {k : K} {s : List ℕ} → Chain n k s → Each Right size s
-  chain-each (ended e) = over e
-  chain-each (linked {n} {k} p c) = more (k, p) (chain-each c)
+  chain-each (ended e) = no-row e
+  chain-each (linked {n} {k} p c) = row-then (k, p) (chain-each c)
 
   -- a row has a size
   module _ (moves : (s : List ℕ) → 0 < size s) where

@@ -1,8 +1,8 @@
 -- Start of word and end of word (`word_boundaries.rs`). End of syllable needs rule choice, and is in Syllables.
 -- A position outside the text reads as a space, which in an accepted table is no letter or mark (Blank).
-use mathlib.Core.Bool.{Bool, true, false, not, _&&_}
-use mathlib.Core.List.{List, [], _∷_}
-use Prim.Native.Nat.{ℕ, zero, suc, _+_}
+use mathlib.Core.Bool.{Bool, not, _&&_}
+use mathlib.Core.List.{List}
+use Prim.Native.Nat.{ℕ, zero, suc}
 use lib.Dec.{eqb}
 use lib.ListN.{getD}
 use Rattle.base.specs.Lists.{any, is}

@@ -1,23 +1,22 @@
 -- Every edge of the lattice goes forward, lies within the text, has a text of 198 bytes at most, and a core as its
 -- text has it.
-use mathlib.Core.Bool.{Bool, true, false, not, _&&_, _||_}
+use mathlib.Core.Bool.{Bool, true, false}
 use mathlib.Core.Path.{_≡_, refl}
 use mathlib.Core.List.{List, [], _∷_, _++_}
 use mathlib.Core.Option.{Option, none, some}
 use Prim.Native.Nat.{ℕ, zero, suc, _+_, _-_, _≤_, _<_}
 use native.Mathlib.Omega.{arith}
-use lib.Dec.{eqb}
 use lib.ListN.{length, replicate, length-append}
-use Rattle.base.specs.Pick.{pick, pick-all}
-use Rattle.base.specs.Lists.{any, head, tail, is, maybe, bind}
+use Rattle.base.specs.Pick.{pick-all}
+use Rattle.base.specs.Lists.{any, is}
 use Rattle.base.specs.Alls.{All, All-append, Opt, maybe-all, bind-all}
 use Rattle.definition.specs.Limits.{most-target, most-vowel, most-bytes, most-source}
 use Rattle.definition.specs.Notes.{note-core, note-single, note-Mn, note-Cf, note-Co, note-Zs, note-orig}
 use Rattle.definition.specs.Texts.{Text, at, the-space}
 use Rattle.definition.specs.Utf8.{encode, encoded}
-use Rattle.definition.specs.Tables.{Rule, Vowel, Tables, lexicon}
+use Rattle.definition.specs.Tables.{Tables, lexicon}
 use Rattle.definition.specs.Classes.{class}
-use Rattle.definition.specs.Edges.{Edge, View, M, State, starting, covered, alike, new-in, add, view, ret, _>>=_}
+use Rattle.definition.specs.Edges.{Edge, View, M, State, starting, covered, alike, new-in, add, view}
 use Rattle.definition.specs.Rules.{is-prefix, simple}
 use Rattle.definition.specs.Syllables.{syllable-end, full}
 use Rattle.definition.specs.Building.{is-tail, without-plus, as-edge, single, fallback-plus, fallback-by, put-in, each, fallback-edge, edge-of, span-edge, rise, build, fall, lattice}

@@ -1,12 +1,12 @@
 -- Building edges (`romanize.rs`): each start's rising ends, then a fallback for each character left uncovered.
 use mathlib.Core.Bool.{Bool, true, false, not, _&&_, _||_}
-use mathlib.Core.List.{List, [], _∷_, _++_}
+use mathlib.Core.List.{List, [], _∷_}
 use mathlib.Core.Option.{Option, none, some}
 use Prim.Native.Nat.{ℕ, zero, suc, _+_}
 use lib.Dec.{eqb}
 use lib.ListN.{length, drop, replicate}
 use Rattle.base.specs.Pick.{pick}
-use Rattle.base.specs.Lists.{any, all, head, tail, is, maybe, same, starts}
+use Rattle.base.specs.Lists.{all, head, tail, is, maybe, same, starts}
 use Rattle.definition.specs.Limits.{most-source}
 use Rattle.definition.specs.Notes.{note-none, note-rom, note-core, note-tail, note-single, note-Mn, note-Cf, note-Co, note-Zs, note-orig}
 use Rattle.definition.specs.Texts.{Text, among, at, vowels, the-space, plus-sign, letter-n}

@@ -1,6 +1,6 @@
 -- What a right row has passed, test by test.
-use mathlib.Core.Bool.{Bool, true, false, not}
-use mathlib.Core.Path.{_≡_, refl}
+use mathlib.Core.Bool.{true, false, not}
+use mathlib.Core.Path.{_≡_}
 use mathlib.Core.List.{List, [], _∷_}
 use Prim.Native.Nat.{ℕ, _+_, _≤_, _<_}
 use lib.Dec.{eqb, leb, ltb}
@@ -9,7 +9,7 @@ use borrow.Author.Tests.{leb-true, ltb-true, eqb-true, eq-eqb, not-true}
 use Rattle.base.specs.Bools.{or-not}
 use Rattle.base.specs.Lists.{all, holds}
 use Rattle.base.specs.ListLaws.{holds-length}
-use Rattle.base.specs.Alls.{All, conj-all}
+use Rattle.base.specs.Alls.{conj-all}
 use Rattle.definition.specs.Limits.{most-source, most-codes, most-script, most-vowel}
 use Rattle.definition.specs.Texts.{Text, latin, the-space}
 use Rattle.definition.specs.Utf8.{scalar}

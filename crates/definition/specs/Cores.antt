@@ -1,29 +1,28 @@
 -- Why an edge's core needs no comparison: its text has it. Under `note-core` the text is consonants, which are the
 -- core, and then vowels, 4 at most; every other edge has none.
-use mathlib.Core.Bool.{Bool, true, false, not, _&&_, _||_, true≢false, and-false}
+use mathlib.Core.Bool.{Bool, true, false, not, _&&_}
 use mathlib.Core.Path.{_≡_, refl, sym, ap, _∙_, subst}
-use mathlib.Core.List.{List, [], _∷_, _++_, reverse, reverse-append}
-use mathlib.Core.Option.{Option, none, some}
-use Prim.Native.Nat.{ℕ, zero, suc, _+_, _-_, _≤_, _<_}
+use mathlib.Core.List.{[], _∷_, _++_, reverse, reverse-append}
+use mathlib.Core.Option.{Option, none}
+use Prim.Native.Nat.{ℕ, _+_, _-_, _≤_, _<_}
 use native.Mathlib.Omega.{arith}
 use native.Mathlib.Decide.{ℕ-discrete}
 use lib.Dec.{eqb}
-use lib.ListN.{length, take, drop, length-append, length-drop, length-reverse}
-use lib.Seq.{take-append-seam, drop-append-seam}
+use lib.ListN.{length, drop, length-drop, length-reverse}
 use borrow.Author.Tests.{eqb-true, not-true}
-use Rattle.base.specs.Pick.{pick, pick-all, pick-ind}
+use Rattle.base.specs.Pick.{pick, pick-all}
 use Rattle.base.specs.Bools.{and-left, and-right}
-use Rattle.base.specs.Lists.{all, head, tail, is, maybe, has, front, same, starts, empty, or-else, bind, keep}
+use Rattle.base.specs.Lists.{all, head, is, has, front, same, starts, bind, keep}
 use Rattle.base.specs.ListLaws.{same-none, same-true, some-left, starts-split}
-use Rattle.base.specs.Alls.{Opt, Opt-any, All, maybe-all, bind-all, or-else-all, all-reverse}
+use Rattle.base.specs.Alls.{Opt, Opt-any, maybe-all, bind-all, or-else-all, all-reverse}
 use Rattle.definition.specs.Limits.{most-vowel}
-use Rattle.definition.specs.Notes.{note-none, note-core, note-tail, note-rom, note-exp, note-del}
-use Rattle.definition.specs.Texts.{Text, at, prev, stands, consonants, vowels, last-is, the-space}
+use Rattle.definition.specs.Notes.{note-none, note-core, note-tail, note-rom, note-del}
+use Rattle.definition.specs.Texts.{Text, at, prev, consonants, vowels, last-is, the-space}
 use Rattle.definition.specs.Tables.{Lexicon}
-use Rattle.definition.specs.Edges.{Edge, View, M, ret, _>>=_, alike}
+use Rattle.definition.specs.Edges.{Edge, View, alike}
 use Rattle.definition.specs.Rules.{simple}
 use Rattle.definition.specs.Vowels.{consonant-only}
-use Rattle.definition.specs.Expansion.{Work, work, double, around, around-by, widen, framed, before, pre-vowel, silent, small-target, lengthens, trim-front, trim-back, trim, finish, grave, small-y, rest, o-ang-step, thai, by-script, expand}
+use Rattle.definition.specs.Expansion.{Work, work, double, around, around-by, widen, framed, before, pre-vowel, silent, small-target, trim-front, trim-back, trim, finish, grave, small-y, rest, o-ang-step, thai, by-script, expand}
 use Rattle.definition.specs.Building.{grown, as-edge}
 use Rattle.definition.specs.Posts.{Post, post-ret, post-bind, post-then, post-pick, post-maybe}
 use Rattle.definition.specs.VowelBounds.{Voiced}

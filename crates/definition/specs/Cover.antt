@@ -1,24 +1,24 @@
 -- The path covers the text: its edges abut, from the text's start to its end.
-use mathlib.Core.Bool.{true≢false, Bool, true, false, not, _&&_, _||_}
-use mathlib.Core.Path.{_≡_, refl, sym, _∙_, ap, subst}
+use mathlib.Core.Bool.{true≢false, Bool, true, false}
+use mathlib.Core.Path.{_≡_, refl, sym, _∙_, subst}
 use mathlib.Core.List.{List, [], _∷_, _++_}
 use mathlib.Core.Option.{Option, none, some}
-use Prim.Native.Nat.{ℕ, zero, suc, _+_, _-_, _*_, _≤_, _<_}
+use Prim.Native.Nat.{ℕ, zero, suc, _+_, _-_, _≤_, _<_}
 use native.Mathlib.Omega.{arith}
 use native.Mathlib.Decide.{decLt, ℕ-discrete}
 use lib.Dec.{eqb, ltb}
-use lib.ListN.{length, replicate}
+use lib.ListN.{length}
 use borrow.Author.Tests.{eqb-true, eq-eqb}
 use Rattle.base.specs.Pick.{pick, pick-ind}
 use Rattle.base.specs.Bools.{and-left}
-use Rattle.base.specs.Lists.{put, keep, any, best, best-of, maybe, head, tail, is}
+use Rattle.base.specs.Lists.{keep, any, best, maybe}
 use Rattle.base.specs.ListLaws.{any-implies}
 use Rattle.base.specs.Alls.{All, All-put, All-best, Opt}
-use Rattle.definition.specs.Texts.{Text, at, among}
+use Rattle.definition.specs.Texts.{Text}
 use Rattle.definition.specs.Tables.{Lexicon, Tables, lexicon}
-use Rattle.definition.specs.Edges.{Edge, View, M, State, starting, covered, right-best, alike, new-in, add, view}
+use Rattle.definition.specs.Edges.{Edge, View, State, starting, covered, right-best, alike, new-in, add, view}
 use Rattle.definition.specs.Rules.{simple}
-use Rattle.definition.specs.Building.{single, fallback-by, put-in, each, fallback-edge, build, fall, lattice}
+use Rattle.definition.specs.Building.{single, fallback-by, put-in, each, fallback-edge, fall, lattice}
 use Rattle.definition.specs.Paths.{join, next, path-from, path-of, path}
 use Rattle.definition.specs.Call.{Inputs, tables, characters, refusal}
 use Rattle.definition.specs.Accepted.{accepted-of}

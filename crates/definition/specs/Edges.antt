@@ -1,6 +1,6 @@
 -- The lattice's edges in adding order, what is asked of them, and what is remembered of word starts
 -- (`edge.rs`, `lattice/mod.rs`).
-use mathlib.Core.Bool.{Bool, true, false, not, _&&_, _||_}
+use mathlib.Core.Bool.{Bool, not, _&&_}
 use mathlib.Core.List.{List, [], _∷_, _++_}
 use mathlib.Core.Option.{Option, none, some}
 use Prim.Native.Nat.{ℕ, zero, suc, _+_, _-_}

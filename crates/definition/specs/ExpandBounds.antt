@@ -1,25 +1,25 @@
 -- What the expansion makes of a romanization: it goes forward, within the text, in 198 bytes at most.
 -- The bytes grow step by step: 1 doubled, 64 of a pre-vowel, 1 of a grave, 64 of a small ya in the place of 1,
 -- 1 of a long mark.
-use mathlib.Core.Bool.{Bool, true, false, not, _&&_, _||_}
+use mathlib.Core.Bool.{Bool, true, false, _&&_}
 use mathlib.Core.Path.{_≡_, refl}
-use mathlib.Core.List.{List, [], _∷_, _++_, reverse}
-use mathlib.Core.Option.{Option, none, some}
-use Prim.Native.Nat.{ℕ, zero, suc, _+_, _-_, _≤_, _<_}
+use mathlib.Core.List.{List, [], _∷_, _++_}
+use mathlib.Core.Option.{none, some}
+use Prim.Native.Nat.{ℕ, _+_, _-_, _≤_, _<_}
 use native.Mathlib.Omega.{arith}
 use lib.Dec.{eqb}
 use lib.ListN.{length, take, drop, length-drop}
 use borrow.Author.Tests.{eqb-true}
 use Rattle.base.specs.Pick.{pick, pick-all, pick-ind}
 use Rattle.base.specs.Bools.{and-left, and-right}
-use Rattle.base.specs.Lists.{keep, all, head, tail, or-else, has, is, maybe, bind, same, starts}
-use Rattle.base.specs.Alls.{All, All-keep, All-head, Opt, maybe-all, bind-all, or-else-all, head-keep}
+use Rattle.base.specs.Lists.{keep, head, tail, has, is, bind, same, starts}
+use Rattle.base.specs.Alls.{All, All-keep, All-head, Opt, Opt-with, maybe-all, bind-all, or-else-all, head-keep}
 use Rattle.definition.specs.Limits.{most-target, most-bytes}
-use Rattle.definition.specs.Texts.{Text, chars, among, at, prev, fits, consonants, vowels, last-is, without-last, the-space, letter-e, letter-i, en-dash, addak, long-mark, coptic-grave}
-use Rattle.definition.specs.Tables.{Rule, Class, Lexicon}
+use Rattle.definition.specs.Texts.{Text, chars, among, at, prev, the-space, letter-e, en-dash, addak, long-mark, coptic-grave}
+use Rattle.definition.specs.Tables.{Rule, Lexicon}
 use Rattle.definition.specs.Notes.{note-exp}
-use Rattle.definition.specs.Classes.{class, script}
-use Rattle.definition.specs.Edges.{View, M, ret, _>>=_}
+use Rattle.definition.specs.Classes.{class}
+use Rattle.definition.specs.Edges.{View}
 use Rattle.definition.specs.Rules.{first-rule, simple}
 use Rattle.definition.specs.Expansion.{Work, work, doubling, doubled, double, framed, widen, around-by, around, pre-vowel, before, silent, small-ya, small-target, lengthens, trim-front, trim-back, trim, finish, grave, small-y, rest, o-ang-step, thai, by-script, expand}
 use Rattle.definition.specs.Shorts.{Short, short-none, short-wide, short-append, short-letter, short-reverse, short-tail, short-without-last, short-one}
@@ -61,11 +61,6 @@ first-short rs h w =
     bind-all (Short most-target) Spoken (head (keep (λ r. same (r .source) w) rs)) (λ r. r .target)
     (All-head Spoken _ (All-keep Spoken (λ r. same (r .source) w) rs h)) (λ r q. q .target)
 
--- a text that is there only where something else holds
-with-fact : {X : Type 0} (P : Text → Type 0) (o : Option Text) → Opt P o → X → Opt (λ y. P y × X) o
-with-fact P none s x = tt
-with-fact P (some y) s x = (s, x)
-
 doubled-short : (n c : ℕ) (rom : Text) → Short n rom → Short 1 (doubled c rom)
 unfolding doubled
 doubled-short n c rom h =
@@ -76,7 +71,8 @@ doubled-short n c rom h =
     (short-letter 1 99 (omega arith) (omega arith)) (short-letter 1 116 (omega arith) (omega arith)))
     (pick-all P (is doubling (head rom)) {x = take 1 rom} {y = []} (short-one h) (short-none 1))
 
-framed-bound : (t : Text) (c k e : ℕ) (r : Rule) → e ≤ length t → framed t c k e r ≡ true → e + k ≤ length t
+-- what the Thai pattern takes after the consonant is in the text
+pub framed-bound : (t : Text) (c k e : ℕ) (r : Rule) → e ≤ length t → framed t c k e r ≡ true → e + k ≤ length t
 unfolding framed
 framed-bound t c k e r l b =
     let first = same (take 2 (r .source)) (c ∷ en-dash ∷ []) in
@@ -85,7 +81,7 @@ framed-bound t c k e r l b =
     let n = eqb-true (length (r .source)) (k + 2) (and-right first _ (and-left _ _ b)) in
     omega (arith, length-drop 2 (r .source))
 
-space-not-small : small-ya the-space ≡ false
+pub space-not-small : small-ya the-space ≡ false
 unfolding small-ya among
 space-not-small = refl
 
@@ -110,7 +106,7 @@ module _ (L : Lexicon) (t : Text) (spoken : All Spoken (L .rules)) (blank : clas
       (λ y. some (work (w .rom ++ y) (w .from - 1) (w .to + k) note-exp))
       (bind-all Y (λ r. Spoken r × (f r ≡ true)) (head (keep f (L .rules))) (λ r. r .target)
       (head-keep Spoken f (L .rules) spoken)
-      (λ r q. with-fact (Short most-target) (r .target) (q .0 .target) (framed-bound t (prev t (w .from)) k (w .to) r (h .inside) (q .1))))
+      (λ r q. Opt-with (Short most-target) (r .target) (q .0 .target) (framed-bound t (prev t (w .from)) k (w .to) r (h .inside) (q .1))))
       (λ y q. record {
         forward = let z = h .forward in omega arith;
         inside = q .1;
@@ -159,7 +155,7 @@ module _ (L : Lexicon) (t : Text) (spoken : All Spoken (L .rules)) (blank : clas
   small-inner : (w : Work) → Opt (λ y. Short most-target y × (w .to < length t)) (small-target (L .rules) (L .classes) t w)
   unfolding small-target
   small-inner w = pick-ind (Opt (λ y. Short most-target y × (w .to < length t))) _ _ _
-      (λ b. with-fact (Short most-target) (first-rule (L .rules) (at t (w .to) ∷ [])) (first-short (L .rules) spoken (at t (w .to) ∷ []))
+      (λ b. Opt-with (Short most-target) (first-rule (L .rules) (at t (w .to) ∷ [])) (first-short (L .rules) spoken (at t (w .to) ∷ []))
       (inner t (w .to) small-ya space-not-small (and-left _ _ (and-left _ _ (and-left _ _ b)))))
       (λ b. tt)
 

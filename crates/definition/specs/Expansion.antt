@@ -1,10 +1,10 @@
 -- Expansion (`expand_rom_with_special_chars`), step by step in the file's order. The Braille marker is left out, and
 -- so is the capitalizing step: it never acts, as its iterator is used up by its own test.
 -- A position outside the text reads as a space: in an accepted table of no script and no flag (Blank).
-use mathlib.Core.Bool.{Bool, true, false, not, _&&_, _||_}
+use mathlib.Core.Bool.{Bool, not, _&&_, _||_}
 use mathlib.Core.List.{List, [], _∷_, _++_, reverse}
 use mathlib.Core.Option.{Option, none, some}
-use Prim.Native.Nat.{ℕ, zero, suc, _+_, _-_}
+use Prim.Native.Nat.{ℕ, _+_, _-_}
 use lib.Dec.{eqb}
 use lib.ListN.{length, take, drop}
 use Rattle.base.specs.Pick.{pick}

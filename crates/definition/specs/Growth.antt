@@ -3,15 +3,15 @@ use mathlib.Core.Bool.{Bool, true, false, _||_, or-true}
 use mathlib.Core.Path.{_≡_, refl, sym, _∙_, ap}
 use mathlib.Core.List.{List, [], _∷_, _++_, append-nil, append-assoc}
 use mathlib.Core.Option.{Option, none, some}
-use Prim.Native.Nat.{ℕ, zero, suc, _+_, _-_, _*_, _≤_, _<_}
+use Prim.Native.Nat.{ℕ, zero, suc, _+_, _-_, _*_, _≤_}
 use native.Mathlib.Omega.{arith}
 use lib.Dec.{eqb, leb}
 use lib.ListN.{length, replicate, length-append}
 use borrow.Author.Tests.{eq-eqb}
-use Rattle.base.specs.Pick.{pick, pick-all}
+use Rattle.base.specs.Pick.{pick-all}
 use Rattle.base.specs.Lists.{put, keep, any}
 use Rattle.base.specs.ListLaws.{any-append, keep-append}
-use Rattle.base.specs.Alls.{All, All-append}
+use Rattle.base.specs.Alls.{All, All-map, All-append}
 use Rattle.definition.specs.Limits.{most-source, most-edges}
 use Rattle.definition.specs.Texts.{Text}
 use Rattle.definition.specs.Tables.{Tables, lexicon}
@@ -35,6 +35,9 @@ added-twice {P} {es} {fs} {gs} a b = record {
   is = b .is ∙ ap (λ l. l ++ b .more) (a .is) ∙ append-assoc es (a .more) (b .more);
   all = All-append P (a .more) (b .more) (a .all) (b .all);
 }
+
+pub added-map : {P Q : Edge → Type 0} {es fs : List Edge} → ((x : Edge) → P x → Q x) → Added P es fs → Added Q es fs
+added-map f a = record { more = a .more; is = a .is; all = All-map f (a .more) (a .all) }
 
 pub added-one : {P : Edge → Type 0} (es : List Edge) (x : Edge) → P x → Added P es (es ++ x ∷ [])
 added-one es x p = record { more = x ∷ []; is = refl; all = (p, tt) }

@@ -1,13 +1,11 @@
 -- What is one of some quoted characters has what each of them has.
-use mathlib.Core.Bool.{Bool, true, false, _&&_, _||_, true≢false}
+use mathlib.Core.Bool.{Bool, true, false, true≢false}
 use mathlib.Core.Path.{_≡_, refl, sym, ap, _∙_, subst}
-use mathlib.Core.List.{List, [], _∷_, _++_}
-use Prim.Native.Nat.{ℕ, _<_, _≤_}
+use mathlib.Core.List.{[], _∷_, _++_}
+use Prim.Native.Nat.{ℕ}
 use Prim.Native.String.{String}
-use Prim.Native.Char.{Char, code}
-use native.Mathlib.Omega.{arith}
+use Prim.Native.Char.{code}
 use lib.Dec.{eqb}
-use lib.ListN.{length}
 use borrow.Author.Tests.{eqb-true}
 use Rattle.base.specs.Bools.{and-left, and-right, or-cases}
 use Rattle.base.specs.Lists.{all, front}

@@ -1,22 +1,19 @@
 -- A part of an accepted text is an accepted text, with the same tables and code.
-use mathlib.Core.Bool.{true≢false, Bool, true, false, not, _&&_, _||_}
-use mathlib.Core.Path.{_≡_, refl, sym, _∙_, ap, subst}
+use mathlib.Core.Bool.{Bool, true, false, _&&_}
+use mathlib.Core.Path.{_≡_, refl, ap, subst}
 use mathlib.Core.List.{List, [], _∷_, _++_}
-use mathlib.Core.Option.{Option, none, some}
-use Prim.Native.Nat.{ℕ, zero, suc, _+_, _-_, _*_, _≤_, _<_}
+use mathlib.Core.Option.{none, some}
+use Prim.Native.Nat.{ℕ, zero, suc, _+_, _-_}
 use native.Mathlib.Omega.{arith}
-use lib.Dec.{eqb, leb, ltb}
+use lib.Dec.{leb}
 use lib.ListN.{length, getD, drop, length-append}
-use borrow.Author.Tests.{le-ltb, lt-ltb, ltb-true}
+use borrow.Author.Tests.{lt-ltb, ltb-true}
 use Rattle.base.specs.Pick.{pick, pick-ind}
-use Rattle.base.specs.Lists.{or-else, bind}
 use Rattle.base.specs.Bools.{and-right}
 use Rattle.base.specs.Alls.{All, All-left, All-right}
-use Rattle.definition.specs.Limits.{most-characters}
 use Rattle.definition.specs.Texts.{Text}
-use Rattle.definition.specs.Tables.{Tables}
-use Rattle.definition.specs.Utf8.{Read, char, bad, six, checked, sequence, read, scalar, decode-by, decoded, encoded, bad-sequence}
-use Rattle.definition.specs.Call.{Inputs, tables, characters, left-out, first-left-out, when, placed, refusal}
+use Rattle.definition.specs.Utf8.{Read, char, bad, checked, sequence, read, scalar, decode-by, decoded, encoded}
+use Rattle.definition.specs.Call.{Inputs, tables, characters, left-out, first-left-out, refusal}
 use Rattle.definition.specs.Accepted.{Accepted, accepted-of, refusal-of}
 use Rattle.definition.specs.Roundtrip.{decoded-encoded, encoded-right}
 

@@ -5,7 +5,7 @@ use mathlib.Core.List.{List, [], _∷_}
 use mathlib.Core.Option.{Option, none, some}
 use Prim.Native.Nat.{ℕ}
 use Rattle.base.specs.Pick.{pick}
-use Rattle.base.specs.Lists.{maybe, or-else, keep, best}
+use Rattle.base.specs.Lists.{maybe, keep, best}
 use Rattle.base.specs.Alls.{All, All-put, All-keep, All-best, Opt, or-else-all}
 use Rattle.definition.specs.Texts.{Text}
 use Rattle.definition.specs.Tables.{Rule, Lexicon}

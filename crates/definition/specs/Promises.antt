@@ -1,13 +1,13 @@
 -- What document 01 says of every accepted call: its text has 512 characters at most, its lattice 17 edges for each,
 -- and each edge goes forward, lies within the text, and has a text of 198 bytes at most.
 use mathlib.Core.Bool.{Bool, true, false, not, _&&_, _||_}
-use mathlib.Core.Path.{_≡_, refl}
-use mathlib.Core.List.{List, [], _∷_}
-use mathlib.Core.Option.{Option, none, some}
-use Prim.Native.Nat.{ℕ, zero, suc, _+_, _*_, _≤_, _<_}
+use mathlib.Core.Path.{_≡_}
+use mathlib.Core.List.{List}
+use mathlib.Core.Option.{none}
+use Prim.Native.Nat.{ℕ, zero, suc, _*_, _≤_, _<_}
 use native.Mathlib.Omega.{arith}
 use lib.Dec.{leb}
-use lib.ListN.{length, getD, take, drop}
+use lib.ListN.{length, getD, drop}
 use borrow.Author.Tests.{leb-true}
 use Rattle.base.specs.Pick.{pick}
 use Rattle.base.specs.Bools.{and-left, and-right}
@@ -15,9 +15,8 @@ use Rattle.base.specs.ListLaws.{take-most}
 use Rattle.base.specs.Alls.{All, Opt, all-all}
 use Rattle.definition.specs.Limits.{most-characters, most-alternatives, most-target, most-vowel, most-edges}
 use Rattle.definition.specs.Texts.{Text}
-use Rattle.definition.specs.Tables.{Rule, Vowel, Tables}
 use Rattle.definition.specs.Blocks.{small}
-use Rattle.definition.specs.RuleRows.{printable, text-of, text-right, texts-of, texts-right, rule-flag, target-bit, end-target-bit, target-at, end-target-at, others-at, others-of, others-right, text-where, target-right, end-target-right, source-count, three-at, rule-source, rule-right, rule-of}
+use Rattle.definition.specs.RuleRows.{printable, text-of, text-right, texts-of, texts-right, rule-flag, target-bit, end-target-bit, target-at, end-target-at, others-at, others-of, others-right, text-where, target-right, end-target-right, rule-right, rule-of}
 use Rattle.definition.specs.VowelRows.{vowel-length, vowel-letters, vowel-right, vowel-of}
 use Rattle.definition.specs.Paths.{edges, edge-count}
 use Rattle.definition.specs.Call.{Inputs, tables-of, tables, characters, refusal}

@@ -1,15 +1,15 @@
 -- What the engine relies on in accepted tables: sources of 1 to 16 characters, and vowel scripts of at least 1.
-use mathlib.Core.Bool.{Bool, true, false, true≢false}
-use mathlib.Core.Path.{_≡_, refl, ap, _∙_, sym}
+use mathlib.Core.Bool.{Bool, true, false}
+use mathlib.Core.Path.{_≡_, refl, ap, _∙_}
 use mathlib.Core.List.{List, [], _∷_}
-use mathlib.Core.Option.{Option, none, some}
+use mathlib.Core.Option.{none}
 use Prim.Native.Nat.{ℕ, zero, suc, _+_, _-_, _≤_, _<_}
 use native.Mathlib.Omega.{arith}
 use lib.Dec.{eqb}
 use lib.ListN.{length, drop}
 use borrow.Author.Tests.{ne-eqb}
 use Rattle.base.specs.Lists.{put, keep, head}
-use Rattle.base.specs.Rows.{counted, counted-length}
+use Rattle.base.specs.Rows.{counted-length}
 use Rattle.base.specs.Alls.{All, All-map}
 use Rattle.definition.specs.Limits.{most-source}
 use Rattle.definition.specs.Texts.{Text}

@@ -1,23 +1,21 @@
 -- What every call returns: the whole output slice, zero past its length; after a refusal nothing but number and place.
-use mathlib.Core.Bool.{true≢false, Bool, true, false}
-use mathlib.Core.Path.{_≡_, refl, sym, _∙_, ap, subst}
-use mathlib.Core.List.{List, [], _∷_, _++_}
+use mathlib.Core.Path.{_≡_}
+use mathlib.Core.List.{List}
 use mathlib.Core.Option.{Option, none, some}
-use mathlib.Core.Logic.{_⊎_, inl, inr}
-use Prim.Native.Nat.{ℕ, zero, suc, _+_, _-_, _/_, _≤_, _<_}
+use Prim.Native.Nat.{ℕ, zero, _-_, _/_, _≤_}
 use native.Mathlib.Omega.{arith}
 use lib.Dec.{ltb}
 use lib.ListN.{length, drop, replicate, length-append, length-replicate}
 use lib.Seq.{drop-append-seam}
 use borrow.Author.Tests.{ltb-false}
-use Rattle.base.specs.Pick.{pick, pick-ind}
+use Rattle.base.specs.Pick.{pick-ind}
 use Rattle.definition.specs.Limits.{slot-bytes}
 use Rattle.definition.specs.Texts.{Text}
 use Rattle.definition.specs.Tables.{Tables}
 use Rattle.definition.specs.Edges.{State}
 use Rattle.definition.specs.Building.{lattice}
 use Rattle.definition.specs.Listing.{shown}
-use Rattle.definition.specs.Capacity.{Refusal, refuse, misfit}
+use Rattle.definition.specs.Capacity.{Refusal, misfit}
 use Rattle.definition.specs.Call.{Inputs, Called, tables, characters, refusal, refused, written, within-room, with-lattice, accepted, unless-refused, called}
 
 pub record Returned (i : Inputs) (r : Called) : Type 0 where

@@ -2,15 +2,14 @@
 use mathlib.Core.Bool.{Bool, true, false, _&&_, _||_, true≢false, or-true}
 use mathlib.Core.Path.{_≡_, refl, sym, ap, _∙_}
 use mathlib.Core.List.{List, [], _∷_}
-use mathlib.Core.Option.{Option, none, some}
-use Prim.Native.Nat.{ℕ, _+_, _≤_, _<_}
+use mathlib.Core.Option.{none}
+use Prim.Native.Nat.{ℕ, _≤_, _<_}
 use native.Mathlib.Omega.{arith}
 use lib.Dec.{eqb, ltb}
 use borrow.Author.Tests.{ltb-true, eqb-true, lt-ltb, eq-eqb}
 use Rattle.base.specs.Bools.{and-left, and-right, or-cases}
 use Rattle.base.specs.Alls.{All, Ordered}
 use Rattle.definition.specs.Texts.{Text}
-use Rattle.definition.specs.Tables.{Rule, Class, Vowel}
 use Rattle.definition.specs.RuleRows.{rises, rule-size, rule-source, rule-right, rule-of, rule-fault, rules-of}
 use Rattle.definition.specs.ClassRows.{class-size, class-next, class-right, class-by, class-of, class-fault, classes-of}
 use Rattle.definition.specs.VowelRows.{vowel-size, vowel-next, vowel-right, vowel-of, vowel-fault, vowels-of}

@@ -1,21 +1,19 @@
 -- UTF-8 there and back: the characters of a text's bytes are the text, and no sequence is bad.
-use mathlib.Core.Bool.{true≢false, Bool, true, false, not, _&&_, _||_}
-use mathlib.Core.Path.{_≡_, refl, sym, _∙_, ap, subst}
-use mathlib.Core.List.{List, [], _∷_, _++_, append-nil}
-use mathlib.Core.Option.{Option, none, some}
-use Prim.Native.Nat.{ℕ, zero, suc, _+_, _-_, _*_, _/_, _%_, _≤_, _<_}
+use mathlib.Core.Bool.{Bool, true, false, _&&_, _||_}
+use mathlib.Core.Path.{_≡_, refl, _∙_, ap}
+use mathlib.Core.List.{List, [], _∷_, _++_}
+use mathlib.Core.Option.{none}
+use Prim.Native.Nat.{ℕ, _+_, _-_, _*_, _/_, _%_, _≤_, _<_}
 use native.Mathlib.Omega.{arith}
-use native.Mathlib.Decide.{decLt}
-use native.Mathlib.Nat.{mod-lt, div-add-mod'}
-use lib.Dec.{eqb, leb, ltb}
-use lib.ListN.{length, getD, drop, length-append}
+use lib.Dec.{leb, ltb}
+use lib.ListN.{length, getD, length-append}
 use lib.Seq.{drop-append-seam}
 use borrow.Author.Tests.{le-leb, lt-leb, lt-ltb, le-ltb, ltb-true, ltb-false, leb-true}
-use Rattle.base.specs.Pick.{pick, pick-ind}
-use Rattle.base.specs.Bools.{and-left, and-right}
+use Rattle.base.specs.Pick.{pick}
+use Rattle.base.specs.Bools.{and-right}
 use Rattle.base.specs.Alls.{All}
 use Rattle.definition.specs.Texts.{Text}
-use Rattle.definition.specs.Utf8.{Read, char, bad, six, checked, sequence, read, scalar, bad-sequence, decoded, encode, encoded}
+use Rattle.definition.specs.Utf8.{char, bad, six, checked, sequence, read, scalar, bad-sequence, decoded, encode, encoded}
 use Rattle.definition.specs.Utf8Turns.{bad-at, bad-sequence-is, bad-none, bad-next, decoded-none, decoded-next, char-bytes}
 
 six-of : (m : ℕ) → m < 64 → six (128 + m) ≡ m

@@ -1,13 +1,13 @@
 -- Document 01's sample tables, as bytes, and its sixteen results, computed; and each refusal once.
-use mathlib.Core.Bool.{Bool, true, false, _&&_}
+use mathlib.Core.Bool.{Bool, true, _&&_}
 use mathlib.Core.Path.{_≡_, refl}
 use mathlib.Core.List.{List, [], _∷_, _++_}
-use Prim.Native.Nat.{ℕ, zero, suc, _+_, _-_, _*_}
+use Prim.Native.Nat.{ℕ, _+_, _-_, _*_}
 use Prim.Native.String.{String}
 use lib.Dec.{eqb, ltb}
 use lib.ListN.{length, take, replicate}
 use Rattle.base.specs.Pick.{pick}
-use Rattle.base.specs.Big.{two, three, four}
+use Rattle.base.specs.Big.{two, three}
 use Rattle.base.specs.Lists.{all, same}
 use Rattle.definition.specs.Texts.{Text, chars}
 use Rattle.definition.specs.Utf8.{encoded}

@@ -1,10 +1,10 @@
 -- End of syllable (`is_at_end_of_syllable`), and the full search that asks it.
 -- A position outside the text reads as a space. In an accepted table that is no letter or mark, no tone mark and
 -- not written before a consonant (Blank), so the Rust's answers for the text's start and end are those for a space.
-use mathlib.Core.Bool.{Bool, true, false, not, _&&_, _||_}
-use mathlib.Core.List.{List, [], _∷_}
+use mathlib.Core.Bool.{Bool, true, false, not}
+use mathlib.Core.List.{List}
 use mathlib.Core.Option.{Option, none, some}
-use Prim.Native.Nat.{ℕ, zero, suc, _+_, _-_}
+use Prim.Native.Nat.{ℕ, _+_, _-_}
 use lib.Dec.{eqb}
 use Rattle.base.specs.Pick.{pick}
 use Rattle.base.specs.Lists.{head, has, is, maybe}

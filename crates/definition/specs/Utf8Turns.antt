@@ -1,6 +1,6 @@
 -- A text read character by character: one law for each way that a loop over its bytes can turn.
 -- Each is for the bytes from a place on, so that it does not matter how many steps were allowed.
-use mathlib.Core.Bool.{Bool, true, false, _&&_}
+use mathlib.Core.Bool.{_&&_}
 use mathlib.Core.Path.{_≡_, refl, ap, _∙_, subst}
 use mathlib.Core.List.{List, [], _∷_}
 use mathlib.Core.Option.{Option, none, some}
@@ -8,7 +8,7 @@ use Prim.Native.Nat.{ℕ, zero, suc, _+_, _-_, _≤_, _<_}
 use native.Mathlib.Omega.{arith}
 use lib.Dec.{leb}
 use lib.ListN.{length, drop, length-drop}
-use Rattle.base.specs.Pick.{pick, pick-ind, pick-all}
+use Rattle.base.specs.Pick.{pick-ind, pick-all}
 use Rattle.definition.specs.Texts.{Text}
 use Rattle.definition.specs.Utf8.{Read, char, bad, checked, sequence, read, scalar, bad-from, bad-sequence, decode-by, decoded}
 

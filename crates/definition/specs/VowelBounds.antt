@@ -3,26 +3,25 @@ use mathlib.Core.Bool.{Bool, true, false, not, _&&_, _||_, and-false, true≢fal
 use mathlib.Core.Path.{_≡_, refl, sym, ap, _∙_}
 use mathlib.Core.List.{List, [], _∷_, _++_, reverse}
 use mathlib.Core.Logic.{_⊎_, inl, inr}
-use mathlib.Core.Option.{Option, none, some}
-use Prim.Native.Nat.{ℕ, zero, suc, _+_, _-_, _≤_, _<_}
+use mathlib.Core.Option.{none, some}
+use Prim.Native.Nat.{ℕ, suc, _+_, _-_, _≤_}
 use native.Mathlib.Omega.{arith}
 use lib.Dec.{eqb}
-use lib.ListN.{length, getD, drop, length-append, length-reverse, drop-of-length-le}
+use lib.ListN.{length, getD, drop-of-length-le}
 use borrow.Author.Tests.{not-false}
 use Rattle.base.specs.Pick.{pick, pick-all, pick-ind}
-use Rattle.base.specs.Bools.{and-left, and-right}
-use Rattle.base.specs.Lists.{put, keep, any, all, head, tail, is, maybe, front, after, same, starts}
-use Rattle.base.specs.ListLaws.{tail-length, front-length, front-after}
+use Rattle.base.specs.Bools.{and-right}
+use Rattle.base.specs.Lists.{put, all, head, tail, is, front, after, same, starts}
+use Rattle.base.specs.ListLaws.{front-after}
 use Rattle.base.specs.Alls.{All, All-after, All-getD, All-keep, All-head, Opt, maybe-all}
 use Rattle.definition.specs.Limits.{most-target, most-vowel}
 use Rattle.definition.specs.Texts.{Text, at, consonants, vowels, latin, last-is, letter-a, letter-o, letter-y, hyphen}
 use Rattle.definition.specs.Tables.{Vowel, Lexicon}
-use Rattle.definition.specs.Classes.{script}
-use Rattle.definition.specs.Edges.{View, M, ret, _>>=_}
+use Rattle.definition.specs.Edges.{View}
 use Rattle.definition.specs.Boundaries.{word-start}
 use Rattle.definition.specs.Vowels.{vowel-row, before-y, pattern-y, pattern-c, bases, consonant-only, vowel-in, vowel-by, vowel-step}
 use Rattle.definition.specs.Building.{grown}
-use Rattle.definition.specs.Shorts.{Low, Short, short-none, short-wide, short-append, short-letter, short-reverse, short-tail, short-front}
+use Rattle.definition.specs.Shorts.{Low, Short, short-wide, short-append, short-letter, short-reverse, short-tail, short-front}
 use Rattle.definition.specs.Posts.{Post, post-ret, post-then, post-if, post-pick, post-maybe}
 
 abbrev pub voiced-bytes : ℕ

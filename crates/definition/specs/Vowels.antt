@@ -2,10 +2,10 @@
 -- A position outside the text reads as a space: in an accepted table of no script and no flag (Blank), while the
 -- span's first character has the script of a vowel row, at least 1. So the Rust's answers for no character before
 -- and none after are those for a space.
-use mathlib.Core.Bool.{Bool, true, false, not, _&&_, _||_}
+use mathlib.Core.Bool.{Bool, not, _&&_, _||_}
 use mathlib.Core.List.{List, [], _∷_, _++_, reverse}
 use mathlib.Core.Option.{Option, none, some}
-use Prim.Native.Nat.{ℕ, zero, suc, _+_}
+use Prim.Native.Nat.{ℕ, _+_}
 use lib.Dec.{eqb}
 use lib.ListN.{getD}
 use Rattle.base.specs.Pick.{pick}

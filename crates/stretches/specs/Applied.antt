@@ -1,0 +1,102 @@
+-- Demand 3 applied: its premises met by document 01's sample tables, its equations for a line of two words,
+-- and a text for which it would be false without the premise on U+0E2D.
+use mathlib.Core.Bool.{true, not, true≢false}
+use mathlib.Core.Path.{_≡_, refl, sym, _∙_, ap}
+use mathlib.Core.List.{[], _∷_, _++_, map}
+use Prim.Native.Nat.{ℕ, zero, suc}
+use Prim.Native.String.{String}
+use native.Mathlib.Omega.{arith}
+use lib.Dec.{eqb}
+use lib.ListN.{length}
+use borrow.Author.Tests.{eq-eqb}
+use Rattle.base.specs.Lists.{keep, all, tail}
+use Rattle.base.specs.Alls.{All-getD, all-all}
+use Rattle.definition.specs.Notes.{note-rom, note-core, note-exp, note-single}
+use Rattle.definition.specs.Texts.{Text, chars, the-space, o-ang, at}
+use Rattle.definition.specs.Edges.{Edge}
+use Rattle.definition.specs.Building.{single}
+use Rattle.definition.specs.Paths.{joined, edges, path}
+use Rattle.definition.specs.Call.{Inputs, tables, characters}
+use Rattle.definition.specs.Compute.{compute}
+use Rattle.definition.specs.Sample.{sample}
+use Rattle.definition.specs.Parts.{Accepts}
+use Rattle.stretches.specs.Demand.{spaceless, spaceless-if, spaceless-rule, Taken, over, Before, start, After, end, First, within, shift, Alone}
+use Rattle.stretches.specs.Proved.{demand}
+
+-- U+0E2D only first, by computation
+pub first-by : (st : Text) → all (λ c. not (eqb c o-ang)) (tail st) ≡ true → First st
+unfolding at all
+first-by [] e p q = absurd (let z : _≡_ {A = ℕ} 0x20 0x0E2D = q in omega arith)
+first-by (c ∷ w) e zero q = refl
+first-by (c ∷ w) e (suc p) q =
+    absurd (All-getD Other w p the-space (all-all Other (λ c. not (eqb c o-ang)) other-by w e) (λ z. omega arith) q)
+  where
+    Other : ℕ → Type 0
+    Other c = c ≡ o-ang → ⊥
+
+    other-by : (c : ℕ) → not (eqb c o-ang) ≡ true → Other c
+    other-by c t z = true≢false (sym t ∙ ap not (eq-eqb c o-ang z))
+
+-- A line of two words
+abbrev line : Inputs
+line = sample 2 "" "कत क्त"
+
+pub line-taken : Taken line
+unfolding compute spaceless spaceless-if spaceless-rule
+line-taken = record { accepted = refl; no-space = refl }
+
+pub first-word : Alone (tables line) (characters line) (chars "कत") 0 × Accepts line (chars "कत")
+unfolding compute
+first-word = demand line line-taken .stretches [] (chars "कत") (chars " क्त") refl start (After.space (chars "क्त"))
+    (first-by (chars "कत") refl)
+
+pub second-word : Alone (tables line) (characters line) (chars "क्त") 3 × Accepts line (chars "क्त")
+unfolding compute
+second-word = demand line line-taken .stretches (chars "कत ") (chars "क्त") [] refl (Before.space (chars "कत")) end
+    (first-by (chars "क्त") refl)
+
+-- the space between them
+pub line-space : (n : ℕ) × (keep (over 2) (edges (tables line) (characters line)) ≡ single 2 n (chars " ") ∷ [])
+unfolding compute
+line-space = demand line line-taken .spaces 2 (omega arith) refl
+
+-- The edges of the second word in the line are those of the word alone, moved by 3
+pub second-edges :
+    keep (within 3 3) (edges (tables line) (characters line)) ≡ map (shift 3) (edges (tables line) (chars "क्त"))
+second-edges = second-word .0 .edges
+
+-- so they are these: क with its virama, the virama, त with its vowel, and क by itself
+abbrev edge : ℕ → ℕ → ℕ → ℕ → String → Edge
+edge s e n c w = record { from = s; to = e; note = n; core = c; text = chars w }
+
+pub second-edges-are : keep (within 3 3) (edges (tables line) (characters line))
+    ≡ edge 3 5 note-exp 0 "k" ∷ edge 4 5 note-rom 0 "" ∷ edge 5 6 note-core 1 "ta" ∷ edge 3 4 note-single 0 "k" ∷ []
+unfolding compute shift
+second-edges-are = second-edges
+
+-- What document 01 has run: ก, space, U+0E48, อ, ก gives "k ok", while U+0E48, อ, ก alone gives "k"
+abbrev thai-line : Inputs
+thai-line = sample 1 "" "ก ่อก"
+
+pub thai-taken : Taken thai-line
+unfolding compute spaceless spaceless-if spaceless-rule
+thai-taken = record { accepted = refl; no-space = refl }
+
+in-the-line : joined (keep (within 2 3) (path (tables thai-line) (characters thai-line))) ≡ chars "ok"
+unfolding compute within
+in-the-line = refl
+
+by-itself : joined (map (shift 2) (path (tables thai-line) (chars "่อก"))) ≡ chars "k"
+unfolding compute shift
+by-itself = refl
+
+-- So the statement without the premise on U+0E2D is false for this call, though it is taken
+pub o-ang-needed : ((x st y : Text) → characters thai-line ≡ x ++ (st ++ y) → Before x → After y
+    → Alone (tables thai-line) (characters thai-line) st (length x))
+    → ⊥
+unfolding compute
+o-ang-needed every =
+    let a = every (chars "ก ") (chars "่อก") [] refl (Before.space (chars "ก")) end in
+    let e : chars "ok" ≡ chars "k" = sym in-the-line ∙ ap joined (a .path) ∙ by-itself in
+    let n : _≡_ {A = ℕ} 2 1 = ap length e in
+    omega arith

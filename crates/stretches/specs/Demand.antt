@@ -1,0 +1,85 @@
+-- Demand 3, the statement. (Proved proves it; Applied meets its premises, and shows that the one on U+0E2D is needed.)
+-- "Take an accepted text, and rules with no space (U+0020) in any source or target text. Each space has its own single
+-- edge, and no other reaches over it. For each stretch between spaces or text ends in which U+0E2D stands, if at all,
+-- only as the first character, the edges, path and alternatives inside it are exactly those the definition gives that
+-- stretch as a whole text, same tables and language code, moved by its start."
+use mathlib.Core.Bool.{Bool, true, not, _&&_}
+use mathlib.Core.Path.{_≡_}
+use mathlib.Core.List.{[], _∷_, _++_, map}
+use mathlib.Core.Option.{Option, none, some}
+use Prim.Native.Nat.{ℕ, _+_, _<_}
+use lib.Dec.{eqb, leb, ltb}
+use lib.ListN.{length}
+use Rattle.base.specs.Lists.{keep, all}
+use Rattle.definition.specs.Texts.{Text, the-space, o-ang, at}
+use Rattle.definition.specs.Tables.{Rule, Tables}
+use Rattle.definition.specs.Edges.{Edge}
+use Rattle.definition.specs.Building.{single}
+use Rattle.definition.specs.Paths.{edges, path, with-alternatives, alternatives, all-edges}
+use Rattle.definition.specs.Call.{Inputs, tables, characters, refusal}
+use Rattle.definition.specs.Parts.{Accepts}
+
+-- Take an accepted text (mode, tables, code and text are bytes, and none of refusals 1 to 8 is given),
+-- and rules with no space in any source or target text (a rule's alternatives may have some)
+unfoldable pub spaceless : Text → Bool
+spaceless w = all (λ c. not (eqb c the-space)) w
+
+unfoldable pub spaceless-if : Option Text → Bool
+spaceless-if none = true
+spaceless-if (some w) = spaceless w
+
+unfoldable pub spaceless-rule : Rule → Bool
+spaceless-rule r = spaceless (r .source) && spaceless-if (r .target) && spaceless-if (r .end-target)
+
+pub record Taken (i : Inputs) : Type 0 where
+  pub accepted : refusal i ≡ none
+  pub no-space : all spaceless-rule (tables i .rules) ≡ true
+
+-- an edge that starts at `q` or earlier and ends later: it reaches over the character at `q`
+unfoldable pub over : ℕ → Edge → Bool
+over q x = leb (x .from) q && ltb q (x .to)
+
+-- Each space has its own single edge, and no other reaches over it
+abbrev pub Spaces : Inputs → Type 0
+Spaces i = (q : ℕ) → q < length (characters i) → at (characters i) q ≡ the-space
+    → (n : ℕ) × (keep (over q) (edges (tables i) (characters i)) ≡ single q n (the-space ∷ []) ∷ [])
+
+-- between spaces or text ends: what is before a stretch is nothing or ends in a space,
+-- what is after it is nothing or starts with one
+pub data Before : Text → Type 0 where
+  start : Before []
+  space : (x : Text) → Before (x ++ the-space ∷ [])
+
+pub data After : Text → Type 0 where
+  end : After []
+  space : (y : Text) → After (the-space ∷ y)
+
+-- U+0E2D stands, if at all, only as the first character
+abbrev pub First : Text → Type 0
+First st = (p : ℕ) → at st p ≡ o-ang → p ≡ 0
+
+-- an edge inside the stretch of length `n` from `a` on; an edge moved by `a`
+unfoldable pub within : ℕ → ℕ → Edge → Bool
+within a n x = leb a (x .from) && leb (x .to) (a + n)
+
+unfoldable pub shift : ℕ → Edge → Edge
+shift a x = record { from = a + x .from; to = a + x .to; note = x .note; core = x .core; text = x .text }
+
+-- In the text `T`, the stretch `st` from `a` on: the edges in adding order, mode 1's list, mode 2's (the path, then
+-- the alternatives), the alternatives alone, and mode 3's list
+pub record Alone (D : Tables) (T st : Text) (a : ℕ) : Type 0 where
+  pub edges : keep (within a (length st)) (edges D T) ≡ map (shift a) (edges D st)
+  pub path : keep (within a (length st)) (path D T) ≡ map (shift a) (path D st)
+  pub with-alternatives : keep (within a (length st)) (with-alternatives D T) ≡ map (shift a) (with-alternatives D st)
+  pub alternatives : keep (within a (length st)) (alternatives D T) ≡ map (shift a) (alternatives D st)
+  pub all-edges : keep (within a (length st)) (all-edges D T) ≡ map (shift a) (all-edges D st)
+
+-- For each stretch (one with spaces of its own is covered too); and the stretch is an accepted text, with the same
+-- tables and code
+abbrev pub Stretches : Inputs → Type 0
+Stretches i = (x st y : Text) → characters i ≡ x ++ (st ++ y) → Before x → After y → First st
+    → Alone (tables i) (characters i) st (length x) × Accepts i st
+
+pub record Demand (i : Inputs) : Type 0 where
+  pub spaces : Spaces i
+  pub stretches : Stretches i

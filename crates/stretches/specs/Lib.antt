@@ -1,0 +1,28 @@
+-- Demand 3: the statement
+pub mod Demand
+-- what its premises give
+pub mod Given
+-- one computation on the whole text, one on the stretch
+pub mod Windows
+pub mod Texts
+pub mod Boundaries
+pub mod Rules
+pub mod Syllables
+pub mod Vowels
+pub mod Works
+pub mod Thai
+pub mod Expansion
+pub mod Building
+-- edges, states and passes
+pub mod Edges
+pub mod States
+pub mod Elsewhere
+pub mod Lattice
+-- the lists
+pub mod Path
+pub mod Alternatives
+pub mod Order
+pub mod Spaces
+-- the theorem, and a use of it
+pub mod Proved
+pub mod Applied
