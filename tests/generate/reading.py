@@ -45,6 +45,8 @@ def longest_and_most():
     yield Corner("เっกⲁ\u0300ゃー", [("กⲁ", "k" * 64), ("เ", "e" * 62 + "ki"), ("ゃ", "y" + "a" * 63)],
                  {"เ": (OTHER, THAI, PRE), "っ": (OTHER, THAI), "ก": T, "ⲁ": COPT, "\u0300": (NONSPACING, HIRAGANA), "ゃ": HIRA, "ー": L},
                  [(THAI, A, "aeio")], want="e" + "k" * 65 + "aeio" + "e" * 62 + "ky" + "a" * 64)
+    # the longest alternative: 64 and a vowel of 4
+    yield Corner("क", [("क", "k", 0, 0, (), None, ["x" * 64])], {"क": SIX}, [(6, A, "aeio")], want="kaeio")
     # 48 edges start at 0, since those found at 1 and 2 move there; then 16, 15 .. 1 from 3 on, and two fallbacks
     text = "เっ" + "ก" * 17
     rows = [(text[p:p + n], "kmn"[p] + "a" * (n % 3)) for p in range(3) for n in range(1, 17)]
@@ -355,7 +357,7 @@ def letters():
 # what each group tells is seen in these modes: all edges, and the others in turn
 TURNS = lambda k: (k % 3, 3)
 GROUPS = {
-    sample_results: lambda k: range(4), longest_and_most: TURNS, vowel_step: TURNS, word_boundaries: TURNS, rule_choice: TURNS,
+    sample_results: lambda k: range(4), longest_and_most: lambda k: range(4), vowel_step: TURNS, word_boundaries: TURNS, rule_choice: TURNS,
     syllables: TURNS, expansion: TURNS, thai: TURNS, fallbacks: TURNS, alternatives: lambda k: (k % 2, 2), letters: lambda k: (3,),
 }
 

@@ -1,10 +1,10 @@
 -- `called`, to compute with: whatever unfolds `compute` unfolds the whole definition. Written by tests/definition/names.py.
 use mathlib.Core.Path.{_≡_, refl}
 use Rattle.base.specs.Pick.{pick}
+use Rattle.base.specs.Lists.{keep, any, all, head, empty, holds, front, after, best-of, best, maybe, same, starts}
 use Rattle.base.specs.Turn.{turns}
 use Rattle.base.specs.Big.{two, three, four}
 use Rattle.base.specs.Bits.{flagged}
-use Rattle.base.specs.Lists.{keep, any, all, head, empty, holds, front, after, best-of, best, maybe, same, starts}
 use Rattle.base.specs.Rows.{rowsBy, rows, counted, AllOf}
 use Rattle.definition.specs.Texts.{among, at, prev, stands, fits, begins, latin, vowels, consonants, lower, last-is}
 use Rattle.definition.specs.Utf8.{scalar, six, checked, sequence, read, bad-from, bad-sequence, decode-by, decoded, encode, encoded}
@@ -27,7 +27,7 @@ use Rattle.definition.specs.Call.{tables-of, tables, characters, code-ri
 use Rattle.definition.specs.Call.{Inputs, Called}
 
 unfoldable pub compute : Inputs → Called
-unfolding pick turns two three four flagged keep any all head empty holds front after best-of best maybe same starts
+unfolding pick keep any all head empty holds front after best-of best maybe same starts turns two three four flagged
     rowsBy rows counted AllOf among at prev stands fits begins latin vowels consonants lower last-is scalar six
     checked sequence read bad-from bad-sequence decode-by decoded encode encoded headed past row-turn fault-from
     fault small printable text-size text-of text-right texts-of texts-size texts-right rule-size rule-flag
