@@ -99,6 +99,13 @@ unfolding decoded decode-by
 decoded-none [] e = refl
 decoded-none (b ∷ s) e = absurd (omega arith)
 
+-- no character stands at a bad sequence
+pub decoded-here : (s : List ℕ) → read s ≡ bad → decoded s ≡ []
+unfolding decoded decode-by
+decoded-here [] e = refl
+decoded-here (b ∷ s) e =
+    ap (λ r. elim r as (λ x. Text) [ char c n ↦ c ∷ decode-by (length s) (drop n (b ∷ s)) | bad ↦ [] ]) e
+
 pub decoded-next : (s : List ℕ) (c n : ℕ) → 0 < length s → read s ≡ char c n → decoded s ≡ c ∷ decoded (drop n s)
 unfolding decoded decode-by
 decoded-next [] c n l e = absurd (omega arith)

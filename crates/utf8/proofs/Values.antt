@@ -1,0 +1,45 @@
+-- The cases of `six` and of `checked`, each by the facts of numbers that lead to it.
+use mathlib.Core.Path.{_≡_}
+use Prim.Native.Nat.{ℕ, _-_, _<_, _≤_}
+use native.Mathlib.Omega.{arith}
+use borrow.Author.Tests.{lt-ltb, le-ltb, le-leb, lt-leb}
+use Rattle.base.specs.Pick.{pick}
+use Rattle.definition.specs.Utf8.{six, scalar, checked}
+use Rattle.utf8.specs.Read.{told}
+use Rattle.utf8.specs.declared.CharRead.the-variants.{Char, Bad}
+
+module _ (b : ℕ) where
+  pub six-low : b < 128 → 64 ≡ six b
+  unfolding six pick
+  six-low h = rw (lt-leb 128 b h)
+
+  pub six-own : (v : ℕ) → (128 ≤ b) × (b < 192) × (v ≡ b - 128) → v ≡ six b
+  unfolding six pick
+  six-own v h = rw (le-leb 128 b (h .0), lt-ltb b 192 (h .1)) (h .2)
+
+  pub six-high : 192 ≤ b → 64 ≡ six b
+  unfolding six pick
+  six-high h = rw (le-leb 128 b (omega arith), le-ltb b 192 h)
+
+module _ (low n v : ℕ) where
+  pub overlong : v < low → told Bad ≡ checked low n v
+  unfolding told checked pick
+  overlong h = rw (lt-leb low v h)
+
+  pub first-plane : (low ≤ v) × (v < 0xD800) → told (Char v n) ≡ checked low n v
+  unfolding told checked scalar pick
+  first-plane h = rw (le-leb low v (h .0), lt-ltb v 0xD800 (h .1))
+
+  pub surrogate : (low ≤ v) × (0xD800 ≤ v) × (v < 0xE000) → told Bad ≡ checked low n v
+  unfolding told checked scalar pick
+  surrogate h = rw (le-leb low v (h .0), le-ltb v 0xD800 (h .1), lt-leb 0xE000 v (h .2))
+
+  pub past-surrogates : (low ≤ v) × (0xE000 ≤ v) × (v ≤ 0x10FFFF) → told (Char v n) ≡ checked low n v
+  unfolding told checked scalar pick
+  past-surrogates h =
+      rw (le-leb low v (h .0), le-ltb v 0xD800 (omega arith), le-leb 0xE000 v (h .1), le-leb v 0x10FFFF (h .2))
+
+  pub past-last : (low ≤ v) × (0xE000 ≤ v) × (0x10FFFF < v) → told Bad ≡ checked low n v
+  unfolding told checked scalar pick
+  past-last h =
+      rw (le-leb low v (h .0), le-ltb v 0xD800 (omega arith), le-leb 0xE000 v (h .1), lt-leb v 0x10FFFF (h .2))

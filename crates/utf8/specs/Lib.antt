@@ -1,0 +1,3 @@
+-- What the answers say; what a list is when characters were put into it
+pub mod Read
+pub mod Puts
