@@ -38,7 +38,7 @@ others-far : (o : ℕ) (s : List ℕ) → o < others-end o s
 unfolding others-end
 others-far o s = omega arith
 
-rule-placed : (old : Text) (s : List ℕ) → rule-right old s ≡ true → Placed s
+pub rule-placed : (old : Text) (s : List ℕ) → rule-right old s ≡ true → Placed s
 rule-placed old s e =
     let c = rule-checked old s e in
     let y = others-far (others-at s) s in
