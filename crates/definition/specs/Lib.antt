@@ -31,6 +31,7 @@ pub mod Sample
 -- Laws. Loops over bytes, a character or a row at a time
 pub mod Utf8Turns
 pub mod BlockTurns
+pub mod Checking
 -- what an accepted call has passed: a row, a table, a call; where a row's parts lie; rows rise; the space is blank
 pub mod Checked
 pub mod Accepted

@@ -1,0 +1,108 @@
+-- `classes::check_classes`: the first fault from the row at `at` on is the table's.
+use Prim.Native.Nat.{ℕ, _-_}
+use mathlib.Core.List.{List}
+use mathlib.Core.Bool.{true}
+use mathlib.Core.Path.{_≡_, refl, _∙_}
+use native.Mathlib.Omega.{arith}
+use lib.ListN.{length-drop, length, drop}
+use borrow.Author.Needs.{needs}
+use denote.Ref.{now}
+use Rattle.definition.specs.Accepted.{class-moves}
+use Rattle.definition.specs.Checked.{class-checked}
+use Rattle.definition.specs.ClassRows.{class-size, class-next, class-right, class-fault}
+use Rattle.classes.specs.Told.{fault-place}
+use Rattle.definition.specs.Checking.{from, started, no-header, over, next, spent, wrong}
+use Rattle.classes.proofs.check_classes.Statement.{statement}
+use Rattle.classes.proofs.check_classes.Tie as tie
+
+abbrev Inv-loop : tie.InvT-loop
+Inv-loop classes at₀ left₀ low₀ at left low =
+    from class-size class-next class-right at left low classes ≡ class-fault classes
+
+abbrev μ-loop : tie.MeasureT-loop
+μ-loop classes at₀ left₀ low₀ at left low = length classes - at
+
+abbrev T : tie.At-loop Inv-loop μ-loop → List ℕ
+T l = now (l .before .before .before .before .args .classes)
+
+headed-requires : tie.Need-headed-requires Inv-loop μ-loop
+headed-requires c κs = search needs
+
+loop-holds : tie.Need-loop-holds Inv-loop μ-loop
+unfolding class-fault
+loop-holds c = started class-size class-next class-right 8192 0 (now (c .before .before .before .args .classes)) (cc)
+
+returns : tie.Need-returns Inv-loop μ-loop
+unfolding fault-place
+returns c =
+    let l = c .before .before in
+    spent class-size class-next class-right class-moves (T l) (l .loop .at) (l .loop .left) (l .loop .low)
+    (omega arith) (omega arith)
+    ∙ l .loop .inv
+
+class-right-requires : tie.Need-class-right-requires Inv-loop μ-loop
+class-right-requires c κs = search needs
+
+three-requires : tie.Need-three-requires Inv-loop μ-loop
+three-requires c κs = search needs
+
+add-low : tie.Need-add-low Inv-loop μ-loop
+add-low c = search needs
+
+add-at : tie.Need-add-at Inv-loop μ-loop
+add-at c =
+    let l = c .before .before .before .before .before in
+    let e : class-right (l .loop .low) (drop (l .loop .at) (T l)) ≡ true = cc in
+    omega (arith, class-checked (l .loop .low) (drop (l .loop .at) (T l)) e .inside, length-drop (l .loop .at) (T l))
+
+sub-left : tie.Need-sub-left Inv-loop μ-loop
+sub-left c = omega arith
+
+loop-less : tie.Need-loop-less Inv-loop μ-loop
+loop-less c = omega arith
+
+loop-again : tie.Need-loop-again Inv-loop μ-loop
+unfolding class-size class-next
+loop-again c =
+    let l = c .before .before .before .before .before in
+    next class-size class-next class-right class-moves (T l) (l .loop .at) (l .loop .left) (l .loop .low)
+    (omega arith) (omega arith) (cc) _ _ _ refl refl (omega arith) ∙ l .loop .inv
+
+returns-2 : tie.Need-returns-2 Inv-loop μ-loop
+unfolding fault-place
+returns-2 c =
+    let l = c .before .before .before .before in
+    wrong class-size class-next class-right class-moves (T l) (l .loop .at) (l .loop .left) (l .loop .low)
+    (omega arith) (cc)
+    ∙ l .loop .inv
+
+returns-3 : tie.Need-returns-3 Inv-loop μ-loop
+unfolding fault-place
+returns-3 c =
+    let l = c .before in
+    over class-size class-next class-right class-moves (T l) (l .loop .at) (l .loop .left) (l .loop .low) (omega arith)
+    ∙ l .loop .inv
+
+returns-4 : tie.Need-returns-4 Inv-loop μ-loop
+unfolding fault-place class-fault
+returns-4 c = no-header class-size class-next class-right 8192 0 (now (c .before .before .before .args .classes)) (cc)
+
+pub check-classes-spec : {M : Type 1} → statement M
+check-classes-spec =
+    tie.close
+    (tie.spec
+    Inv-loop
+    μ-loop
+    headed-requires
+    loop-holds
+    returns
+    class-right-requires
+    three-requires
+    add-low
+    add-at
+    sub-left
+    loop-less
+    loop-again
+    returns-2
+    returns-3
+    returns-4)

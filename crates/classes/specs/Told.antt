@@ -1,0 +1,70 @@
+-- What the answers of this crate's functions say, in the definition's terms.
+use Prim.Native.Nat.{ℕ, zero, suc, _+_, _-_, _*_, _≤_, _<_}
+use mathlib.Core.List.{List, [], _∷_, map}
+use mathlib.Core.Option.{Option, none, some}
+use mathlib.Core.Path.{_≡_}
+use lib.ListN.{length, take, drop}
+use Rattle.base.specs.Bits.{bit}
+use Rattle.definition.specs.Tables.{Class, Vowel}
+use Rattle.definition.specs.ClassRows.{class-by, class-fault, classes-of}
+use Rattle.definition.specs.VowelRows.{vowel-fault}
+use Rattle.definition.specs.Classes.{plain, class, alpha}
+use Rattle.classes.specs.declared.TableRead.{TableRead}
+use Rattle.classes.specs.declared.TableRead.the-variants.{Valid, Fault}
+use Rattle.classes.specs.declared.ClassOf.{ClassOf}
+use Rattle.classes.specs.declared.ClassOf.the-variants.{Row, Absent}
+use Rattle.classes.specs.declared.VowelOf.{VowelOf}
+use Rattle.classes.specs.declared.VowelOf.the-variants.{Row as Sounding, Absent as Silent}
+
+-- a table's first fault
+unfoldable pub fault-place : TableRead → Option ℕ
+fault-place Valid = none
+fault-place (Fault p) = some p
+
+-- A class table, and a vowel table, that were checked
+abbrev pub Fine : List ℕ → Type 0
+Fine b = class-fault b ≡ none
+
+abbrev pub FineVowels : List ℕ → Type 0
+FineVowels b = vowel-fault b ≡ none
+
+-- a character's class by its row, or the default
+unfoldable pub seen : ℕ → ClassOf → Class
+seen c (Row r) = class-by c (r .category) (r .script) (r .flags)
+seen c Absent = plain c
+
+-- a row's numbers are within those of an accepted table
+unfoldable pub Ranged : ClassOf → Type 0
+Ranged (Row r) = (r .category ≤ 7) × (r .script ≤ 127) × (r .flags < 128)
+Ranged Absent = Unit {0}
+
+-- A class in one number: category in bits 0 to 2, script in 3 to 9, flags from 10 on
+unfoldable pub flags-of : Class → ℕ
+flags-of k =
+    bit (k .sign) + bit (k .medial) * 2 + bit (k .subjoined) * 4 + bit (k .virama) * 8
+    + bit (k .vocalic) * 16 + bit (k .tone) * 32 + bit (k .pre) * 64
+
+unfoldable pub packed : Class → ℕ
+packed k = k .category + k .script * 8 + flags-of k * 1024
+
+-- the packed classes of some characters
+unfoldable pub kinds-of : List ℕ → List ℕ → List ℕ
+kinds-of b t = map (λ c. packed (class (classes-of b) c)) t
+
+-- of each character below 128 whether it is a letter or a mark
+unfoldable pub from : ℕ → ℕ → List ℕ
+from k zero = []
+from k (suc n) = k ∷ from (k + 1) n
+
+unfoldable pub alphas-of : List ℕ → List ℕ
+alphas-of b = map (λ c. bit (alpha (classes-of b) c)) (from 0 128)
+
+-- a script's vowel by its row in the table
+unfoldable pub told : List ℕ → ℕ → VowelOf → Option Vowel
+told b k (Sounding r) = some (record { script = k; ao = r .ao; letters = take (r .to - r .from) (drop (r .from) b) })
+told b k Silent = none
+
+-- its letters stand in the table, four at most
+unfoldable pub Lettered : List ℕ → VowelOf → Type 0
+Lettered b (Sounding r) = (r .from ≤ r .to) × (r .to ≤ r .from + 4) × (r .to ≤ length b)
+Lettered b Silent = Unit {0}

@@ -1,0 +1,375 @@
+// The class table and the vowel table (dicts/model.rs, dicts/mod.rs): their checks, and what they say of a character.
+ghost use mathlib.Core.Path.{_≡_};
+ghost use mathlib.Core.Option.{none};
+ghost use Prim.Native.Nat.{_+_, _-_, _*_, _≤_, _<_};
+ghost use lib.ListN.{length, take, drop, getD};
+ghost use Rattle.base.specs.Lists.{all};
+ghost use Rattle.base.specs.Bits.{bit};
+ghost use Rattle.definition.specs.Texts.{latin};
+ghost use Rattle.definition.specs.Utf8.{scalar};
+ghost use Rattle.definition.specs.Blocks.{headed, small};
+ghost use Rattle.definition.specs.ClassRows.{class-fits, space-right, latin-right, class-right};
+ghost use Rattle.definition.specs.ClassRows.{class-fault, classes-of};
+ghost use Rattle.definition.specs.VowelRows.{vowel-size, vowel-fits, letters-right, vowel-right};
+ghost use Rattle.definition.specs.VowelRows.{vowel-fault, vowels-of};
+ghost use Rattle.definition.specs.Classes.{plain, class, alpha};
+ghost use Rattle.definition.specs.Vowels.{vowel-row};
+ghost use Rattle.classes.specs.Told.{fault-place, Fine, FineVowels, seen, Ranged};
+ghost use Rattle.classes.specs.Told.{packed, kinds-of, alphas-of, told, Lettered};
+
+// A table is valid, or has its first fault at this row's offset (0 for the header).
+pub enum TableRead {
+    Valid,
+    Fault(usize),
+}
+
+pub struct ClassRow {
+    pub category: u32,
+    pub script: u32,
+    pub flags: u32,
+}
+
+// A character's row, if it has one.
+pub enum ClassOf {
+    Row(ClassRow),
+    Absent,
+}
+
+// The row of a script: its type, and where in the table its letters stand.
+pub struct VowelRow {
+    pub ao: bool,
+    pub from: usize,
+    pub to: usize,
+}
+
+pub enum VowelOf {
+    Row(VowelRow),
+    Absent,
+}
+
+// A scalar value: no surrogate, and none past U+10FFFF.
+pub fn scalar(c: u32) -> bool
+    ensures { λ r. ⌜ r ≡ scalar c ⌝ }
+{
+    c < 0xD800 || (0xE000 <= c && c <= 0x10FFFF)
+}
+
+// A-Z or a-z.
+pub fn latin(c: u32) -> bool
+    ensures { λ r. ⌜ r ≡ latin c ⌝ }
+{
+    if c < 97 {
+        return 65 <= c && c <= 90;
+    }
+    c <= 122
+}
+
+// a-z.
+pub fn small(c: u32) -> bool
+    ensures { λ r. ⌜ r ≡ small c ⌝ }
+{
+    97 <= c && c <= 122
+}
+
+// Whether all bytes from a place to another are a-z.
+pub fn all_small(s: &[u8], from: usize, to: usize) -> bool
+    requires { ⌜ (from ≤ to) × (to ≤ length (now s)) ⌝ }
+    ensures { λ r. ⌜ r ≡ all small (take (to - from) (drop from (now (s .entry)))) ⌝ }
+{
+    let mut at = from;
+    while at < to {
+        if small(base::byte(s, at)) {
+            at += 1;
+        } else {
+            return false;
+        }
+    }
+    true
+}
+
+// The block's header: version 1, and a length that fills the slice.
+pub fn headed(table: &[u8]) -> bool
+    ensures { λ r. ⌜ r ≡ headed (now (table .entry)) ⌝ }
+{
+    5 <= table.len()
+        && (base::byte(table, 0) == 1 && 5 + base::four(table, 0, 1) == table.len() as u64)
+}
+
+// A class row within the table, of a scalar value that rises, with known numbers.
+fn class_fits(classes: &[u8], row: usize, low: u32) -> bool
+    ensures { λ r. ⌜ r ≡ class-fits low (drop row (now (classes .entry))) ⌝ }
+{
+    if classes.len() < row {
+        return false;
+    }
+    if classes.len() - row < 6 {
+        return false;
+    }
+    let c = base::three(classes, row, 0);
+    if c < low {
+        return false;
+    }
+    if 7 < base::at(classes, row, 3) {
+        return false;
+    }
+    if 127 < base::at(classes, row, 4) {
+        return false;
+    }
+    if 127 < base::at(classes, row, 5) {
+        return false;
+    }
+    scalar(c)
+}
+
+// A space has a plain row.
+fn space_right(classes: &[u8], row: usize) -> bool
+    ensures { λ r. ⌜ r ≡ space-right (drop row (now (classes .entry))) ⌝ }
+{
+    base::three(classes, row, 0) != 32
+        || (base::at(classes, row, 3) == 7
+            && (base::at(classes, row, 4) == 0 && base::at(classes, row, 5) == 0))
+}
+
+// A-Z and a-z are letters.
+fn latin_right(classes: &[u8], row: usize) -> bool
+    ensures { λ r. ⌜ r ≡ latin-right (drop row (now (classes .entry))) ⌝ }
+{
+    if latin(base::three(classes, row, 0)) {
+        return base::at(classes, row, 3) == 1;
+    }
+    true
+}
+
+// A class row that may follow the characters below `low`.
+pub fn class_right(classes: &[u8], row: usize, low: u32) -> bool
+    ensures { λ r. ⌜ r ≡ class-right low (drop row (now (classes .entry))) ⌝ }
+{
+    class_fits(classes, row, low) && (space_right(classes, row) && latin_right(classes, row))
+}
+
+// The first fault of a class table. No more than 8192 rows, and characters rise.
+pub fn check_classes(classes: &[u8]) -> TableRead
+    ensures { λ r. ⌜ fault-place r ≡ class-fault (now (classes .entry)) ⌝ }
+{
+    if headed(classes) {
+        let mut at: usize = 5;
+        let mut left: u32 = 8192;
+        let mut low: u32 = 0;
+        while at < classes.len() {
+            if left == 0 {
+                return TableRead::Fault(at);
+            }
+            if class_right(classes, at, low) {
+                low = base::three(classes, at, 0) + 1;
+                at += 6;
+                left -= 1;
+            } else {
+                return TableRead::Fault(at);
+            }
+        }
+        return TableRead::Valid;
+    }
+    TableRead::Fault(0)
+}
+
+// A vowel row within the table, of a script that rises, with a known type.
+fn vowel_fits(vowels: &[u8], row: usize, low: u32) -> bool
+    ensures { λ r. ⌜ r ≡ vowel-fits low (drop row (now (vowels .entry))) ⌝ }
+{
+    if vowels.len() < row {
+        return false;
+    }
+    let count = base::at(vowels, row, 2) as usize;
+    if vowels.len() - row < 3 + count {
+        return false;
+    }
+    let script = base::at(vowels, row, 0);
+    if script < low {
+        return false;
+    }
+    if 127 < script {
+        return false;
+    }
+    base::at(vowels, row, 1) <= 1
+}
+
+// One to four letters, for a row within the table.
+fn letters_right(vowels: &[u8], row: usize) -> bool
+    requires { ⌜ vowel-size (drop row (now vowels)) ≤ length (drop row (now vowels)) ⌝ }
+    ensures { λ r. ⌜ r ≡ letters-right (drop row (now (vowels .entry))) ⌝ }
+{
+    let count = base::at(vowels, row, 2) as usize;
+    if count < 1 {
+        return false;
+    }
+    if 4 < count {
+        return false;
+    }
+    let from = row + 3;
+    all_small(vowels, from, from + count)
+}
+
+// A vowel row that may follow the scripts below `low`.
+pub fn vowel_right(vowels: &[u8], row: usize, low: u32) -> bool
+    ensures { λ r. ⌜ r ≡ vowel-right low (drop row (now (vowels .entry))) ⌝ }
+{
+    vowel_fits(vowels, row, low) && letters_right(vowels, row)
+}
+
+// The first fault of a vowel table. Scripts rise from 1 to 127.
+pub fn check_vowels(vowels: &[u8]) -> TableRead
+    ensures { λ r. ⌜ fault-place r ≡ vowel-fault (now (vowels .entry)) ⌝ }
+{
+    if headed(vowels) {
+        let mut at: usize = 5;
+        let mut left: u32 = 127;
+        let mut low: u32 = 1;
+        while at < vowels.len() {
+            if left == 0 {
+                return TableRead::Fault(at);
+            }
+            if vowel_right(vowels, at, low) {
+                low = base::at(vowels, at, 0) + 1;
+                at += 3 + base::at(vowels, at, 2) as usize;
+                left -= 1;
+            } else {
+                return TableRead::Fault(at);
+            }
+        }
+        return TableRead::Valid;
+    }
+    TableRead::Fault(0)
+}
+
+// The numbers of the row at a place.
+fn class_row(classes: &[u8], row: usize) -> ClassRow
+    ensures { λ r. ⌜ (r .category ≡ getD (drop row (now (classes .entry))) 3 0)
+        × (r .script ≡ getD (drop row (now (classes .entry))) 4 0)
+        × (r .flags ≡ getD (drop row (now (classes .entry))) 5 0) ⌝ }
+{
+    ClassRow {
+        category: base::at(classes, row, 3),
+        script: base::at(classes, row, 4),
+        flags: base::at(classes, row, 5),
+    }
+}
+
+// The row of a character, halving the rows that may be it: characters rise.
+pub fn class_of(classes: &[u8], c: u32) -> ClassOf
+    requires { ⌜ Fine (now classes) ⌝ }
+    ensures { λ r. ⌜ (seen c r ≡ class (classes-of (now (classes .entry))) c) × Ranged r ⌝ }
+{
+    let mut low: usize = 0;
+    let mut high: usize = (classes.len() - 5) / 6;
+    while low < high {
+        let mid = low + (high - low) / 2;
+        let row = 5 + mid * 6;
+        let char = base::three(classes, row, 0);
+        if char == c {
+            return ClassOf::Row(class_row(classes, row));
+        }
+        if char < c {
+            low = mid + 1;
+        } else {
+            high = mid;
+        }
+    }
+    ClassOf::Absent
+}
+
+// The packed class of a character with no row.
+fn plain_kind(c: u32) -> u32
+    ensures { λ r. ⌜ r ≡ packed (plain c) ⌝ }
+{
+    if latin(c) {
+        return 1;
+    }
+    0
+}
+
+// The numbers of a row in one.
+fn pack(row: ClassRow) -> u32
+    requires { ⌜ (row .category ≤ 7) × (row .script ≤ 127) × (row .flags < 128) ⌝ }
+    ensures { λ r. ⌜ r ≡ row .category + row .script * 8 + row .flags * 1024 ⌝ }
+{
+    row.category + row.script * 8 + row.flags * 1024
+}
+
+// A character's class in one number: category, script and flags.
+pub fn kind_of(classes: &[u8], c: u32) -> u32
+    requires { ⌜ Fine (now classes) ⌝ }
+    ensures { λ r. ⌜ r ≡ packed (class (classes-of (now (classes .entry))) c) ⌝ }
+{
+    let ClassOf::Row(row) = class_of(classes, c) else {
+        return plain_kind(c);
+    };
+    pack(row)
+}
+
+// The classes of a text's characters, one for each.
+pub fn classify(classes: &[u8], chars: &[u32], kinds: &mut [u32])
+    requires { ⌜ Fine (now classes) × (length (now kinds) ≡ length (now chars)) ⌝ }
+    ensures { λ r. ⌜ now (kinds .exit) ≡ kinds-of (now (classes .entry)) (now (chars .entry)) ⌝ }
+{
+    let mut i: usize = 0;
+    while i < chars.len() {
+        kinds[i] = kind_of(classes, chars[i]);
+        i += 1;
+    }
+}
+
+// 1 for a letter or a mark, 0 for any other character.
+fn alpha_byte(classes: &[u8], c: u32) -> u8
+    requires { ⌜ Fine (now classes) ⌝ }
+    ensures { λ r. ⌜ r ≡ bit (alpha (classes-of (now (classes .entry))) c) ⌝ }
+{
+    let category = kind_of(classes, c) % 8;
+    if category < 1 {
+        return 0;
+    }
+    if 3 < category {
+        return 0;
+    }
+    1
+}
+
+// Of each ASCII character whether it is a letter or a mark: the texts of edges are ASCII.
+pub fn classify_ascii(classes: &[u8], alphas: &mut [u8])
+    requires { ⌜ Fine (now classes) × (length (now alphas) ≡ 128) ⌝ }
+    ensures { λ r. ⌜ now (alphas .exit) ≡ alphas-of (now (classes .entry)) ⌝ }
+{
+    let mut i: u32 = 0;
+    while i < 128 {
+        alphas[i as usize] = alpha_byte(classes, i);
+        i += 1;
+    }
+}
+
+// The vowel row of a script.
+pub fn vowel_row(vowels: &[u8], script: u32) -> VowelOf
+    requires { ⌜ FineVowels (now vowels) ⌝ }
+    ensures { λ r. ⌜ (told (now (vowels .entry)) script r ≡ vowel-row (vowels-of (now (vowels .entry))) script)
+        × Lettered (now (vowels .entry)) r ⌝ }
+{
+    let mut at: usize = 5;
+    while at < vowels.len() {
+        let from = at + 3;
+        let to = from + base::at(vowels, at, 2) as usize;
+        if base::at(vowels, at, 0) == script {
+            let ao = base::at(vowels, at, 1) == 1;
+            return VowelOf::Row(VowelRow { ao, from, to });
+        }
+        at = to;
+    }
+    VowelOf::Absent
+}
+
+// The letters of a row, as they stand in the lent table.
+pub fn vowel_letters<'a>(vowels: &'a [u8], row: VowelRow) -> &'a [u8]
+    requires { ⌜ (row .from ≤ row .to) × (row .to ≤ length (now vowels)) ⌝ }
+    ensures { λ r. ⌜ now r ≡ take (row .to - row .from) (drop (row .from) (now (vowels .entry))) ⌝ }
+{
+    let from = row.from;
+    let to = row.to;
+    &vowels[from..to]
+}

@@ -1,0 +1,36 @@
+-- `dicts::is_prefix`: the row where the search stops says it.
+use mathlib.Core.Path.{_≡_, refl, sym, ap, _∙_}
+use Prim.Native.Nat.{ℕ, _+_, _-_, _*_, _≤_, _<_, _/_}
+use native.Mathlib.Omega.{arith}
+use lib.ListN.{length, getD, drop}
+use denote.Ref.{now}
+use borrow.Author.Needs.{needs}
+use Rattle.dicts.specs.Index.{Ready}
+use Rattle.dicts.specs.Seek.{first-at, start-over, start-there}
+use Rattle.dicts.proofs.is_prefix.Statement.{statement}
+use Rattle.dicts.proofs.is_prefix.Tie as tie
+use Rattle.dicts.proofs.is_prefix.Reads as reads
+use Rattle.dicts.proofs.is_prefix.Lts as lts
+use Rattle.dicts.proofs.seek.Reads as seek-reads
+use Rattle.dicts.proofs.starts_with.Reads as starts-with-reads
+
+seek-requires : tie.Need-seek-requires
+seek-requires c κs = search needs
+
+starts-with-requires : tie.Need-starts-with-requires
+starts-with-requires c κs = search needs
+
+returns : tie.Need-returns
+returns c =
+    let s = c .before .before in
+    let a = s .before .before .before .before .args in
+    c .starts-with .ensures ∙ start-there (now (a .rules)) (now (a .w)) (s .before .before .before .before .pre .accepted) _ (s .seek .ensures) (omega arith)
+
+returns-2 : tie.Need-returns-2
+returns-2 c =
+    let s = c .before in
+    let a = s .before .before .before .before .args in
+    start-over (now (a .rules)) (now (a .w)) (s .before .before .before .before .pre .accepted) _ (s .seek .ensures) (omega arith)
+
+pub is-prefix-spec : {M : Type 1} → statement M
+is-prefix-spec = tie.close (tie.spec seek-requires starts-with-requires returns returns-2)

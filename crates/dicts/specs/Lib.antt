@@ -1,0 +1,8 @@
+pub mod Marks
+pub mod Order
+pub mod Sorted
+pub mod Doors
+pub mod Index
+pub mod Seek
+pub mod Starts
+pub mod First

@@ -1,0 +1,254 @@
+// The rule table as a whole (dicts/mod.rs): its check, its sparse index, and the doors to its rows.
+ghost use mathlib.Core.Path.{_≡_};
+ghost use mathlib.Core.Bool.{Bool};
+ghost use mathlib.Core.Option.{none};
+ghost use Prim.Native.Nat.{_+_, _<_, _≤_};
+ghost use lib.ListN.{length, drop};
+ghost use Rattle.definition.specs.RuleRows.{rule-source, rule-right, rule-fault, rules-of};
+ghost use Rattle.classes.specs.Told.{fault-place};
+ghost use Rattle.dicts.specs.Marks.{mark-of};
+ghost use Rattle.dicts.specs.Order.{compared};
+ghost use Rattle.dicts.specs.Index.{index-entries, row-offsets, entered, indexed, Ready};
+ghost use Rattle.dicts.specs.Seek.{is-below, is-equal, order-at, first-at, equal-rows};
+ghost use Rattle.dicts.specs.Doors.{is-start};
+ghost use Rattle.dicts.specs.First.{target-named, readable};
+ghost use Rattle.definition.specs.Rules.{first-rule};
+ghost use Rattle.base.specs.Lists.{starts};
+use classes::TableRead;
+use rulerow::Cursor;
+
+// The bit of a row's flags that tells of a target.
+const TARGET_BIT: u32 = 5;
+
+// How a source stands to what is looked for.
+pub enum Order {
+    Below,
+    Equal,
+    Above,
+}
+
+// Rows one after another: where the first is, and how many there are.
+pub struct Rows {
+    pub first: usize,
+    pub count: usize,
+}
+
+// The row whose target a text has by its first rule, if there is one.
+pub enum FirstRule {
+    Target(usize),
+    Without,
+}
+
+// Whether a row is right after the one at `old`, or as the first.
+fn row_right(rules: &[u8], row: usize, old: usize, first: bool) -> bool
+    requires { ⌜ row ≤ length (now rules) ⌝ }
+    ensures { λ r. ⌜ r ≡ rule-right (mark-of (now (rules .entry)) old first) (drop row (now (rules .entry))) ⌝ }
+{
+    let c = rulerow::read_row(rules, row);
+    match c {
+        Cursor::Next(_) => {
+            if first {
+                return true;
+            }
+            return rulerow::sources_rise(rules, old, row);
+        }
+        Cursor::Wrong(_, _) => {
+            return false;
+        }
+    }
+}
+
+// The first fault of a rule table. No more than 8192 rows, and sources rise.
+pub fn check_rules(rules: &[u8]) -> TableRead
+    ensures { λ r. ⌜ fault-place r ≡ rule-fault (now (rules .entry)) ⌝ }
+{
+    if classes::headed(rules) {
+        let mut at: usize = 5;
+        let mut left: u32 = 8192;
+        let mut old: usize = 5;
+        let mut first = true;
+        while at < rules.len() {
+            if left == 0 {
+                return TableRead::Fault(at);
+            }
+            if row_right(rules, at, old, first) {
+                old = at;
+                first = false;
+                at += rulerow::size(rules, at);
+                left -= 1;
+            } else {
+                return TableRead::Fault(at);
+            }
+        }
+        return TableRead::Valid;
+    }
+    TableRead::Fault(0)
+}
+
+// How the source of a row stands to a text.
+pub fn compare_source(rules: &[u8], row: usize, w: &[u32]) -> Order
+    ensures { λ r. ⌜ r ≡ compared (rule-source (drop row (now (rules .entry)))) (now (w .entry)) ⌝ }
+{
+    let mut left = base::at(rules, row, 5);
+    let mut o: usize = 6;
+    let mut i: usize = 0;
+    while 0 < left {
+        if w.len() <= i {
+            return Order::Above;
+        }
+        let c = base::three(rules, row, o);
+        let d = w[i];
+        if c < d {
+            return Order::Below;
+        }
+        if d < c {
+            return Order::Above;
+        }
+        left -= 1;
+        o += 3;
+        i += 1;
+    }
+    if i < w.len() {
+        return Order::Below;
+    }
+    Order::Equal
+}
+
+// The offset of row `n`, put into the index if it is a 16th one and there is room.
+fn put_offset(index: &mut [u32], n: usize, at: usize)
+    requires { ⌜ at < 0x100000000 ⌝ }
+    ensures { λ r. ⌜ now (index .exit) ≡ entered n at (now (index .entry)) ⌝ }
+{
+    let k = n / 16;
+    if index.len() <= k {
+        return;
+    }
+    if n % 16 == 0 {
+        index[k] = at as u32;
+    }
+}
+
+// The offset of every 16th row, put into the index as far as that reaches.
+pub fn fill_index(rules: &[u8], index: &mut [u32])
+    requires { ⌜ length (now index) ≤ index-entries ⌝ }
+    ensures { λ r. ⌜ now (index .exit) ≡ indexed 0 (row-offsets (now (rules .entry))) (now (index .entry)) ⌝ }
+{
+    let mut at: usize = 5;
+    let mut n: usize = 0;
+    while at < rules.len() {
+        if index.len() <= n / 16 {
+            return;
+        }
+        put_offset(index, n, at);
+        at += rulerow::size(rules, at);
+        n += 1;
+    }
+}
+
+// Is the row's source below a text, or equal to it?
+fn is_below(rules: &[u8], row: usize, w: &[u32]) -> bool
+    ensures { λ r. ⌜ r ≡ is-below (order-at (now (rules .entry)) (now (w .entry)) row) ⌝ }
+{
+    match compare_source(rules, row, w) {
+        Order::Below => true,
+        Order::Equal => false,
+        Order::Above => false,
+    }
+}
+
+fn is_equal(rules: &[u8], row: usize, w: &[u32]) -> bool
+    ensures { λ r. ⌜ r ≡ is-equal (order-at (now (rules .entry)) (now (w .entry)) row) ⌝ }
+{
+    match compare_source(rules, row, w) {
+        Order::Below => false,
+        Order::Equal => true,
+        Order::Above => false,
+    }
+}
+
+// The first row that is not below a text, or the end of the table.
+fn seek(rules: &[u8], w: &[u32]) -> usize
+    ensures { λ r. ⌜ r ≡ first-at (now (rules .entry)) (now (w .entry)) ⌝ }
+{
+    let mut at: usize = 5;
+    while at < rules.len() {
+        if is_below(rules, at, w) {
+            at += rulerow::size(rules, at);
+        } else {
+            return at;
+        }
+    }
+    rules.len()
+}
+
+// The rows with a source: the first, and how many. The index is where a search begins; the walk needs none yet.
+pub fn find_rows(rules: &[u8], index: &[u32], w: &[u32]) -> Rows
+    requires { ⌜ Ready (now rules) (now index) ⌝ }
+    ensures { λ r. ⌜ (r .first ≡ first-at (now (rules .entry)) (now (w .entry)))
+        × (r .count ≡ equal-rows (now (rules .entry)) (now (w .entry))) ⌝ }
+{
+    let first = seek(rules, w);
+    let mut at = first;
+    let mut count: usize = 0;
+    while at < rules.len() {
+        if is_equal(rules, at, w) {
+            at += rulerow::size(rules, at);
+            count += 1;
+        } else {
+            return Rows { first, count };
+        }
+    }
+    Rows { first, count }
+}
+
+// Does the row's source start with a text?
+fn starts_with(rules: &[u8], row: usize, w: &[u32]) -> bool
+    ensures { λ r. ⌜ r ≡ starts (now (w .entry)) (rule-source (drop row (now (rules .entry)))) ⌝ }
+{
+    let mut left = base::at(rules, row, 5);
+    let mut o: usize = 6;
+    let mut i: usize = 0;
+    while i < w.len() {
+        if left == 0 {
+            return false;
+        }
+        if base::three(rules, row, o) != w[i] {
+            return false;
+        }
+        left -= 1;
+        o += 3;
+        i += 1;
+    }
+    true
+}
+
+// Is a text the start of a source?
+pub fn is_prefix(rules: &[u8], index: &[u32], w: &[u32]) -> bool
+    requires { ⌜ Ready (now rules) (now index) ⌝ }
+    ensures { λ r. ⌜ r ≡ is-start (now (w .entry)) (rules-of (now (rules .entry))) ⌝ }
+{
+    let at = seek(rules, w);
+    if at < rules.len() {
+        return starts_with(rules, at, w);
+    }
+    false
+}
+
+// `romanization_by_first_rule`: the target of the first row with a source, whatever its codes and flags.
+pub fn first_rule(rules: &[u8], index: &[u32], w: &[u32]) -> FirstRule
+    requires { ⌜ Ready (now rules) (now index) ⌝ }
+    ensures { λ r. ⌜ (target-named (now (rules .entry)) r ≡ first-rule (rules-of (now (rules .entry))) (now (w .entry)))
+        × readable (now (rules .entry)) r ⌝ }
+{
+    let at = seek(rules, w);
+    if rules.len() <= at {
+        return FirstRule::Without;
+    }
+    if is_equal(rules, at, w) {
+        if rulerow::flag(rules, at, TARGET_BIT) {
+            return FirstRule::Target(at);
+        }
+        return FirstRule::Without;
+    }
+    FirstRule::Without
+}

@@ -1,0 +1,131 @@
+// Runs the checks of the three tables on the vectors of standard input, which tests/tables/vectors.py writes, and counts
+// those whose answer is another than the one given.
+ghost use Prim.Native.Nat.{_+_, _<_, _≤_};
+ghost use lib.ListN.{length};
+use classes::TableRead;
+
+// A vector that was run: how many bytes it takes, and whether all was as given.
+struct Ran {
+    size: usize,
+    right: bool,
+}
+
+// How many were run, and how many were not right.
+struct Tally {
+    vectors: u64,
+    differ: u64,
+}
+
+// A byte of the vectors, and 0 past their end.
+fn byte(input: &[u8], i: usize) -> usize
+    ensures { λ r. ⌜ r < 256 ⌝ }
+{
+    if i < input.len() {
+        return wide(input[i]);
+    }
+    0
+}
+
+fn wide(x: u8) -> usize
+    ensures { λ r. ⌜ r < 256 ⌝ }
+{
+    x as usize
+}
+
+// A length or a place in three bytes.
+fn three(input: &[u8], at: usize) -> usize
+    requires { ⌜ at < 0x100000000 ⌝ }
+    ensures { λ r. ⌜ r < 0x1000000 ⌝ }
+{
+    byte(input, at) * 65536 + byte(input, at + 1) * 256 + byte(input, at + 2)
+}
+
+// What the check says of a table: 0 rules, 1 classes, 2 vowels.
+fn checked(kind: usize, table: &[u8]) -> TableRead {
+    if kind == 0 {
+        return dicts::check_rules(table);
+    }
+    if kind == 1 {
+        return classes::check_classes(table);
+    }
+    classes::check_vowels(table)
+}
+
+// Is the answer the one given: 0 and no place, or 1 and the place of the fault?
+fn is_answer(read: TableRead, fault: usize, place: usize) -> bool {
+    match read {
+        TableRead::Valid => {
+            if fault == 0 {
+                return place == 0;
+            }
+            return false;
+        }
+        TableRead::Fault(at) => {
+            if fault == 1 {
+                return at == place;
+            }
+            return false;
+        }
+    }
+}
+
+// The answer of the table at `at`, which is `len` bytes long and whose answer stands behind it. A fourth kind has none.
+fn is_right(input: &[u8], kind: usize, at: usize, len: usize) -> bool
+    requires { ⌜ (at + len ≤ length (now input)) × (at < 0x10000000) × (len < 0x10000000) ⌝ }
+{
+    if 2 < kind {
+        return false;
+    }
+    let end = at + len;
+    let read = checked(kind, &input[at..end]);
+    is_answer(read, byte(input, end), three(input, end + 1))
+}
+
+// One vector. Where it runs past the end it is not right, and it is the last.
+fn run_one(input: &[u8], at: usize) -> Ran
+    requires { ⌜ (at < length (now input)) × (at < 0x1000000) ⌝ }
+    ensures { λ r. ⌜ (0 < r .size) × (r .size < 0x2000000) ⌝ }
+{
+    let len = three(input, at + 1);
+    let size = 4 + len + 4;
+    if input.len() < at + size {
+        return Ran { size, right: false };
+    }
+    Ran {
+        size,
+        right: is_right(input, byte(input, at), at + 4, len),
+    }
+}
+
+// All vectors, one behind the other.
+fn run_all(input: &[u8]) -> Tally
+    requires { ⌜ length (now input) < 0x1000000 ⌝ }
+{
+    let mut at = 0;
+    let mut vectors = 0;
+    let mut differ = 0;
+    while at < input.len() {
+        let ran = run_one(input, at);
+        if !ran.right {
+            differ += 1;
+        }
+        vectors += 1;
+        at += ran.size;
+    }
+    Tally { vectors, differ }
+}
+
+// Room for the vectors. It is apart so that `main` knows its length alone, and no proof goes through its bytes.
+fn room() -> [u8; 1000000] {
+    [0u8; 1000000]
+}
+
+fn main() {
+    let mut input = room();
+    let n = io::read_full(0, &mut input);
+    let tally = run_all(&input[..n]);
+    io::print_decimal(1, tally.vectors);
+    io::write_all(1, b" vectors, ");
+    io::print_decimal(1, tally.differ);
+    io::write_all(1, b" differ\n");
+}

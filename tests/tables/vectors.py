@@ -1,0 +1,357 @@
+#!/usr/bin/env python3
+"""Vectors for the checks of the three tables (crates classes and dicts).
+
+vectors.py            writes crates/tables_vectors/stdin and stdout
+vectors.py --check    only says whether they are what it would write
+
+A vector: the kind of table (0 rules, 1 classes, 2 vowels), the table's length in three bytes and its bytes; 0 for a valid
+table or 1 for a faulty one, and the place of the fault in three bytes (0 where there is none). Numbers are big-endian.
+
+The answers come from three sides. The frozen calls have one for each table that a call was refused by or that passed. Some
+are written here beside the damage. The rest is answered by the reader below, which must agree with all the others."""
+import itertools
+import pathlib
+import string
+import sys
+
+TESTS = pathlib.Path(__file__).resolve().parents[1]
+FOLDER = TESTS.parent / 'crates' / 'tables_vectors'
+sys.path[:0] = [str(TESTS / 'calls'), str(TESTS / 'generate')]
+import callfile
+from tables import A, AO, CF, CO, DEVANAGARI, LETTER, MARK, OTHER, PRE, START, THAI, VIRAMA, WHOLE, ZS
+from tables import block, class_row, rule_row, vowel_row
+
+RULES, CLASSES, VOWELS = range(3)
+NAMES = ('rules', 'classes', 'vowels')
+ROOM = 1000000      # the length of `room` in crates/tables_vectors
+LARGE = 4000        # longer tables are taken sparingly
+
+
+# The reader takes the parts of a row in their order from what the row has, and stops at the first that is wrong. It is written
+# from the definition, which finds each part by its offset instead.
+
+class Wrong(ValueError):
+    """callfile.Bytes raises a ValueError where the bytes end too early, which is a fault as well"""
+
+
+def need(right):
+    if not right:
+        raise Wrong
+
+
+def scalar(c):
+    return c < 0xD800 or 0xDFFF < c < 0x110000
+
+
+def small(letters):
+    return set(letters) <= set(string.ascii_lowercase.encode())
+
+
+def read_text(row):
+    n = row.number(1)
+    need(n <= 64)
+    need(all(0x20 <= c <= 0x7E for c in row.take(n)))
+
+
+def read_rule(block, before):
+    row = callfile.Bytes(block.take(block.number(2)))
+    flags = row.number(1)
+    need(flags < 128)
+    row.take(2)                                                 # the restriction count may be any
+    source = [row.number(3) for _ in range(row.number(1))]
+    need(1 <= len(source) <= 16 and all(map(scalar, source)))
+    need(before <= source)
+    codes = [row.take(3) for _ in range(row.number(1))]
+    need(len(codes) <= 8 and all(map(small, codes)))
+    for bit in (5, 6):
+        if flags >> bit & 1:
+            read_text(row)
+    others = row.number(1)
+    need(others <= 8)
+    for _ in range(others):
+        read_text(row)
+    need(row.done())
+    return source
+
+
+def read_class(block, before):
+    c, category, script, flags = (block.number(n) for n in (3, 1, 1, 1))
+    need(scalar(c) and before < c)
+    need(category <= 7 and script <= 127 and flags <= 127)
+    need(c != 0x20 or (category, script, flags) == (ZS, 0, 0))
+    need(chr(c) not in string.ascii_letters or category == LETTER)
+    return c
+
+
+def read_vowel(block, before):
+    script, kind, n = (block.number(1) for _ in range(3))
+    need(before < script <= 127 and kind <= 1)
+    need(1 <= n <= 4 and small(block.take(n)))
+    return script
+
+
+# how a row is read, what stands before the first, and how many there may be
+READERS = ((read_rule, [], 8192), (read_class, -1, 8192), (read_vowel, 0, 127))
+
+
+def read(kind, table):
+    """the place of the first fault, or None"""
+    read_row, before, most = READERS[kind]
+    bytes_of = callfile.Bytes(table)
+    place = 0
+    try:
+        need(bytes_of.number(1) == 1)
+        need(bytes_of.number(4) == len(table) - 5)
+        for row in itertools.count():
+            if bytes_of.done():
+                return None
+            place = bytes_of.at
+            need(row < most)
+            before = read_row(bytes_of, before)
+    except ValueError:
+        return place
+
+
+def agreed(vectors):
+    """each table once; the reader agrees with every answer"""
+    found = {}
+    for kind, table, place in vectors:
+        if (kind, table) in found:
+            assert found[kind, table] == place, (kind, table.hex())
+            continue
+        second = read(kind, table)
+        if place != second:
+            sys.exit(f'{NAMES[kind]}: the answer is {place}, but the reader says {second}: {table.hex()}')
+        found[kind, table] = place
+        yield kind, table, place
+
+
+# Answered by the frozen calls. A call that is refused by one table has passed those before it.
+
+def answered(calls):
+    for given, _, answer in calls:
+        for kind, name in enumerate(NAMES):
+            number = 2 + kind
+            if answer.number == number:
+                yield kind, getattr(given, name), answer.place
+            elif answer.number == 0 or answer.number > number:
+                yield kind, getattr(given, name), None
+
+
+def frozen():
+    """every eighth of the random calls' tables, which are alike, and all others; of the large ones only the longest of each
+    kind, valid and faulty: both sides of the border of 8,192 rows"""
+    longest = {}
+    for path in sorted((TESTS / 'calls').glob('*.calls.xz')):
+        every = 8 if path.name.startswith('random') else 1
+        for kind, table, place in list(agreed(answered(callfile.read(path))))[::every]:
+            if len(table) <= LARGE:
+                yield kind, table, place
+            elif len(table) > len(longest.get((kind, place is None), (kind, b''))[1]):
+                longest[kind, place is None] = kind, table, place
+    yield from longest.values()
+
+
+# Answered here: a row between two good ones, and whether it is right. A fault is at its offset.
+
+def placed(kind, before, row, after, right):
+    for front, back in ((b'', b''), (before, b''), (before, after)):
+        yield kind, block([front, row, back]), None if right else 5 + len(front)
+
+
+CHARACTERS = (0, 0x1F, 0xD7FF, 0xD800, 0xDBFF, 0xDC00, 0xDFFF, 0xE000, 0xFFFF, 0x10000, 0x10FFFF, 0x110000, 0x1FFFFF, 0xFFFFFF)
+
+
+def rest(row, cut=0, more=b''):
+    """a rule row with bytes of its rest cut off or added, its length in step"""
+    body = row[2:len(row) - cut] + more
+    return len(body).to_bytes(2, 'big') + body
+
+
+def rule_rows():
+    first, last = rule_row('\0'), rule_row('\U0010ffff')
+
+    def at(row, right):
+        return placed(RULES, first, row, last, right)
+
+    def source_of(*characters):
+        body = bytes([0, 0, 0, len(characters)]) + b''.join(c.to_bytes(3, 'big') for c in characters) + bytes(2)
+        return len(body).to_bytes(2, 'big') + body
+
+    # how many of each part
+    for n in range(19):
+        yield from at(rule_row('c' * n, 't'), 1 <= n <= 16)
+    for n in range(11):
+        yield from at(rule_row('c', 't', codes=['abc'] * n), n <= 8)
+        yield from at(rule_row('c', 't', others=['x'] * n), n <= 8)
+    for n in (0, 1, 2, 63, 64, 65, 127, 128, 255):
+        s = 'x' * n
+        texts = dict(target=s), dict(end=s), dict(target='t', end=s), dict(others=[s]), dict(others=['y', s])
+        for given in texts:
+            yield from at(rule_row('c', **given), n <= 64)
+    # the flags: each of the lower five, with each of the texts, is right; bit 7 never is
+    for flags in range(32):
+        for target, end in itertools.product((None, 't'), (None, 'e')):
+            yield from at(rule_row('c', target, flags, 65535, end=end), True)
+        yield from at(rule_row('c', 't', flags | 128, end='e'), False)
+    # every byte of a text and of a code
+    for c in range(256):
+        s = chr(c)
+        for row in (rule_row('c', s), rule_row('c', end='a' + s), rule_row('c', others=['', s + 'a'])):
+            yield RULES, block([first, row]), None if 0x20 <= c <= 0x7E else 5 + len(first)
+    for c in range(128):
+        for code in ('%sbc', 'a%sc', 'ab%s'):
+            row = rule_row('c', codes=['xyz', code.replace('%s', chr(c))])
+            yield RULES, block([first, row]), None if chr(c) in string.ascii_lowercase else 5 + len(first)
+    # characters at the borders, each as the only one and as the second
+    for c in CHARACTERS:
+        right = not 0xD800 <= c <= 0xDFFF and c <= 0x10FFFF
+        yield RULES, block([source_of(c)]), None if right else 5
+        yield RULES, block([first, source_of(0x63, c), last]), None if right else 5 + len(first)
+    # a length that is too small or too large, the rest as it was or in step
+    full = rule_row('cd', 't', WHOLE, 258, ['abc', 'xyz'], 'e', ['v', 'w'])
+    for row in (full, rule_row('c'), rule_row('c', 't')):
+        n = len(row) - 2
+        for wrong in (*range(n), 0xFFFF, n + 256):
+            yield RULES, block([first, wrong.to_bytes(2, 'big') + row[2:]]), 5 + len(first)
+        for cut in range(1, n + 1):
+            yield from at(rest(row, cut), False)
+        for more in (b'\0', b'\1', b' ', b'\0\0', b'\1x', b'\xff' * 9):
+            yield from at(rest(row, 0, more), False)
+    # order, as Python orders lists
+    sources = ('a', 'b', 'aa', 'ab', 'ba', 'aaa', 'aab', 'a\xff', 'a\u0100', '\xff', '\u0100', '\uffff', '\U00010000',
+               'a' * 16, 'a' * 15 + 'b')
+    for one, two in itertools.product(sources, repeat=2):
+        rises = [ord(c) for c in one] <= [ord(c) for c in two]
+        yield RULES, block([rule_row(one, 'x'), rule_row(two, 'y')]), None if rises else 5 + len(rule_row(one, 'x'))
+
+
+def class_rows():
+    def of(c, *rest):
+        return c.to_bytes(3, 'big') + bytes(rest)
+
+    first, last = of(0, OTHER, 0, 0), of(0x10FFFF, OTHER, 0, 0)
+    # characters at the borders, but for the first and the last, which stand around them
+    for c in CHARACTERS:
+        if c not in (0, 0x10FFFF):
+            yield from placed(CLASSES, first, of(c, MARK, 1, 1), last, c < 0xD800 or 0xE000 <= c < 0x10FFFF)
+    # each field by itself
+    for n in range(256):
+        yield CLASSES, block([first, of(0xE01, n, 0, 0)]), None if n <= 7 else 11
+        yield CLASSES, block([first, of(0xE01, LETTER, n, 0)]), None if n <= 127 else 11
+        yield CLASSES, block([first, of(0xE01, LETTER, 0, n)]), None if n <= 127 else 11
+    # ASCII: letters have one category, the space has one row
+    for c, category in itertools.product(range(1, 128), range(9)):
+        right = category == 1 if chr(c) in string.ascii_letters else category == 7 if c == 32 else category <= 7
+        yield CLASSES, block([first, of(c, category, 0, 0)]), None if right else 11
+    for fields in itertools.product((0, 1, 6, 7, 8), (0, 1, 127, 128), (0, 1, 64, 127, 128)):
+        yield from placed(CLASSES, first, of(0x20, *fields), last, fields == (7, 0, 0))
+    # order: each character once
+    order = (0, 1, 0xFF, 0x100, 0x1FF, 0xFFFF, 0x10000, 0x100FF, 0x10FFFF)
+    for one, two in itertools.product(order, repeat=2):
+        yield CLASSES, block([of(one, 0, 0, 0), of(two, 0, 0, 0)]), None if one < two else 11
+
+
+def vowel_rows():
+    first, last = vowel_row(1, A, 'a'), vowel_row(127, AO, 'zz')
+    for n in range(256):
+        yield VOWELS, block([vowel_row(n, A, 'a')]), None if 1 <= n <= 127 else 5
+        yield VOWELS, block([first, vowel_row(9, n, 'a')]), None if n <= 1 else 9
+        for letters in ('%s', 'a%s', '%sz', 'abc%s'):
+            right = n < 128 and chr(n) in string.ascii_lowercase
+            yield VOWELS, block([first, vowel_row(9, A, letters.replace('%s', chr(n)))]), None if right else 9
+    for n in (*range(9), 127, 128, 255):
+        yield from placed(VOWELS, first, vowel_row(9, AO, 'a' * n), last, 1 <= n <= 4)
+    for one, two in itertools.product((1, 2, 9, 126, 127), repeat=2):
+        yield VOWELS, block([vowel_row(one, A, 'abc'), vowel_row(two, AO, 'o')]), None if one < two else 11
+    # as many rows as there are scripts, and one more
+    every = [vowel_row(n, A, 'a') for n in range(1, 128)]
+    yield VOWELS, block(every), None
+    yield VOWELS, block([*every, last]), 5 + 127 * len(first)
+
+
+def headers():
+    """a version, a length or an end that is wrong: place 0, whatever the rows are"""
+    given = (rule_row('b', 'B'), bytes(2)), (class_row('b', LETTER), bytes(3)), (vowel_row(5, A, 'a'), bytes(1))
+    for kind, (good, bad) in enumerate(given):
+        for rows in (b'', good, bad):
+            table = block([rows])
+            yield kind, table, 5 if rows == bad else None
+            for n in range(5):
+                yield kind, table[:n], 0
+            for version in (0, 2, 3, 0x80, 0x81, 0xFF):
+                yield kind, bytes([version]) + table[1:], 0
+            n = len(rows)
+            for length in (n + 1, n + 256, n + 65536, n + 2 ** 24, n + 2 ** 31, 2 ** 32 - 1, 2 ** 32 - 5, *range(n)):
+                yield kind, table[:1] + length.to_bytes(4, 'big') + rows, 0
+            for more in (b'\0', b'\1', good):
+                yield kind, table + more, 0
+
+
+# Answered by the reader: good tables damaged at every byte.
+
+GOOD = (
+    (RULES, block([rule_row('b', 'B'), rule_row('cc', 't', WHOLE, 258, ['abc', 'xyz'], 'e', ['v', 'wz']),
+                   rule_row('cd', None, START, 1, end='~')])),
+    (RULES, block([rule_row('c', ' ', others=['', 'x']), rule_row('c', ''), rule_row('c\u0301', 'az', codes=['aaz'])])),
+    (RULES, block([rule_row('\u0e40\u2013\u0e32', 'ao'), rule_row('\ud7ff', '', 31, 65535, end=''), rule_row('\ue000', 'q'),
+                   rule_row('\U0010ffff')])),
+    (CLASSES, block([class_row(' ', ZS), class_row('@', OTHER), class_row('A', LETTER), class_row('z', LETTER, 6),
+                     class_row('{', MARK, 127, 127), class_row('\U0001f600', ZS)])),
+    (CLASSES, block([class_row('\x1f', OTHER), class_row('!', CF), class_row('\u0e40', LETTER, THAI, PRE),
+                     class_row('\ud7ff', CO), class_row('\ue000', MARK, DEVANAGARI, VIRAMA)])),
+    (VOWELS, block([vowel_row(1, A, 'a'), vowel_row(5, AO, 'abcd'), vowel_row(6, A, 'yz'), vowel_row(127, AO, 'o')])),
+    (VOWELS, block([vowel_row(2, AO, 'aaaa'), vowel_row(3, A, 'zzz'), vowel_row(126, A, 'm')])),
+)
+VALUES = (0, 1, 0x1F, 0x20, 0x40, 0x60, 0x61, 0x7A, 0x7B, 0x7E, 0x7F, 0x80, 0xFF)
+
+
+def changed(good):
+    for at, old in enumerate(good):
+        for value in sorted({*VALUES, old ^ 1, (old + 1) % 256, (old - 1) % 256} - {old}):
+            yield good[:at] + bytes([value]) + good[at + 1:]
+
+
+def moved(good):
+    """a byte lost, a byte twice, two bytes exchanged, and the rows cut off, each with a length that is in step"""
+    rows = good[5:]
+    for at in range(len(rows)):
+        yield block([rows[:at], rows[at + 1:]])
+        yield block([rows[:at + 1], rows[at:]])
+        yield block([rows[:at], rows[at:at + 2][::-1], rows[at + 2:]])
+        yield block([rows[:at]])
+
+
+def damaged():
+    for kind, good in GOOD:
+        yield kind, good, None
+        for table in itertools.chain(changed(good), moved(good)):
+            yield kind, table, read(kind, table)
+
+
+def encoded(kind, table, place):
+    answer = bytes([0]) + bytes(3) if place is None else bytes([1]) + place.to_bytes(3, 'big')
+    return bytes([kind]) + len(table).to_bytes(3, 'big') + table + answer
+
+
+def main():
+    found = list(agreed(itertools.chain(frozen(), headers(), rule_rows(), class_rows(), vowel_rows(), damaged())))
+    stdin = b''.join(itertools.starmap(encoded, found))
+    stdout = f'{len(found)} vectors, 0 differ\n'.encode()
+    assert len(stdin) < ROOM, len(stdin)
+    files = ((FOLDER / 'stdin', stdin), (FOLDER / 'stdout', stdout))
+    if '--check' in sys.argv[1:]:
+        for path, data in files:
+            if not path.exists() or path.read_bytes() != data:
+                sys.exit(f'{path} is not what vectors.py writes')
+    else:
+        for path, data in files:
+            path.write_bytes(data)
+    for kind, name in enumerate(NAMES):
+        places = [place for k, _, place in found if k == kind]
+        valid = places.count(None)
+        print(f'{name}: {len(places)} vectors, {valid} valid, {len(places) - valid} faulty', file=sys.stderr)
+    print(f'{len(found)} vectors, {len(stdin)} bytes', file=sys.stderr)
+
+
+main()
