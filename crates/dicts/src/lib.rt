@@ -15,7 +15,7 @@ ghost use Rattle.dicts.specs.First.{target-named, readable};
 ghost use Rattle.definition.specs.Rules.{first-rule};
 ghost use Rattle.base.specs.Lists.{starts};
 use classes::TableRead;
-use rulerow::Cursor;
+use rulerow::RowRead;
 
 // The bit of a row's flags that tells of a target.
 const TARGET_BIT: u32 = 5;
@@ -46,13 +46,13 @@ fn row_right(rules: &[u8], row: usize, old: usize, first: bool) -> bool
 {
     let c = rulerow::read_row(rules, row);
     match c {
-        Cursor::Next(_) => {
+        RowRead::Parts(_) => {
             if first {
                 return true;
             }
             return rulerow::sources_rise(rules, old, row);
         }
-        Cursor::Wrong(_, _) => {
+        RowRead::Wrong(_, _) => {
             return false;
         }
     }

@@ -13,6 +13,7 @@ ghost use Rattle.rulerow.specs.Reading.{field, fields, character-right, 
 ghost use Rattle.rulerow.specs.Reading.{read-text, read-texts, read-text-if, read-flags, read-source, read-codes};
 ghost use Rattle.rulerow.specs.Reading.{read-others, read-end, read-parts, read-row};
 ghost use Rattle.rulerow.specs.Parts.{read-tail};
+ghost use Rattle.rulerow.specs.Row.{walked, Parted};
 ghost use Rattle.rulerow.specs.Others.{others, Other, other-at};
 
 // What a row may hold at most (document 01).
@@ -38,6 +39,22 @@ pub enum Fault {
     Range,
     Letter,
     Byte,
+}
+
+// The parts of a row: its size, the characters of its source, and where its target, the one for the end of a word and its
+// alternatives begin, each in the row.
+pub struct RowParts {
+    pub size: usize,
+    pub source: usize,
+    pub target: usize,
+    pub ending: usize,
+    pub others: usize,
+}
+
+// What is read of a row: its parts, or the first fault and its field's offset in the row.
+pub enum RowRead {
+    Parts(RowParts),
+    Wrong(Fault, usize),
 }
 
 // Where the next field of a row begins, or the first fault and its field's offset in the row.
@@ -333,8 +350,8 @@ fn read_parts(rules: &[u8], row: usize, z: usize) -> Cursor
     read_tail(rules, row, z, target_at)
 }
 
-// The row at `row`. One past the table's end is a fault of length at its start.
-pub fn read_row(rules: &[u8], row: usize) -> Cursor
+// All fields of the row at `row`. One past the table's end is a fault of length at its start.
+fn walk_row(rules: &[u8], row: usize) -> Cursor
     requires { ⌜ row ≤ length (now rules) ⌝ }
     ensures { λ r. ⌜ r ≡ read-row (drop row (now (rules .entry))) ⌝ }
 {
@@ -343,6 +360,33 @@ pub fn read_row(rules: &[u8], row: usize) -> Cursor
         return Cursor::Wrong(Fault::Length, 0);
     }
     read_parts(rules, row, z)
+}
+
+// Where the parts of a row that ends at `size` lie in it.
+fn row_parts(rules: &[u8], row: usize, size: usize) -> RowParts
+    ensures { λ r. ⌜ (r .size ≡ size) × (r .source ≡ source-count (drop row (now (rules .entry))))
+        × (r .target ≡ target-at (drop row (now (rules .entry))))
+        × (r .ending ≡ end-target-at (drop row (now (rules .entry))))
+        × (r .others ≡ others-at (drop row (now (rules .entry)))) ⌝ }
+{
+    RowParts {
+        size,
+        source: source_len(rules, row),
+        target: target_at(rules, row),
+        ending: end_target_at(rules, row),
+        others: others_at(rules, row),
+    }
+}
+
+// The row at `row`: its parts, or its first fault.
+pub fn read_row(rules: &[u8], row: usize) -> RowRead
+    requires { ⌜ row ≤ length (now rules) ⌝ }
+    ensures { λ r. ⌜ (walked r ≡ read-row (drop row (now (rules .entry)))) × Parted (drop row (now (rules .entry))) r ⌝ }
+{
+    match walk_row(rules, row) {
+        Cursor::Next(size) => RowRead::Parts(row_parts(rules, row, size)),
+        Cursor::Wrong(fault, o) => RowRead::Wrong(fault, o),
+    }
 }
 
 // Does the source of the row at `a` come before that of the row at `b`, or equal it? No character is read past a source,

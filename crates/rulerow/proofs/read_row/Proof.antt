@@ -1,37 +1,45 @@
--- `rulerow::read_row`: a row that the table holds, or not.
-use native.Mathlib.Omega.{arith}
-use lib.ListN.{drop, length-drop}
+-- `rulerow::read_row`: the walk over its fields, with the places of its parts.
+use mathlib.Core.Path.{_≡_, sym, ap, _∙_}
+use Rattle.rulerow.specs.declared.Cursor.the-variants.{Next}
+use Rattle.rulerow.specs.Row.{walked, Parted}
 use borrow.Author.Needs.{needs}
-use denote.Ref.{now}
-use Rattle.rulerow.proofs.Chains.{row-past, row-read}
 use Rattle.rulerow.proofs.read_row.Statement.{statement}
 use Rattle.rulerow.proofs.read_row.Tie as tie
+use Rattle.rulerow.proofs.read_row.Reads as reads
+use Rattle.rulerow.proofs.read_row.Lts as lts
+use Rattle.rulerow.proofs.row_parts.Reads as row-parts-reads
+use Rattle.rulerow.proofs.walk_row.Reads as walk-row-reads
 
-size-requires : tie.Need-size-requires
-size-requires c κs = search needs
+walk-row-requires : tie.Need-walk-row-requires
+walk-row-requires c κs = search needs
 
-sub-if1 : tie.Need-sub-if1
-sub-if1 c = search needs
+enum-known-size : tie.Need-enum-known-size
+enum-known-size c = search needs
+
+row-parts-requires : tie.Need-row-parts-requires
+row-parts-requires c κs = search needs
+
+enum-known-fault : tie.Need-enum-known-fault
+enum-known-fault c = search needs
 
 returns : tie.Need-returns
-returns c =
-    let a = c .before .before .before in
-    let s = drop (a .args .row) (now (a .args .rules)) in
-    let l = length-drop (a .args .row) (now (a .args .rules)) in
-    row-past s _ (c .before .size .ensures .0) (omega arith)
-
-read-parts-requires : tie.Need-read-parts-requires
-read-parts-requires c κs =
-    let a = c .before .before .before .args in
-    let l = length-drop (a .row) (now (a .rules)) in
-    (omega arith, omega arith)
+unfolding walked Parted
+returns c = let e = c .row-parts .ensures in (
+  ap Next (e .0) ∙ sym (c .before .before .size .given .1) ∙ c .before .before .before .before .walk-row .ensures,
+  (e .1, e .2, e .3, e .4),
+)
 
 returns-2 : tie.Need-returns-2
-returns-2 c =
-    let i = c .before in
-    let a = i .before .before .before .args in
-    let l = length-drop (a .row) (now (a .rules)) in
-    row-read (drop (a .row) (now (a .rules))) _ (i .before .size .ensures .0) (omega arith) _ (c .read-parts .ensures)
+unfolding walked Parted
+returns-2 c = (sym (c .before .fault .given .1) ∙ c .before .before .before .walk-row .ensures, tt)
 
 pub read-row-spec : {M : Type 1} → statement M
-read-row-spec = tie.close (tie.spec size-requires sub-if1 returns read-parts-requires returns-2)
+read-row-spec =
+    tie.close
+    (tie.spec
+    walk-row-requires
+    enum-known-size
+    row-parts-requires
+    enum-known-fault
+    returns
+    returns-2)
