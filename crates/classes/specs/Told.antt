@@ -51,11 +51,12 @@ packed k = k .category + k .script * 8 + flags-of k * 1024
 unfoldable pub kinds-of : List ℕ → List ℕ → List ℕ
 kinds-of b t = map (λ c. packed (class (classes-of b) c)) t
 
--- of each character below 128 whether it is a letter or a mark
+-- the numbers from `k` on, as many as `n`
 unfoldable pub from : ℕ → ℕ → List ℕ
 from k zero = []
 from k (suc n) = k ∷ from (k + 1) n
 
+-- of each character below 128 whether it is a letter or a mark
 unfoldable pub alphas-of : List ℕ → List ℕ
 alphas-of b = map (λ c. bit (alpha (classes-of b) c)) (from 0 128)
 

@@ -1,6 +1,5 @@
 // The class table and the vowel table (dicts/model.rs, dicts/mod.rs): their checks, and what they say of a character.
 ghost use mathlib.Core.Path.{_≡_};
-ghost use mathlib.Core.Option.{none};
 ghost use Prim.Native.Nat.{_+_, _-_, _*_, _≤_, _<_};
 ghost use lib.ListN.{length, take, drop, getD};
 ghost use Rattle.base.specs.Lists.{all};

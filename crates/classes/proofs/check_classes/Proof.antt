@@ -1,8 +1,8 @@
 -- `classes::check_classes`: the first fault from the row at `at` on is the table's.
 use Prim.Native.Nat.{ℕ, _-_}
+use mathlib.Core.Path.{sym, _∙_, _≡_, refl}
 use mathlib.Core.List.{List}
 use mathlib.Core.Bool.{true}
-use mathlib.Core.Path.{_≡_, refl, _∙_}
 use native.Mathlib.Omega.{arith}
 use lib.ListN.{length-drop, length, drop}
 use borrow.Author.Needs.{needs}
@@ -30,7 +30,9 @@ headed-requires c κs = search needs
 
 loop-holds : tie.Need-loop-holds Inv-loop μ-loop
 unfolding class-fault
-loop-holds c = started class-size class-next class-right 8192 0 (now (c .before .before .before .args .classes)) (cc)
+loop-holds c =
+    started class-size class-next class-right 8192 0 (now (c .before .before .before .args .classes))
+    (sym (c .if1 .taken) ∙ c .before .headed .ensures)
 
 returns : tie.Need-returns Inv-loop μ-loop
 unfolding fault-place
@@ -52,7 +54,8 @@ add-low c = search needs
 add-at : tie.Need-add-at Inv-loop μ-loop
 add-at c =
     let l = c .before .before .before .before .before in
-    let e : class-right (l .loop .low) (drop (l .loop .at) (T l)) ≡ true = cc in
+    let e : class-right (l .loop .low) (drop (l .loop .at) (T l)) ≡ true =
+    sym (c .before .before .class-right .ensures) ∙ c .before .if3 .taken in
     omega (arith, class-checked (l .loop .low) (drop (l .loop .at) (T l)) e .inside, length-drop (l .loop .at) (T l))
 
 sub-left : tie.Need-sub-left Inv-loop μ-loop
@@ -66,15 +69,15 @@ unfolding class-size class-next
 loop-again c =
     let l = c .before .before .before .before .before in
     next class-size class-next class-right class-moves (T l) (l .loop .at) (l .loop .left) (l .loop .low)
-    (omega arith) (omega arith) (cc) _ _ _ refl refl (omega arith) ∙ l .loop .inv
+    (omega arith) (omega arith)
+    (sym (c .before .if3 .taken) ∙ c .before .before .class-right .ensures) _ _ _ refl refl (omega arith) ∙ l .loop .inv
 
 returns-2 : tie.Need-returns-2 Inv-loop μ-loop
 unfolding fault-place
 returns-2 c =
     let l = c .before .before .before .before in
-    wrong class-size class-next class-right class-moves (T l) (l .loop .at) (l .loop .left) (l .loop .low)
-    (omega arith) (cc)
-    ∙ l .loop .inv
+    wrong class-size class-next class-right class-moves (T l) (l .loop .at) (l .loop .left) (l .loop .low) (omega arith)
+    (sym (c .if3 .left) ∙ c .before .class-right .ensures) ∙ l .loop .inv
 
 returns-3 : tie.Need-returns-3 Inv-loop μ-loop
 unfolding fault-place
@@ -85,7 +88,9 @@ returns-3 c =
 
 returns-4 : tie.Need-returns-4 Inv-loop μ-loop
 unfolding fault-place class-fault
-returns-4 c = no-header class-size class-next class-right 8192 0 (now (c .before .before .before .args .classes)) (cc)
+returns-4 c =
+    no-header class-size class-next class-right 8192 0 (now (c .before .before .before .args .classes))
+    (sym (c .if1 .left) ∙ c .before .headed .ensures)
 
 pub check-classes-spec : {M : Type 1} → statement M
 check-classes-spec =

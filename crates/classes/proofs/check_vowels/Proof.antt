@@ -1,7 +1,7 @@
 -- `classes::check_vowels`: the first fault from the row at `at` on is the table's.
 use Prim.Native.Nat.{_+_, ℕ, _-_}
+use mathlib.Core.Path.{sym, _∙_, _≡_, refl}
 use mathlib.Core.Bool.{true}
-use mathlib.Core.Path.{_≡_, refl, _∙_}
 use mathlib.Core.List.{List}
 use native.Mathlib.Omega.{arith}
 use lib.ListN.{length, drop, length-drop}
@@ -30,7 +30,9 @@ headed-requires c κs = search needs
 
 loop-holds : tie.Need-loop-holds Inv-loop μ-loop
 unfolding vowel-fault
-loop-holds c = started vowel-size vowel-next vowel-right 127 1 (now (c .before .before .before .args .vowels)) (cc)
+loop-holds c =
+    started vowel-size vowel-next vowel-right 127 1 (now (c .before .before .before .args .vowels))
+    (sym (c .if1 .taken) ∙ c .before .headed .ensures)
 
 returns : tie.Need-returns Inv-loop μ-loop
 unfolding fault-place
@@ -62,7 +64,8 @@ add-at-2 : tie.Need-add-at-2 Inv-loop μ-loop
 unfolding vowel-size
 add-at-2 c =
     let l = c .before .before .before .before .before .before in
-    let e : vowel-right (l .loop .low) (drop (l .loop .at) (T l)) ≡ true = cc in
+    let e : vowel-right (l .loop .low) (drop (l .loop .at) (T l)) ≡ true =
+    sym (c .before .before .before .vowel-right .ensures) ∙ c .before .before .if3 .taken in
     omega (arith, vowel-checked (l .loop .low) (drop (l .loop .at) (T l)) e .inside, length-drop (l .loop .at) (T l))
 
 sub-left : tie.Need-sub-left Inv-loop μ-loop
@@ -76,17 +79,17 @@ unfolding vowel-size vowel-next
 loop-again c =
     let l = c .before .before .before .before .before .before in
     next vowel-size vowel-next vowel-right vowel-moves (T l) (l .loop .at) (l .loop .left) (l .loop .low)
-    (omega arith) (omega arith) (cc)
-    (l .loop .at + (3 + c .at2 .result)) (l .loop .left - 1) (c .before .at .result + 1) (omega arith) refl
-    (omega arith) ∙ l .loop .inv
+    (omega arith) (omega arith)
+    (sym (c .before .before .if3 .taken) ∙ c .before .before .before .vowel-right .ensures)
+    (l .loop .at + (3 + c .at2 .result)) (l .loop .left - 1) (c .before .at .result + 1)
+    (omega arith) refl (omega arith) ∙ l .loop .inv
 
 returns-2 : tie.Need-returns-2 Inv-loop μ-loop
 unfolding fault-place
 returns-2 c =
     let l = c .before .before .before .before in
-    wrong vowel-size vowel-next vowel-right vowel-moves (T l) (l .loop .at) (l .loop .left) (l .loop .low)
-    (omega arith) (cc)
-    ∙ l .loop .inv
+    wrong vowel-size vowel-next vowel-right vowel-moves (T l) (l .loop .at) (l .loop .left) (l .loop .low) (omega arith)
+    (sym (c .if3 .left) ∙ c .before .vowel-right .ensures) ∙ l .loop .inv
 
 returns-3 : tie.Need-returns-3 Inv-loop μ-loop
 unfolding fault-place
@@ -97,7 +100,9 @@ returns-3 c =
 
 returns-4 : tie.Need-returns-4 Inv-loop μ-loop
 unfolding fault-place vowel-fault
-returns-4 c = no-header vowel-size vowel-next vowel-right 127 1 (now (c .before .before .before .args .vowels)) (cc)
+returns-4 c =
+    no-header vowel-size vowel-next vowel-right 127 1 (now (c .before .before .before .args .vowels))
+    (sym (c .if1 .left) ∙ c .before .headed .ensures)
 
 pub check-vowels-spec : {M : Type 1} → statement M
 check-vowels-spec =

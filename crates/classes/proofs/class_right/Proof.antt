@@ -1,5 +1,5 @@
 -- `classes::class_right`: the three tests in order.
-use mathlib.Core.Path.{_∙_}
+use mathlib.Core.Path.{sym, _∙_}
 use lib.ListN.{drop}
 use borrow.Author.Needs.{needs}
 use denote.Ref.{now}
@@ -19,17 +19,21 @@ latin-right-requires c κs = search needs
 returns : tie.Need-returns
 returns c =
     let a = c .before .before .before .before .before .before .args in
-    c .latin-right .ensures ∙ right-else (drop (a .row) (now (a .classes))) (a .low) (cc) (cc)
+    c .latin-right .ensures ∙ right-else (drop (a .row) (now (a .classes))) (a .low)
+    (sym (c .before .before .before .if1 .taken) ∙ c .before .before .before .before .class-fits .ensures)
+    (sym (c .before .if2 .taken) ∙ c .before .before .space-right .ensures)
 
 returns-2 : tie.Need-returns-2
 returns-2 c =
     let a = c .before .before .before .before .before .args in
-    c .if2 .left ∙ right-not-space (drop (a .row) (now (a .classes))) (a .low) (cc)
+    c .if2 .left
+    ∙ right-not-space (drop (a .row) (now (a .classes))) (a .low) (sym (c .if2 .left) ∙ c .before .space-right .ensures)
 
 returns-3 : tie.Need-returns-3
 returns-3 c =
     let a = c .before .before .before .args in
-    c .if1 .left ∙ right-not-fits (drop (a .row) (now (a .classes))) (a .low) (cc)
+    c .if1 .left
+    ∙ right-not-fits (drop (a .row) (now (a .classes))) (a .low) (sym (c .if1 .left) ∙ c .before .class-fits .ensures)
 
 pub class-right-spec : {M : Type 1} → statement M
 class-right-spec =

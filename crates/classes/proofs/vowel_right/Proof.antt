@@ -1,5 +1,5 @@
 -- `classes::vowel_right`: the two tests in order.
-use mathlib.Core.Path.{_∙_}
+use mathlib.Core.Path.{sym, _∙_}
 use lib.ListN.{drop}
 use borrow.Author.Needs.{needs}
 use denote.Ref.{now}
@@ -13,17 +13,20 @@ vowel-fits-requires c κs = search needs
 letters-right-requires : tie.Need-letters-right-requires
 letters-right-requires c κs =
     let a = c .before .before .before .args in
-    fits-inside (drop (a .row) (now (a .vowels))) (a .low) (cc)
+    fits-inside (drop (a .row) (now (a .vowels))) (a .low) (sym (c .if1 .taken) ∙ c .before .vowel-fits .ensures)
 
 returns : tie.Need-returns
 returns c =
     let a = c .before .before .before .before .args in
-    c .letters-right .ensures ∙ right-else (drop (a .row) (now (a .vowels))) (a .low) (cc)
+    c .letters-right .ensures
+    ∙ right-else (drop (a .row) (now (a .vowels))) (a .low)
+    (sym (c .before .if1 .taken) ∙ c .before .before .vowel-fits .ensures)
 
 returns-2 : tie.Need-returns-2
 returns-2 c =
     let a = c .before .before .before .args in
-    c .if1 .left ∙ right-not (drop (a .row) (now (a .vowels))) (a .low) (cc)
+    c .if1 .left ∙ right-not (drop (a .row) (now (a .vowels))) (a .low)
+    (sym (c .if1 .left) ∙ c .before .vowel-fits .ensures)
 
 pub vowel-right-spec : {M : Type 1} → statement M
 vowel-right-spec =
