@@ -1,3 +1,4 @@
 -- What the answers say; what a list is when characters were put into it
 pub mod Read
 pub mod Puts
+pub mod Lines

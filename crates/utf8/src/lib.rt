@@ -1,12 +1,14 @@
 // UTF-8 by RFC 3629: a text's bytes as characters, and a character's bytes.
 ghost use mathlib.Core.Path.{_≡_};
-ghost use Prim.Native.Nat.{ℕ, _<_, _≤_};
-ghost use lib.ListN.{length, take, drop, set};
+ghost use Prim.Native.Nat.{ℕ, _+_, _<_, _≤_};
+ghost use lib.ListN.{length, take, drop, set, replicate};
 ghost use Rattle.definition.specs.Limits.{most-characters};
 ghost use Rattle.definition.specs.Utf8.{six, read, decoded, encode, sequence, checked};
 ghost use Rattle.definition.specs.Call.{left-out, first-left-out};
 ghost use Rattle.utf8.specs.Read.{told, place, answered, refused, text-refusal};
+ghost use Rattle.definition.specs.Texts.{the-space};
 ghost use Rattle.utf8.specs.Puts.{puts};
+ghost use Rattle.utf8.specs.Lines.{framed};
 
 // Characters of a text, at most.
 pub const MOST_CHARACTERS: usize = 512;
@@ -244,4 +246,26 @@ pub fn read_text(text: &[u8], chars: &mut [u32]) -> TextRead
             }
         }
     }
+}
+
+// Nothing but spaces.
+fn blank(line: &mut [u32])
+    ensures { λ _. ⌜ now (line .exit) ≡ replicate (length (now (line .entry))) the-space ⌝ }
+{
+    let mut i = 0;
+    while i < line.len() {
+        line[i] = 0x20;
+        i += 1;
+    }
+}
+
+// The same, with the text between spaces: one before it and two after it, so that a reader need not ask for its ends.
+pub fn read_line(text: &[u8], line: &mut [u32]) -> TextRead
+    requires { ⌜ length (now line) ≡ most-characters + 3 ⌝ }
+    ensures refusal { λ r. ⌜ refused r ≡ text-refusal (now (text .entry)) ⌝ }
+    ensures count { λ r. ⌜ ((n : ℕ) → r ≡ TextRead.Characters n → n ≡ length (decoded (now (text .entry)))) ⌝ }
+    ensures room { λ _. ⌜ now (line .exit) ≡ framed (decoded (now (text .entry))) ⌝ }
+{
+    blank(line);
+    read_text(text, &mut line[1..513])
 }
