@@ -15,9 +15,9 @@ import string
 import sys
 
 TESTS = pathlib.Path(__file__).resolve().parents[1]
-FOLDER = TESTS.parent / 'crates' / 'tables_vectors'
 sys.path[:0] = [str(TESTS / 'calls'), str(TESTS / 'generate')]
 import callfile
+import program
 from tables import A, AO, CF, CO, DEVANAGARI, LETTER, MARK, OTHER, PRE, START, THAI, VIRAMA, WHOLE, ZS
 from tables import block, class_row, rule_row, vowel_row
 
@@ -336,22 +336,13 @@ def encoded(kind, table, place):
 
 def main():
     found = list(agreed(itertools.chain(frozen(), headers(), rule_rows(), class_rows(), vowel_rows(), damaged())))
-    stdin = b''.join(itertools.starmap(encoded, found))
-    stdout = f'{len(found)} vectors, 0 differ\n'.encode()
-    assert len(stdin) < ROOM, len(stdin)
-    files = ((FOLDER / 'stdin', stdin), (FOLDER / 'stdout', stdout))
-    if '--check' in sys.argv[1:]:
-        for path, data in files:
-            if not path.exists() or path.read_bytes() != data:
-                sys.exit(f'{path} is not what vectors.py writes')
-    else:
-        for path, data in files:
-            path.write_bytes(data)
+    size = program.deliver('tables_vectors', list(itertools.starmap(encoded, found)))
+    assert size < ROOM, size
     for kind, name in enumerate(NAMES):
         places = [place for k, _, place in found if k == kind]
         valid = places.count(None)
         print(f'{name}: {len(places)} vectors, {valid} valid, {len(places) - valid} faulty', file=sys.stderr)
-    print(f'{len(found)} vectors, {len(stdin)} bytes', file=sys.stderr)
+    print(f'{len(found)} vectors, {size} bytes', file=sys.stderr)
 
 
 main()

@@ -11,10 +11,12 @@ import pathlib
 import random
 import sys
 
+sys.path.insert(0, str(pathlib.Path(__file__).resolve().parents[1] / 'generate'))
+import program
+
 ROOM = 16           # the length of `chars` in crates/utf8_vectors
 BORDERS = (0x7F, 0x80, 0x8F, 0x90, 0x9F, 0xA0, 0xBF, 0xC0)
 EDGES = (0x7F, 0x80, 0xBF, 0xC0)
-FOLDER = pathlib.Path(__file__).resolve().parents[2] / 'crates' / 'utf8_vectors'
 
 
 def judged(text):
@@ -105,18 +107,9 @@ def texts(r):
 
 def main():
     found = [b'', *placed(), *borders_of_length(), *texts(random.Random(3629))]
-    stdin = b''.join(vector(t) for t in found)
-    stdout = f'{len(found)} vectors, 0 differ\n'.encode()
-    files = ((FOLDER / 'stdin', stdin), (FOLDER / 'stdout', stdout))
-    if '--check' in sys.argv[1:]:
-        for path, data in files:
-            if not path.exists() or path.read_bytes() != data:
-                sys.exit(f'{path} is not what vectors.py writes')
-    else:
-        for path, data in files:
-            path.write_bytes(data)
+    size = program.deliver('utf8_vectors', [vector(t) for t in found])
     bad = sum(judged(t)[1] is not None for t in found)
-    print(f'{len(found)} vectors, {len(set(found))} different texts, {bad} bad, {len(stdin)} bytes')
+    print(f'{len(found)} vectors, {len(set(found))} different texts, {bad} bad, {size} bytes')
 
 
 main()

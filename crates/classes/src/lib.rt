@@ -1,9 +1,9 @@
 // The class table and the vowel table (dicts/model.rs, dicts/mod.rs): their checks, and what they say of a character.
 ghost use mathlib.Core.Path.{_≡_};
-ghost use Prim.Native.Nat.{_+_, _-_, _*_, _≤_, _<_};
+ghost use Prim.Native.Nat.{_+_, _-_, _*_, _/_, _%_, _≤_, _<_};
 ghost use lib.ListN.{length, take, drop, getD};
 ghost use Rattle.base.specs.Lists.{all};
-ghost use Rattle.base.specs.Bits.{bit};
+ghost use Rattle.base.specs.Bits.{bit, flagged};
 ghost use Rattle.definition.specs.Texts.{latin};
 ghost use Rattle.definition.specs.Utf8.{scalar};
 ghost use Rattle.definition.specs.Blocks.{headed, small};
@@ -303,6 +303,26 @@ pub fn kind_of(classes: &[u8], c: u32) -> u32
         return plain_kind(c);
     };
     pack(row)
+}
+
+// What a packed class says: category, script and flag `k`, by shifts and masks.
+pub fn category(kind: u32) -> u32
+    ensures { λ r. ⌜ r ≡ kind % 8 ⌝ }
+{
+    kind & 7
+}
+
+pub fn script(kind: u32) -> u32
+    ensures { λ r. ⌜ r ≡ kind / 8 % 128 ⌝ }
+{
+    (kind >> 3) & 127
+}
+
+pub fn class_flag(kind: u32, k: u32) -> bool
+    requires { ⌜ k < 8 ⌝ }
+    ensures { λ r. ⌜ r ≡ flagged (kind / 1024) k ⌝ }
+{
+    base::bit(kind >> 10, k)
 }
 
 // The classes of a text's characters, one for each.

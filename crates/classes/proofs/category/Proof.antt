@@ -1,0 +1,12 @@
+-- `classes::category`: the low three bits.
+use lib.Bits.{and-mask}
+use Rattle.classes.proofs.category.Statement.{statement}
+use Rattle.classes.proofs.category.Tie as tie
+use Rattle.classes.proofs.category.Reads as reads
+use Rattle.classes.proofs.category.Lts as lts
+
+returns : tie.Need-returns
+returns c = and-mask (c .args .kind) 3
+
+pub category-spec : {M : Type 1} → statement M
+category-spec = tie.close (tie.spec returns)
