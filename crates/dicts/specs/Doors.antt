@@ -2,11 +2,11 @@
 use mathlib.Core.Bool.{Bool, true, false, _||_}
 use mathlib.Core.Path.{_≡_, refl, sym, ap, _∙_}
 use mathlib.Core.List.{List, [], _∷_, _++_, append-assoc}
-use mathlib.Core.Option.{Option, none, some}
-use Prim.Native.Nat.{ℕ, zero, suc, _+_, _≤_, _<_}
+use mathlib.Core.Option.{none}
+use Prim.Native.Nat.{ℕ, _+_, _≤_, _<_}
 use native.Mathlib.Omega.{arith}
-use lib.ListN.{length, take, drop}
-use Rattle.base.specs.Lists.{put, keep, any, same, starts}
+use lib.ListN.{length, drop}
+use Rattle.base.specs.Lists.{keep, any, same, starts}
 use Rattle.base.specs.ListLaws.{any-append, keep-append, any-none, keep-none}
 use Rattle.base.specs.Alls.{All, All-map, All-append}
 use Rattle.definition.specs.Texts.{Text}
@@ -15,7 +15,6 @@ use Rattle.definition.specs.Blocks.{head-bytes}
 use Rattle.definition.specs.RuleRows.{rises, rule-size, rule-source, rule-of, rule-fault, rules-of}
 use Rattle.dicts.specs.Order.{compared, equal-same, unlike, above-later, equal-starts, below-starts, above-starts}
 use Rattle.dicts.specs.Sorted.{rules-from, Sorted, sorted-start, rules-from-start, rules-over, rules-next, sorted-next, sorted-later}
-use Rattle.dicts.specs.declared.Order.{Order}
 use Rattle.dicts.specs.declared.Order.the-variants.{Below, Equal, Above}
 
 -- the rules with this source; is it a prefix of a source?

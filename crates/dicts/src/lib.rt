@@ -17,9 +17,6 @@ ghost use Rattle.base.specs.Lists.{starts};
 use classes::TableRead;
 use rulerow::RowRead;
 
-// The bit of a row's flags that tells of a target.
-const TARGET_BIT: u32 = 5;
-
 // How a source stands to what is looked for.
 pub enum Order {
     Below,
@@ -245,7 +242,7 @@ pub fn first_rule(rules: &[u8], index: &[u32], w: &[u32]) -> FirstRule
         return FirstRule::Without;
     }
     if is_equal(rules, at, w) {
-        if rulerow::flag(rules, at, TARGET_BIT) {
+        if rulerow::flag(rules, at, rulerow::TARGET_BIT) {
             return FirstRule::Target(at);
         }
         return FirstRule::Without;

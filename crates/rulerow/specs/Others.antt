@@ -1,13 +1,12 @@
 -- The alternatives of a row: how many there are, where each begins, and that it lies in the row.
 use mathlib.Core.Path.{_≡_, refl, sym, ap, _∙_}
-use mathlib.Core.List.{List, [], _∷_}
+use mathlib.Core.List.{List, []}
 use Prim.Native.Nat.{ℕ, zero, suc, _+_, _-_, _≤_, _<_}
 use native.Mathlib.Omega.{arith}
-use native.Mathlib.Nat.{add-assoc, add-zero}
 use lib.ListN.{length, getD, drop}
 use lib.Seq.{drop-drop}
 use Rattle.definition.specs.Texts.{Text}
-use Rattle.definition.specs.RuleRows.{text-size, text-of, texts-size, texts-of, rule-size, others-at, others-end, others-of}
+use Rattle.definition.specs.RuleRows.{text-size, text-of, texts-size, texts-of, others-at, others-end, others-of}
 use Rattle.definition.specs.Places.{Placed}
 
 abbrev pub others : List ℕ → List Text

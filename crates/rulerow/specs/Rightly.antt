@@ -1,16 +1,15 @@
 -- A row that is read without fault is right, and a right row is read without fault, to its end.
-use mathlib.Core.Bool.{Bool, true, false, not, _&&_, _||_, true≢false, and-true}
-use mathlib.Core.Path.{_≡_, refl, sym, ap, _∙_, subst}
+use mathlib.Core.Bool.{Bool, true, false, not, _&&_, _||_, true≢false}
+use mathlib.Core.Path.{_≡_, refl, sym, ap, _∙_}
 use mathlib.Core.List.{List, [], _∷_}
-use mathlib.Core.Option.{Option, none, some}
-use Prim.Native.Nat.{ℕ, zero, suc, _+_, _-_, _*_, _≤_, _<_}
+use Prim.Native.Nat.{ℕ, zero, suc, _+_, _*_, _≤_}
 use native.Mathlib.Omega.{arith}
-use lib.Dec.{eqb, leb}
+use lib.Dec.{leb}
 use lib.ListN.{length, getD, take, drop, length-drop}
 use lib.Seq.{drop-drop, getD-drop}
-use borrow.Author.Tests.{leb-true, le-leb, eqb-true, eq-eqb, not-true}
+use borrow.Author.Tests.{leb-true, le-leb, eq-eqb, not-true}
 use Rattle.base.specs.Pick.{pick}
-use Rattle.base.specs.Bools.{and-left, and-right, or-not}
+use Rattle.base.specs.Bools.{and-left, and-right}
 use Rattle.base.specs.Lists.{all, holds}
 use Rattle.base.specs.ListLaws.{holds-is, holds-length}
 use Rattle.base.specs.Rows.{counted}

@@ -1,4 +1,4 @@
-// The rule table (dicts/model.rs, dicts/mod.rs).
+// One row of the rule table (dicts/model.rs): its fields, what is wrong with them, and its texts.
 ghost use mathlib.Core.Path.{_≡_};
 ghost use mathlib.Core.Bool.{true, _&&_};
 ghost use Prim.Native.Nat.{_+_, _<_, _≤_};
@@ -26,7 +26,7 @@ const MOST_ALTERNATIVES: u32 = 8;
 const MOST_TARGET: u32 = 64;
 
 // Bits of its flags.
-const TARGET_BIT: u32 = 5;
+pub const TARGET_BIT: u32 = 5;
 
 const END_TARGET_BIT: u32 = 6;
 
@@ -41,7 +41,7 @@ pub enum Fault {
     Byte,
 }
 
-// The parts of a row: its size, the characters of its source, and where its target, the one for the end of a word and its
+// The parts of a row: its size, the characters of its source, and where its target, the one for the end of a syllable and its
 // alternatives begin, each in the row.
 pub struct RowParts {
     pub size: usize,
@@ -469,7 +469,7 @@ pub fn text<'a>(rules: &'a [u8], row: usize, o: usize) -> &'a [u8]
     &rules[from..to]
 }
 
-// The target of a row that has one, and the one for the end of a word.
+// The target of a row that has one, and the one for the end of a syllable.
 pub fn target_text<'a>(rules: &'a [u8], row: usize) -> &'a [u8]
     requires { ⌜ Placed (drop row (now rules)) × (rule-flag (drop row (now rules)) target-bit ≡ true) ⌝ }
     ensures { λ r. ⌜ now r ≡ text-of (drop (target-at (drop row (now (rules .entry)))) (drop row (now (rules .entry)))) ⌝ }

@@ -10,27 +10,21 @@ use Rattle.base.proofs.at.Reads as reads
 use Rattle.base.proofs.at.Lts as lts
 use Rattle.base.proofs.byte.Reads as byte-reads
 
--- src/lib.rt:30:9
 returns : tie.Need-returns
 returns c = let a = c .before .before .args in past-row (now (a .s)) (a .row) (a .i) (omega arith)
 
--- src/lib.rt:32:8
 sub-if2 : tie.Need-sub-if2
 sub-if2 c = search needs
 
--- src/lib.rt:33:9
 returns-2 : tie.Need-returns-2
 returns-2 c = let a = c .before .before .before .args in past-row (now (a .s)) (a .row) (a .i) (omega arith)
 
--- src/lib.rt:35:13
 add-byte : tie.Need-add-byte
 add-byte c = search needs
 
--- src/lib.rt:35:5
 byte-requires : tie.Need-byte-requires
 byte-requires c κs = search needs
 
--- src/lib.rt:26:1
 returns-3 : tie.Need-returns-3
 returns-3 c = rw getD-drop (c .byte .ensures)
 

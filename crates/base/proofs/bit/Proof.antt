@@ -6,11 +6,9 @@ use Rattle.base.proofs.bit.Tie as tie
 use Rattle.base.proofs.bit.Reads as reads
 use Rattle.base.proofs.bit.Lts as lts
 
--- src/lib.rt:65:6
 shr-result : tie.Need-shr-result
 shr-result c = search needs
 
--- src/lib.rt:61:1
 returns : tie.Need-returns
 returns c = by-shift (c .args .flags) (c .args .k)
 

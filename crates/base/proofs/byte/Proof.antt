@@ -9,19 +9,15 @@ use Rattle.base.proofs.byte.Reads as reads
 use Rattle.base.proofs.byte.Lts as lts
 use Rattle.base.proofs.wide.Reads as wide-reads
 
--- src/lib.rt:20:21
 shared-slice-read-wide : tie.Need-shared-slice-read-wide
 shared-slice-read-wide c = search needs
 
--- src/lib.rt:20:9
 wide-requires : tie.Need-wide-requires
 wide-requires c κs = search needs
 
--- src/lib.rt:20:9
 returns : tie.Need-returns
 returns c = search needs
 
--- src/lib.rt:16:1
 returns-2 : tie.Need-returns-2
 returns-2 c = let a = c .before .before .args in past (now (a .s)) (a .at) (omega arith)
 

@@ -2,8 +2,6 @@
 use lib.Bits.{and-mask}
 use Rattle.classes.proofs.category.Statement.{statement}
 use Rattle.classes.proofs.category.Tie as tie
-use Rattle.classes.proofs.category.Reads as reads
-use Rattle.classes.proofs.category.Lts as lts
 
 returns : tie.Need-returns
 returns c = and-mask (c .args .kind) 3

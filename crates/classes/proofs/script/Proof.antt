@@ -3,8 +3,6 @@ use Prim.Native.Nat.{_/_}
 use lib.Bits.{and-mask}
 use Rattle.classes.proofs.script.Statement.{statement}
 use Rattle.classes.proofs.script.Tie as tie
-use Rattle.classes.proofs.script.Reads as reads
-use Rattle.classes.proofs.script.Lts as lts
 
 returns : tie.Need-returns
 returns c = and-mask (c .args .kind / 8) 7

@@ -1,9 +1,9 @@
 -- `dicts::check_rules`: from each row on the first fault is that of the whole table.
-use mathlib.Core.Path.{_≡_, refl, sym, _∙_}
+use mathlib.Core.Path.{_≡_, refl, _∙_}
 use mathlib.Core.List.{List, []}
-use Prim.Native.Nat.{ℕ, _-_, _≤_, _<_}
+use Prim.Native.Nat.{ℕ, _-_}
 use native.Mathlib.Omega.{arith}
-use lib.ListN.{length, drop, length-drop}
+use lib.ListN.{length, drop}
 use denote.Ref.{now}
 use borrow.Author.Needs.{needs}
 use Rattle.base.specs.Pick.{pick}
@@ -11,17 +11,11 @@ use Rattle.definition.specs.Limits.{most-rows}
 use Rattle.definition.specs.Texts.{Text}
 use Rattle.definition.specs.RuleRows.{rule-size, rule-source, rule-right, rule-fault}
 use Rattle.definition.specs.Checking.{from, started, no-header, over, next, spent, wrong}
-use Rattle.definition.specs.Checked.{rule-checked}
 use Rattle.definition.specs.Accepted.{rule-moves}
 use Rattle.classes.specs.Told.{fault-place}
 use Rattle.dicts.specs.Marks.{mark-of}
 use Rattle.dicts.proofs.check_rules.Statement.{statement}
 use Rattle.dicts.proofs.check_rules.Tie as tie
-use Rattle.dicts.proofs.check_rules.Reads as reads
-use Rattle.dicts.proofs.check_rules.Lts as lts
-use Rattle.classes.proofs.headed.Reads as headed-reads
-use Rattle.dicts.proofs.row_right.Reads as row-right-reads
-use Rattle.rulerow.proofs.size.Reads as size-reads
 
 abbrev Inv-loop : tie.InvT-loop
 Inv-loop rules at₀ left₀ old₀ first₀ at left old first =

@@ -1,9 +1,9 @@
 -- `dicts::compare_source`: what is left of both stands as the whole does.
-use mathlib.Core.Path.{_≡_, refl, sym, ap, _∙_}
+use mathlib.Core.Path.{_≡_, refl, ap, _∙_}
 use mathlib.Core.List.{List}
-use Prim.Native.Nat.{ℕ, _+_, _-_, _*_, _≤_, _<_}
+use Prim.Native.Nat.{ℕ, _+_, _*_, _≤_}
 use native.Mathlib.Omega.{arith}
-use lib.ListN.{length, getD, drop}
+use lib.ListN.{drop}
 use denote.Ref.{now}
 use borrow.Author.Needs.{needs}
 use Rattle.base.specs.Rows.{counted}
@@ -11,10 +11,6 @@ use Rattle.definition.specs.RuleRows.{three-at, source-count, rule-source}
 use Rattle.dicts.specs.Order.{compared, source-longer, text-longer, both-end, lower, higher, same-character, three-here}
 use Rattle.dicts.proofs.compare_source.Statement.{statement}
 use Rattle.dicts.proofs.compare_source.Tie as tie
-use Rattle.dicts.proofs.compare_source.Reads as reads
-use Rattle.dicts.proofs.compare_source.Lts as lts
-use Rattle.base.proofs.at.Reads as at-reads
-use Rattle.base.proofs.three.Reads as three-reads
 
 abbrev Inv-loop : tie.InvT-loop
 Inv-loop rules row w left₀ o₀ i₀ left o i =
@@ -30,11 +26,9 @@ S l = drop (l .before .before .before .before .args .row) (now (l .before .befor
 abbrev W : tie.At-loop Inv-loop μ-loop → List ℕ
 W l = now (l .before .before .before .before .args .w)
 
--- src/lib.rt:80:9
 at-requires : tie.Need-at-requires Inv-loop μ-loop
 at-requires c κs = search needs
 
--- src/lib.rt:83:5
 loop-holds : tie.Need-loop-holds Inv-loop μ-loop
 unfolding rule-source source-count
 loop-holds c = (
@@ -43,60 +37,47 @@ loop-holds c = (
   omega arith,
 )
 
--- src/lib.rt:85:13
 returns : tie.Need-returns Inv-loop μ-loop
 returns c = let l = c .before .before in
     source-longer (S l) (W l) (l .loop .left) (l .loop .o) (l .loop .i) (omega arith) (omega arith) ∙ l .loop .inv .0
 
--- src/lib.rt:87:13
 three-requires : tie.Need-three-requires Inv-loop μ-loop
 three-requires c κs = search needs
 
--- src/lib.rt:88:17
 mul-d : tie.Need-mul-d Inv-loop μ-loop
 mul-d c = search needs
 
--- src/lib.rt:88:17
 shared-slice-read-d : tie.Need-shared-slice-read-d Inv-loop μ-loop
 shared-slice-read-d c = search needs
 
--- src/lib.rt:90:13
 returns-2 : tie.Need-returns-2 Inv-loop μ-loop
 returns-2 c = let l = c .before .before .before .before .before in
     lower (S l) (W l) (l .loop .left) (l .loop .o) (l .loop .i) (omega arith) (omega arith) _ _ (c .before .before .three .ensures .0 ∙ three-here (S l) (l .loop .o)) refl (omega arith) ∙ l .loop .inv .0
 
--- src/lib.rt:93:13
 returns-3 : tie.Need-returns-3 Inv-loop μ-loop
 returns-3 c = let l = c .before .before .before .before .before .before in
     higher (S l) (W l) (l .loop .left) (l .loop .o) (l .loop .i) (omega arith) (omega arith) _ _ (c .before .before .before .three .ensures .0 ∙ three-here (S l) (l .loop .o)) refl (omega arith) ∙ l .loop .inv .0
 
--- src/lib.rt:95:9
 sub-left : tie.Need-sub-left Inv-loop μ-loop
 sub-left c = search needs
 
--- src/lib.rt:96:9
 add-o : tie.Need-add-o Inv-loop μ-loop
 add-o c = search needs
 
--- src/lib.rt:97:9
 add-i : tie.Need-add-i Inv-loop μ-loop
 add-i c = search needs
 
--- src/lib.rt:83:5
 loop-less : tie.Need-loop-less Inv-loop μ-loop
 loop-less c = omega arith
 
--- src/lib.rt:83:5
 loop-again : tie.Need-loop-again Inv-loop μ-loop
 loop-again c = let l = c .before .before .before .before .before .before in
     (same-character (S l) (W l) (l .loop .left) (l .loop .o) (l .loop .i) (omega arith) (omega arith) _ _ (c .before .before .before .three .ensures .0 ∙ three-here (S l) (l .loop .o)) refl (omega arith, omega arith) ∙ l .loop .inv .0, omega arith)
 
--- src/lib.rt:100:9
 returns-4 : tie.Need-returns-4 Inv-loop μ-loop
 returns-4 c = let l = c .before .before in
     text-longer (S l) (W l) (l .loop .left) (l .loop .o) (l .loop .i) (omega arith) (omega arith) ∙ l .loop .inv .0
 
--- src/lib.rt:77:1
 returns-5 : tie.Need-returns-5 Inv-loop μ-loop
 returns-5 c = let l = c .before .before in
     both-end (S l) (W l) (l .loop .left) (l .loop .o) (l .loop .i) (omega arith) (omega arith) ∙ l .loop .inv .0

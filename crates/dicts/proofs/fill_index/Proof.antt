@@ -1,18 +1,13 @@
 -- `dicts::fill_index`: what is still to be put leads where the whole leads (`Filled`).
-use mathlib.Core.Path.{_≡_, refl, sym, ap, _∙_}
-use Prim.Native.Nat.{ℕ, _+_, _-_, _*_, _≤_, _<_, _/_}
+use Prim.Native.Nat.{_-_}
 use native.Mathlib.Omega.{arith}
-use lib.ListN.{length, getD, drop}
+use lib.ListN.{length, drop}
 use denote.Ref.{now}
 use borrow.Author.Needs.{needs}
 use Rattle.definition.specs.Accepted.{rule-moves}
 use Rattle.dicts.specs.Index.{Filled, fill-begun, fill-over, fill-full, fill-next}
 use Rattle.dicts.proofs.fill_index.Statement.{statement}
 use Rattle.dicts.proofs.fill_index.Tie as tie
-use Rattle.dicts.proofs.fill_index.Reads as reads
-use Rattle.dicts.proofs.fill_index.Lts as lts
-use Rattle.dicts.proofs.put_offset.Reads as put-offset-reads
-use Rattle.rulerow.proofs.size.Reads as size-reads
 
 abbrev Inv-loop : tie.InvT-loop
 Inv-loop rules index₀ at₀ n₀ index at n = Filled rules index₀ index at n

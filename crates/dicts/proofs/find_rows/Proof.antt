@@ -1,21 +1,16 @@
 -- `dicts::find_rows`: those counted and those still to come are all that are equal.
-use mathlib.Core.Path.{_≡_, refl, sym, ap, _∙_}
-use Prim.Native.Nat.{ℕ, _+_, _-_, _*_, _≤_, _<_, _/_}
+use mathlib.Core.Path.{_≡_, sym, ap, _∙_}
+use Prim.Native.Nat.{ℕ, _+_, _-_, _≤_}
 use native.Mathlib.Omega.{arith}
-use lib.ListN.{length, getD, drop}
+use lib.ListN.{length, drop}
 use denote.Ref.{now}
 use borrow.Author.Needs.{needs}
 use mathlib.Core.List.{List}
 use Rattle.definition.specs.Accepted.{rule-moves}
 use Rattle.dicts.specs.Index.{offsets-from}
-use Rattle.dicts.specs.Seek.{run, first-at, equal-rows, run-over, run-on, run-ends}
+use Rattle.dicts.specs.Seek.{run, equal-rows, run-over, run-on, run-ends}
 use Rattle.dicts.proofs.find_rows.Statement.{statement}
 use Rattle.dicts.proofs.find_rows.Tie as tie
-use Rattle.dicts.proofs.find_rows.Reads as reads
-use Rattle.dicts.proofs.find_rows.Lts as lts
-use Rattle.dicts.proofs.is_equal.Reads as is-equal-reads
-use Rattle.dicts.proofs.seek.Reads as seek-reads
-use Rattle.rulerow.proofs.size.Reads as size-reads
 
 abbrev Inv-loop : tie.InvT-loop
 Inv-loop rules index w first at₀ count₀ at count =

@@ -1,6 +1,6 @@
 -- `dicts::first_rule`: the row where the search stops says it.
 use mathlib.Core.Bool.{true, false}
-use mathlib.Core.Path.{_≡_, sym, _∙_}
+use mathlib.Core.Path.{sym, _∙_}
 use native.Mathlib.Omega.{arith}
 use denote.Ref.{now}
 use Rattle.base.specs.Pick.{pick}
@@ -10,11 +10,6 @@ use Rattle.dicts.specs.Seek.{first-over, first-unlike, first-there, firs
 use borrow.Author.Needs.{needs}
 use Rattle.dicts.proofs.first_rule.Statement.{statement}
 use Rattle.dicts.proofs.first_rule.Tie as tie
-use Rattle.dicts.proofs.first_rule.Reads as reads
-use Rattle.dicts.proofs.first_rule.Lts as lts
-use Rattle.dicts.proofs.is_equal.Reads as is-equal-reads
-use Rattle.dicts.proofs.seek.Reads as seek-reads
-use Rattle.rulerow.proofs.flag.Reads as flag-reads
 
 seek-requires : tie.Need-seek-requires
 seek-requires c κs = search needs

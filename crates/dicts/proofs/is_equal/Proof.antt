@@ -1,12 +1,9 @@
 -- `dicts::is_equal`
-use mathlib.Core.Path.{_≡_, sym, ap, _∙_}
+use mathlib.Core.Path.{sym, ap, _∙_}
 use borrow.Author.Needs.{needs}
 use Rattle.dicts.specs.Seek.{is-equal, order-at}
 use Rattle.dicts.proofs.is_equal.Statement.{statement}
 use Rattle.dicts.proofs.is_equal.Tie as tie
-use Rattle.dicts.proofs.is_equal.Reads as reads
-use Rattle.dicts.proofs.is_equal.Lts as lts
-use Rattle.dicts.proofs.compare_source.Reads as compare-source-reads
 
 compare-source-requires : tie.Need-compare-source-requires
 compare-source-requires c κs = search needs

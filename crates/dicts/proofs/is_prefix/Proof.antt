@@ -1,18 +1,11 @@
 -- `dicts::is_prefix`: the row where the search stops says it.
-use mathlib.Core.Path.{_≡_, refl, sym, ap, _∙_}
-use Prim.Native.Nat.{ℕ, _+_, _-_, _*_, _≤_, _<_, _/_}
+use mathlib.Core.Path.{_∙_}
 use native.Mathlib.Omega.{arith}
-use lib.ListN.{length, getD, drop}
 use denote.Ref.{now}
 use borrow.Author.Needs.{needs}
-use Rattle.dicts.specs.Index.{Ready}
-use Rattle.dicts.specs.Seek.{first-at, start-over, start-there}
+use Rattle.dicts.specs.Seek.{start-over, start-there}
 use Rattle.dicts.proofs.is_prefix.Statement.{statement}
 use Rattle.dicts.proofs.is_prefix.Tie as tie
-use Rattle.dicts.proofs.is_prefix.Reads as reads
-use Rattle.dicts.proofs.is_prefix.Lts as lts
-use Rattle.dicts.proofs.seek.Reads as seek-reads
-use Rattle.dicts.proofs.starts_with.Reads as starts-with-reads
 
 seek-requires : tie.Need-seek-requires
 seek-requires c κs = search needs

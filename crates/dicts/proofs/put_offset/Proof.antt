@@ -1,15 +1,9 @@
 -- `dicts::put_offset`
-use mathlib.Core.Path.{_≡_, refl, sym, ap, _∙_}
-use Prim.Native.Nat.{ℕ, _+_, _-_, _*_, _≤_, _<_, _/_}
 use native.Mathlib.Omega.{arith}
-use lib.ListN.{length, getD, drop}
-use denote.Ref.{now}
 use borrow.Author.Needs.{needs}
-use Rattle.dicts.specs.Index.{entered, entered-over, entered-here, entered-none}
+use Rattle.dicts.specs.Index.{entered-over, entered-here, entered-none}
 use Rattle.dicts.proofs.put_offset.Statement.{statement}
 use Rattle.dicts.proofs.put_offset.Tie as tie
-use Rattle.dicts.proofs.put_offset.Reads as reads
-use Rattle.dicts.proofs.put_offset.Lts as lts
 
 returns : tie.Need-returns
 returns c = entered-over _ _ _ (omega arith)

@@ -6,10 +6,6 @@ use Rattle.rulerow.specs.Row.{walked}
 use Rattle.dicts.specs.Marks.{first-row, later-row, wrong-row}
 use Rattle.dicts.proofs.row_right.Statement.{statement}
 use Rattle.dicts.proofs.row_right.Tie as tie
-use Rattle.dicts.proofs.row_right.Reads as reads
-use Rattle.dicts.proofs.row_right.Lts as lts
-use Rattle.rulerow.proofs.read_row.Reads as read-row-reads
-use Rattle.rulerow.proofs.sources_rise.Reads as sources-rise-reads
 
 read-row-requires : tie.Need-read-row-requires
 read-row-requires c κs = search needs

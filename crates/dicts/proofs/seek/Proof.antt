@@ -1,8 +1,8 @@
 -- `dicts::seek`: from each row on the search ends where the whole ends.
 use mathlib.Core.Path.{_≡_, refl, sym, ap, _∙_}
-use Prim.Native.Nat.{ℕ, _+_, _-_, _*_, _≤_, _<_, _/_}
+use Prim.Native.Nat.{ℕ, _+_, _-_}
 use native.Mathlib.Omega.{arith}
-use lib.ListN.{length, getD, drop}
+use lib.ListN.{length, drop}
 use denote.Ref.{now}
 use borrow.Author.Needs.{needs}
 use mathlib.Core.List.{List}
@@ -11,10 +11,6 @@ use Rattle.dicts.specs.Index.{offsets-from, row-offsets}
 use Rattle.dicts.specs.Seek.{seek, first-at, seek-over, seek-past, seek-here}
 use Rattle.dicts.proofs.seek.Statement.{statement}
 use Rattle.dicts.proofs.seek.Tie as tie
-use Rattle.dicts.proofs.seek.Reads as reads
-use Rattle.dicts.proofs.seek.Lts as lts
-use Rattle.dicts.proofs.is_below.Reads as is-below-reads
-use Rattle.rulerow.proofs.size.Reads as size-reads
 
 abbrev Inv-loop : tie.InvT-loop
 Inv-loop rules w at₀ at = seek rules w (offsets-from rules at) ≡ first-at rules w

@@ -1,8 +1,8 @@
 -- `dicts::starts_with`: what is left of both answers as the whole does.
-use mathlib.Core.Path.{_≡_, refl, sym, ap, _∙_}
-use Prim.Native.Nat.{ℕ, _+_, _-_, _*_, _≤_, _<_, _/_}
+use mathlib.Core.Path.{_≡_, refl, ap, _∙_}
+use Prim.Native.Nat.{ℕ, _+_, _*_, _≤_}
 use native.Mathlib.Omega.{arith}
-use lib.ListN.{length, getD, drop}
+use lib.ListN.{drop}
 use denote.Ref.{now}
 use borrow.Author.Needs.{needs}
 use mathlib.Core.List.{List}
@@ -13,10 +13,6 @@ use Rattle.dicts.specs.Order.{three-here}
 use Rattle.dicts.specs.Starts.{text-over, source-over, another, same-letter}
 use Rattle.dicts.proofs.starts_with.Statement.{statement}
 use Rattle.dicts.proofs.starts_with.Tie as tie
-use Rattle.dicts.proofs.starts_with.Reads as reads
-use Rattle.dicts.proofs.starts_with.Lts as lts
-use Rattle.base.proofs.at.Reads as at-reads
-use Rattle.base.proofs.three.Reads as three-reads
 
 abbrev Inv-loop : tie.InvT-loop
 Inv-loop rules row w left₀ o₀ i₀ left o i =

@@ -1,4 +1,4 @@
--- `rulerow::end_target_text`: the text where the target for the end of a word begins.
+-- `rulerow::end_target_text`: the text where the target for the end of a syllable begins.
 use mathlib.Core.Path.{_∙_, ap}
 use lib.ListN.{drop}
 use borrow.Author.Needs.{needs}

@@ -1,9 +1,9 @@
 -- `rulerow::other_at`: what is left of the walk leads to the place.
-use mathlib.Core.Path.{_≡_, refl, sym, ap, _∙_}
+use mathlib.Core.Path.{_≡_, sym, ap, _∙_}
 use mathlib.Core.List.{List}
-use Prim.Native.Nat.{ℕ, _+_, _-_, _≤_, _<_}
+use Prim.Native.Nat.{ℕ, _+_, _-_, _<_}
 use native.Mathlib.Omega.{arith}
-use lib.ListN.{length, getD, drop, length-drop}
+use lib.ListN.{drop, length-drop}
 use denote.Ref.{now}
 use borrow.Author.Needs.{needs}
 use Rattle.definition.specs.RuleRows.{text-size, texts-size, others-at}
@@ -11,10 +11,6 @@ use Rattle.rulerow.specs.Others.{other-at, other-lies, texts-step, texts
 use Rattle.rulerow.proofs.Texts.{size-is}
 use Rattle.rulerow.proofs.other_at.Statement.{statement}
 use Rattle.rulerow.proofs.other_at.Tie as tie
-use Rattle.rulerow.proofs.other_at.Reads as reads
-use Rattle.rulerow.proofs.other_at.Lts as lts
-use Rattle.base.proofs.at.Reads as at-reads
-use Rattle.rulerow.proofs.others_at.Reads as others-at-reads
 
 abbrev Inv-loop : tie.InvT-loop
 Inv-loop rules row k o₀ left₀ o left = o + texts-size left (drop o (drop row rules)) ≡ other-at (drop row rules) k

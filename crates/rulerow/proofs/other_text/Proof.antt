@@ -7,10 +7,6 @@ use Rattle.rulerow.specs.Others.{other-lies, other-is}
 use borrow.Author.Needs.{needs}
 use Rattle.rulerow.proofs.other_text.Statement.{statement}
 use Rattle.rulerow.proofs.other_text.Tie as tie
-use Rattle.rulerow.proofs.other_text.Reads as reads
-use Rattle.rulerow.proofs.other_text.Lts as lts
-use Rattle.rulerow.proofs.other_at.Reads as other-at-reads
-use Rattle.rulerow.proofs.text.Reads as text-reads
 
 other-at-requires : tie.Need-other-at-requires
 other-at-requires c κs = search needs

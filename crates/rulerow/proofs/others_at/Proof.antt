@@ -1,4 +1,4 @@
--- `rulerow::others_at`: past the target for the end of a word.
+-- `rulerow::others_at`: past the target for the end of a syllable.
 use mathlib.Core.Path.{_∙_}
 use native.Mathlib.Omega.{arith}
 use borrow.Author.Needs.{needs}

@@ -1,15 +1,11 @@
 -- `rulerow::others_count`
-use mathlib.Core.Path.{_≡_, ap, _∙_}
+use mathlib.Core.Path.{ap, _∙_}
 use lib.ListN.{getD, drop}
 use denote.Ref.{now}
 use Rattle.rulerow.specs.Others.{others-counted}
 use borrow.Author.Needs.{needs}
 use Rattle.rulerow.proofs.others_count.Statement.{statement}
 use Rattle.rulerow.proofs.others_count.Tie as tie
-use Rattle.rulerow.proofs.others_count.Reads as reads
-use Rattle.rulerow.proofs.others_count.Lts as lts
-use Rattle.base.proofs.at.Reads as at-reads
-use Rattle.rulerow.proofs.others_at.Reads as others-at-reads
 
 others-at-requires : tie.Need-others-at-requires
 others-at-requires c κs = search needs

@@ -1,14 +1,10 @@
 -- `rulerow::read_row`: the walk over its fields, with the places of its parts.
-use mathlib.Core.Path.{_≡_, sym, ap, _∙_}
+use mathlib.Core.Path.{sym, ap, _∙_}
 use Rattle.rulerow.specs.declared.Cursor.the-variants.{Next}
 use Rattle.rulerow.specs.Row.{walked, Parted}
 use borrow.Author.Needs.{needs}
 use Rattle.rulerow.proofs.read_row.Statement.{statement}
 use Rattle.rulerow.proofs.read_row.Tie as tie
-use Rattle.rulerow.proofs.read_row.Reads as reads
-use Rattle.rulerow.proofs.read_row.Lts as lts
-use Rattle.rulerow.proofs.row_parts.Reads as row-parts-reads
-use Rattle.rulerow.proofs.walk_row.Reads as walk-row-reads
 
 walk-row-requires : tie.Need-walk-row-requires
 walk-row-requires c κs = search needs

@@ -11,8 +11,6 @@ use borrow.Author.Fill.{fill-more}
 use Rattle.definition.specs.Texts.{the-space}
 use Rattle.utf8.proofs.blank.Statement.{statement}
 use Rattle.utf8.proofs.blank.Tie as tie
-use Rattle.utf8.proofs.blank.Reads as reads
-use Rattle.utf8.proofs.blank.Lts as lts
 
 abbrev Inv-loop : tie.InvT-loop
 Inv-loop line₀ i₀ line i = (i ≤ length line₀) × (length line ≡ length line₀) × (line ≡ replicate i the-space ++ drop i line₀)

@@ -3,10 +3,6 @@ use Rattle.utf8.specs.Lines.{framed-is}
 use borrow.Author.Needs.{needs}
 use Rattle.utf8.proofs.read_line.Statement.{statement}
 use Rattle.utf8.proofs.read_line.Tie as tie
-use Rattle.utf8.proofs.read_line.Reads as reads
-use Rattle.utf8.proofs.read_line.Lts as lts
-use Rattle.utf8.proofs.blank.Reads as blank-reads
-use Rattle.utf8.proofs.read_text.Reads as read-text-reads
 
 blank-requires : tie.Need-blank-requires
 blank-requires c κs = search needs
