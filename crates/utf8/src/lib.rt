@@ -252,7 +252,7 @@ pub fn read_text(text: &[u8], chars: &mut [u32]) -> TextRead
 fn blank(line: &mut [u32])
     ensures { λ _. ⌜ now (line .exit) ≡ replicate (length (now (line .entry))) the-space ⌝ }
 {
-    let mut i = 0;
+    let mut i: usize = 0;
     while i < line.len() {
         line[i] = 0x20;
         i += 1;
