@@ -74,14 +74,18 @@ read-others z s o =
 unfoldable pub read-end : ℕ → ℕ → Cursor
 read-end z o = pick (leb z o) (Next o) (Wrong Length o)
 
+-- what follows the codes, and all of it
+unfoldable pub read-tail : ℕ → List ℕ → ℕ → Cursor
+read-tail z s o =
+    and-then (read-text-if (rule-flag s target-bit) z s o) (λ o.
+    and-then (read-text-if (rule-flag s end-target-bit) z s o) (λ o.
+    and-then (read-others z s o) (read-end z)))
+
 unfoldable pub read-parts : ℕ → List ℕ → Cursor
 read-parts z s =
     and-then (read-flags z s) (λ o.
     and-then (read-source z s o) (λ o.
-    and-then (read-codes z s o) (λ o.
-    and-then (read-text-if (rule-flag s target-bit) z s o) (λ o.
-    and-then (read-text-if (rule-flag s end-target-bit) z s o) (λ o.
-    and-then (read-others z s o) (read-end z))))))
+    and-then (read-codes z s o) (read-tail z s)))
 
 -- a row past the block's end is a fault of length at its start
 unfoldable pub read-row : List ℕ → Cursor

@@ -20,7 +20,7 @@ use Rattle.definition.specs.Blocks.{small}
 use Rattle.definition.specs.RuleRows.{printable, text-size, text-of, text-right, texts-size, texts-right, rule-size, rule-flag, zero-bit, target-bit, end-target-bit, source-count, codes-at, codes-count, target-at, past-text, end-target-at, others-at, others-end, others-right, three-at, code-of, rule-source, rule-codes, rises, rule-fits, source-right, codes-right, target-right, end-target-right, rule-right}
 use Rattle.definition.specs.Checked.{rule-checked}
 use Rattle.definition.specs.Places.{rule-placed}
-use Rattle.rulerow.specs.Reading.{and-then, field, fields, character-right, code-letters, byte-right, read-text, read-texts, read-text-if, read-flags, read-source, read-codes, read-others, read-end, read-parts, read-row, rightly}
+use Rattle.rulerow.specs.Reading.{and-then, field, fields, character-right, code-letters, byte-right, read-text, read-texts, read-text-if, read-flags, read-source, read-codes, read-others, read-end, read-tail, read-parts, read-row, rightly}
 use Rattle.rulerow.specs.declared.Fault.{Fault}
 use Rattle.rulerow.specs.declared.Cursor.{Cursor}
 use Rattle.rulerow.specs.declared.Cursor.the-variants.{Next, Wrong}
@@ -276,7 +276,7 @@ pub record Read (s : List ℕ) : Type 0 where
   pub others : others-right (others-at s) s ≡ true
 
 parts-next : (s : List ℕ) (e : ℕ) → holds (rule-size s) s ≡ true → read-parts (rule-size s) s ≡ Next e → Read s
-unfolding read-parts target-right end-target-right end-target-at others-at
+unfolding read-parts read-tail target-right end-target-right end-target-at others-at
 parts-next s e w h =
     let z = rule-size s in
     let l = holds-length z s w in
@@ -316,7 +316,7 @@ row-next s e h = go (holds (rule-size s) s) refl h
     go false w h = absurd (let z : _≡_ {A = ℕ} 0 1 = cc in omega arith)
 
 row-is : (old : Text) (s : List ℕ) → rule-right old s ≡ true → read-row s ≡ Next (rule-size s)
-unfolding read-row read-parts target-right end-target-right pick
+unfolding read-row read-parts read-tail target-right end-target-right pick
 row-is old s e =
     let z = rule-size s in
     let c = rule-checked old s e in

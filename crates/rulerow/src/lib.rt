@@ -11,8 +11,7 @@ ghost use Rattle.definition.specs.RuleRows.{past-text, text-size, text-of};
 ghost use Rattle.definition.specs.Places.{Placed};
 ghost use Rattle.rulerow.specs.Reading.{field, fields, character-right, code-letters, byte-right};
 ghost use Rattle.rulerow.specs.Reading.{read-text, read-texts, read-text-if, read-flags, read-source, read-codes};
-ghost use Rattle.rulerow.specs.Reading.{read-others, read-end, read-parts, read-row};
-ghost use Rattle.rulerow.specs.Parts.{read-tail};
+ghost use Rattle.rulerow.specs.Reading.{read-others, read-end, read-tail, read-parts, read-row};
 ghost use Rattle.rulerow.specs.Row.{walked, Parted};
 ghost use Rattle.rulerow.specs.Others.{others, Other, other-at};
 

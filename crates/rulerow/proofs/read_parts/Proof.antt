@@ -5,8 +5,7 @@ use native.Mathlib.Omega.{arith}
 use lib.ListN.{drop}
 use borrow.Author.Needs.{needs}
 use denote.Ref.{now}
-use Rattle.rulerow.specs.Reading.{read-parts}
-use Rattle.rulerow.specs.Parts.{read-tail}
+use Rattle.rulerow.specs.Reading.{read-tail, read-parts}
 use Rattle.rulerow.proofs.Inside.{inside-at, inside-flags, inside-source, inside-codes}
 use Rattle.rulerow.proofs.Chains.{in-first, in-second, in-third, past-third}
 use Rattle.rulerow.proofs.read_parts.Statement.{statement}

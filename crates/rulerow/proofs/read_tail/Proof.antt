@@ -1,7 +1,7 @@
 -- `rulerow::read_tail`: three parts and the end, each where the one before it ended.
 use native.Mathlib.Omega.{arith}
 use borrow.Author.Needs.{needs}
-use Rattle.rulerow.specs.Parts.{read-tail}
+use Rattle.rulerow.specs.Reading.{read-tail}
 use Rattle.rulerow.proofs.Chains.{text-by, past-text-if, in-first, in-second, in-third, past-third}
 use Rattle.rulerow.proofs.read_tail.Statement.{statement}
 use Rattle.rulerow.proofs.read_tail.Tie as tie
