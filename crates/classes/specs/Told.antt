@@ -60,6 +60,11 @@ from k (suc n) = k ∷ from (k + 1) n
 unfoldable pub alphas-of : List ℕ → List ℕ
 alphas-of b = map (λ c. bit (alpha (classes-of b) c)) (from 0 128)
 
+-- what was told of a right table
+pub record Alphas (b x : List ℕ) : Type 0 where
+  pub fine : Fine b
+  pub is : x ≡ alphas-of b
+
 -- a script's vowel by its row in the table
 unfoldable pub told : List ℕ → ℕ → VowelOf → Option Vowel
 told b k (Sounding r) = some (record { script = k; ao = r .ao; letters = take (r .to - r .from) (drop (r .from) b) })

@@ -14,7 +14,7 @@ ghost use Rattle.definition.specs.VowelRows.{vowel-fault, vowels-of};
 ghost use Rattle.definition.specs.Classes.{plain, class, alpha};
 ghost use Rattle.definition.specs.Vowels.{vowel-row};
 ghost use Rattle.classes.specs.Told.{fault-place, Fine, FineVowels, seen, Ranged};
-ghost use Rattle.classes.specs.Told.{packed, kinds-of, alphas-of, told, Lettered};
+ghost use Rattle.classes.specs.Told.{packed, kinds-of, alphas-of, Alphas, told, Lettered};
 
 // A table is valid, or has its first fault at this row's offset (0 for the header).
 pub enum TableRead {
@@ -362,6 +362,17 @@ pub fn classify_ascii(classes: &[u8], alphas: &mut [u8])
         alphas[i as usize] = alpha_byte(classes, i);
         i += 1;
     }
+}
+
+// Is a character a letter or a mark? Of ASCII it was told once; the others are looked for.
+pub fn is_letter(classes: &[u8], alphas: &[u8], c: u32) -> bool
+    requires { ⌜ Alphas (now classes) (now alphas) ⌝ }
+    ensures { λ r. ⌜ r ≡ alpha (classes-of (now (classes .entry))) c ⌝ }
+{
+    if c < 128 {
+        return base::byte(alphas, c as usize) == 1;
+    }
+    alpha_byte(classes, c) == 1
 }
 
 // The vowel row of a script.

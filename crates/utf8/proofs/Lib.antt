@@ -5,4 +5,5 @@ pub mod Ranges
 pub mod Bytes
 -- The loops, and the answers
 pub mod Walks
+pub mod Lasts
 pub mod Answers

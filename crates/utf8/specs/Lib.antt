@@ -2,3 +2,6 @@
 pub mod Read
 pub mod Puts
 pub mod Lines
+-- Continuation bytes; bytes that are those of a text
+pub mod Sixes
+pub mod Encodings

@@ -1,6 +1,6 @@
 -- `utf8::six`: each return is a case of the definition.
 use native.Mathlib.Omega.{arith}
-use Rattle.utf8.proofs.Values.{six-low, six-own, six-high}
+use Rattle.utf8.specs.Sixes.{six-low, six-own, six-high}
 use Rattle.utf8.proofs.six.Statement.{statement}
 use Rattle.utf8.proofs.six.Tie as tie
 

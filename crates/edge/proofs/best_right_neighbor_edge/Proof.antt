@@ -1,0 +1,19 @@
+-- `edge::best_right_neighbor_edge`
+use mathlib.Core.Path.{_∙_}
+use denote.Ref.{now}
+use borrow.Author.Needs.{needs}
+use Rattle.edge.specs.Slots.{edges-of}
+use Rattle.edge.specs.Best.{right-neighbor}
+use Rattle.edge.proofs.best_right_neighbor_edge.Statement.{statement}
+use Rattle.edge.proofs.best_right_neighbor_edge.Tie as tie
+
+best-edge-requires : tie.Need-best-edge-requires
+best-edge-requires c κs = search needs
+
+returns : tie.Need-returns
+returns c =
+    let a = c .before .before .args in
+    (λ room. c .best-edge .ensures .0 room ∙ right-neighbor (edges-of room (a .count) (now (a .slots))) (a .p), c .best-edge .ensures .1)
+
+pub best-right-neighbor-edge-spec : {M : Type 1} → statement M
+best-right-neighbor-edge-spec = tie.close (tie.spec best-edge-requires returns)

@@ -1,0 +1,5 @@
+-- A text read backwards, and what is written to a romanization
+pub mod Backwards
+pub mod Writes
+-- The loops over lent bytes, a turn at a time
+pub mod Walks

@@ -1,0 +1,2 @@
+pub mod Rom
+pub mod Sets

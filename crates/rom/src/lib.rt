@@ -1,0 +1,209 @@
+// A growing romanization by value, questions about lent bytes, and sets of small letters.
+ghost use mathlib.Core.Path.{_≡_};
+ghost use mathlib.Core.List.{_++_, _∷_, [], reverse};
+ghost use Prim.Native.Nat.{_+_, _<_, _≤_};
+ghost use lib.ListN.{length};
+ghost use Rattle.base.specs.Lists.{any, all, head, tail, is, starts};
+ghost use Rattle.definition.specs.Limits.{most-bytes};
+ghost use Rattle.definition.specs.Texts.{last-is, without-last};
+ghost use Rattle.rom.specs.Rom.{text, rom, Clean};
+ghost use Rattle.rom.specs.Sets.{member};
+
+// Sets of small letters, bit k for the letter k places after a: a e i o u.
+pub const VOWELS: u32 = 0x104111;
+
+// b c d f g h j k l m n p q r s t v w x y z
+pub const CONSONANTS: u32 = 0x3efbeee;
+
+// Those without w and y.
+pub const CLOSING: u32 = 0x2afbeee;
+
+// c f g h k m n q r s t x y
+pub const BEFORE_Y: u32 = 0x18f34e4;
+
+// b c d f g h j k l m n p q r s t w z
+pub const DOUBLING: u32 = 0x24fbeee;
+
+// The consonants without y.
+pub const O_ANG_SIDE: u32 = 0x2efbeee;
+
+// m n g r
+pub const PLUS_BEFORE: u32 = 0x23040;
+
+// The text is the first `len` bytes; zeros stand behind it.
+pub struct Rom {
+    pub bytes: [u8; 198],
+    pub len: usize,
+}
+
+// No text.
+pub fn new() -> Rom
+    ensures { λ r. ⌜ r ≡ rom [] ⌝ }
+{
+    Rom {
+        bytes: [0u8; 198],
+        len: 0,
+    }
+}
+
+// A byte put behind.
+pub fn push(mut r: Rom, b: u8) -> Rom
+    requires { ⌜ Clean r × (r .len < most-bytes) ⌝ }
+    ensures { λ q. ⌜ q ≡ rom (text r ++ b ∷ []) ⌝ }
+{
+    let n = r.len;
+    r.bytes[n] = b;
+    r.len = n + 1;
+    r
+}
+
+// A text put behind.
+pub fn append(mut r: Rom, s: &[u8]) -> Rom
+    requires { ⌜ Clean r × (r .len + length (now s) ≤ most-bytes) ⌝ }
+    ensures { λ q. ⌜ q ≡ rom (text r ++ now (s .entry)) ⌝ }
+{
+    let n = r.len;
+    let mut i: usize = 0;
+    while i < s.len() {
+        r.bytes[n + i] = s[i];
+        i += 1;
+    }
+    r.len = n + i;
+    r
+}
+
+// The romanization of a lent text.
+pub fn bytes_of(s: &[u8]) -> Rom
+    requires { ⌜ length (now s) ≤ most-bytes ⌝ }
+    ensures { λ q. ⌜ q ≡ rom (now (s .entry)) ⌝ }
+{
+    append(new(), s)
+}
+
+// A text put in front.
+pub fn insert_front(r: Rom, s: &[u8]) -> Rom
+    requires { ⌜ Clean r × (r .len + length (now s) ≤ most-bytes) ⌝ }
+    ensures { λ q. ⌜ q ≡ rom (now (s .entry) ++ text r) ⌝ }
+{
+    let n = r.len;
+    let b = r.bytes;
+    append(bytes_of(s), &b[..n])
+}
+
+// Without the first byte, if there is one.
+pub fn without_first(r: Rom) -> Rom
+    requires { ⌜ Clean r ⌝ }
+    ensures { λ q. ⌜ q ≡ rom (tail (text r)) ⌝ }
+{
+    let n = r.len;
+    if n == 0 {
+        return r;
+    }
+    let b = r.bytes;
+    bytes_of(&b[1..n])
+}
+
+// Without the last byte, if there is one.
+pub fn without_last(mut r: Rom) -> Rom
+    requires { ⌜ Clean r ⌝ }
+    ensures { λ q. ⌜ q ≡ rom (without-last (text r)) ⌝ }
+{
+    let n = r.len;
+    if n == 0 {
+        return r;
+    }
+    r.bytes[n - 1] = 0;
+    r.len = n - 1;
+    r
+}
+
+// Does a text start with another; does it end with it?
+pub fn starts_with(s: &[u8], w: &[u8]) -> bool
+    ensures { λ r. ⌜ r ≡ starts (now (w .entry)) (now (s .entry)) ⌝ }
+{
+    let mut i: usize = 0;
+    while i < w.len() {
+        if s.len() <= i {
+            return false;
+        }
+        if s[i] != w[i] {
+            return false;
+        }
+        i += 1;
+    }
+    true
+}
+
+pub fn ends_with(s: &[u8], w: &[u8]) -> bool
+    ensures { λ r. ⌜ r ≡ starts (reverse (now (w .entry))) (reverse (now (s .entry))) ⌝ }
+{
+    let mut left = w.len();
+    let mut at = s.len();
+    while 0 < left {
+        if at == 0 {
+            return false;
+        }
+        left -= 1;
+        at -= 1;
+        if s[at] != w[left] {
+            return false;
+        }
+    }
+    true
+}
+
+// Is a character in a set?
+pub fn is_in(set: u32, c: u32) -> bool
+    ensures { λ r. ⌜ r ≡ member set c ⌝ }
+{
+    if c < 97 {
+        return false;
+    }
+    if 122 < c {
+        return false;
+    }
+    (set >> (c - 97)) & 1 == 1
+}
+
+// Of a text: are all its characters in a set, is any, is the first, is the last?
+pub fn all_in(s: &[u8], set: u32) -> bool
+    ensures { λ r. ⌜ r ≡ all (member set) (now (s .entry)) ⌝ }
+{
+    let mut i: usize = 0;
+    while i < s.len() {
+        if is_in(set, base::byte(s, i)) {
+            i += 1;
+        } else {
+            return false;
+        }
+    }
+    true
+}
+
+pub fn any_in(s: &[u8], set: u32) -> bool
+    ensures { λ r. ⌜ r ≡ any (member set) (now (s .entry)) ⌝ }
+{
+    let mut i: usize = 0;
+    while i < s.len() {
+        if is_in(set, base::byte(s, i)) {
+            return true;
+        }
+        i += 1;
+    }
+    false
+}
+
+pub fn first_in(s: &[u8], set: u32) -> bool
+    ensures { λ r. ⌜ r ≡ is (member set) (head (now (s .entry))) ⌝ }
+{
+    is_in(set, base::byte(s, 0))
+}
+
+pub fn last_in(s: &[u8], set: u32) -> bool
+    ensures { λ r. ⌜ r ≡ last-is (member set) (now (s .entry)) ⌝ }
+{
+    if s.len() == 0 {
+        return false;
+    }
+    is_in(set, base::byte(s, s.len() - 1))
+}
