@@ -15,6 +15,7 @@ use Rattle.base.specs.Big.{two, three, four}
 use Rattle.definition.specs.Limits.{slot-bytes}
 use Rattle.definition.specs.Edges.{Edge, starting, alike, new-in, add}
 use Rattle.definition.specs.Capacity.{bytes}
+use Rattle.definition.specs.Growth.{all-bytes}
 use Rattle.utf8.specs.Encodings.{TextBytes}
 use Rattle.room.specs.Puts.{put-at, put-before, put-from, put-there, put-length}
 use Rattle.edge.specs.declared.Numbers.{Numbers}
@@ -22,7 +23,7 @@ use Rattle.edge.specs.declared.Added.{Added}
 use Rattle.edge.specs.declared.Added.the-variants.{Fits, NoSlot, NoRoom}
 use Rattle.edge.specs.Slots.{offset-of, length-of, bytes-of, edge-by, numbers-of, edge-of, edges-of, slot-of}
 use Rattle.edge.specs.Counted.{counted-snoc, counted-agree, all-snoc, all-agree}
-use Rattle.edge.specs.Stored.{Slot, Stored, total, edge-agree, slot-agree}
+use Rattle.edge.specs.Stored.{Slot, Stored, edge-agree, slot-agree}
 
 -- is an edge like it there; is a slot left; is enough room?
 unfoldable pub there : List Edge → Edge → Bool
@@ -145,10 +146,10 @@ module _ (used : ℕ) (e : Numbers) (text rest : List ℕ) (w : Writable used e 
       text = subst TextBytes (sym bytes-back) (w .utf8);
     }
 
-total-snoc : (l : List Edge) (x : Edge) → total (l ++ x ∷ []) ≡ total l + bytes x
-unfolding total
-total-snoc [] x = omega arith
-total-snoc (y ∷ l) x = let e = total-snoc l x in omega (arith, e)
+bytes-snoc : (l : List Edge) (x : Edge) → all-bytes (l ++ x ∷ []) ≡ all-bytes l + bytes x
+unfolding all-bytes
+bytes-snoc [] x = omega arith
+bytes-snoc (y ∷ l) x = let e = bytes-snoc l x in omega (arith, e)
 
 module _ (slots room : List ℕ) (count used : ℕ) (e : Numbers) (text : List ℕ)
     (st : Stored slots room count used) (w : Writable used e text) where
@@ -203,7 +204,7 @@ module _ (slots room : List ℕ) (count used : ℕ) (e : Numbers) (text : List �
           (subst (Slot room′ (used + length text)) (sym new-slot) (slot-back used e text rest w room′ text-there));
       slot = omega (arith, a-slot, put-length (count * slot-bytes) (slot-of e used (length text)) slots a-slot);
       within = omega (arith, its-room, put-length used text room its-room);
-      sum = sym (ap total one-more ∙ total-snoc (edges-of room count slots) (edge-by e text) ∙ (omega (arith, st .sum, written-bytes used e text w)));
+      sum = sym (ap all-bytes one-more ∙ bytes-snoc (edges-of room count slots) (edge-by e text) ∙ (omega (arith, st .sum, written-bytes used e text w)));
     }
 
   abbrev es : List Edge

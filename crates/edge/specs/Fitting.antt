@@ -2,7 +2,7 @@
 use Prim.Native.Nat.{ℕ, zero, suc, _+_, _-_, _*_, _/_, _≤_}
 use mathlib.Core.Bool.{Bool, true, false}
 use mathlib.Core.List.{List, [], _∷_, _++_}
-use mathlib.Core.Option.{Option, some}
+use mathlib.Core.Option.{Option, none, some}
 use mathlib.Core.Path.{_≡_, refl, sym, ap, _∙_}
 use native.Mathlib.Omega.{arith}
 use lib.Dec.{leb}
@@ -13,32 +13,28 @@ use Rattle.base.specs.Lists.{any}
 use Rattle.definition.specs.Limits.{slot-bytes}
 use Rattle.definition.specs.Edges.{Edge, starting, alike, new-in, add}
 use Rattle.definition.specs.Capacity.{Refusal, refuse, bytes, misfit}
+use Rattle.definition.specs.Growth.{all-bytes, misfit-after}
 use Rattle.edge.specs.declared.Numbers.{Numbers}
 use Rattle.edge.specs.declared.Added.{Added}
 use Rattle.edge.specs.declared.Added.the-variants.{Fits, NoSlot, NoRoom}
 use Rattle.edge.specs.Slots.{edge-by, edges-of}
-use Rattle.edge.specs.Stored.{Stored, total, edge-count}
+use Rattle.edge.specs.Stored.{Stored, edge-count}
 use Rattle.edge.specs.Adding.{there, slot-left, room-left, answer, added, Writable, written-bytes}
 
 module _ (x : Edge) (l : List Edge) (r : ℕ) where
-  fits-next : (k : ℕ) → bytes x ≤ r → misfit (suc k) r (x ∷ l) ≡ misfit k (r - bytes x) l
-  unfolding misfit
-  fits-next k h = ap (λ (b : Bool). elim b as (λ _. Option Refusal) [ true ↦ misfit k (r - bytes x) l | false ↦ some (refuse 10 (x .from)) ]) (le-leb (bytes x) r h)
-
   too-long : (k : ℕ) → leb (bytes x) r ≡ false → misfit (suc k) r (x ∷ l) ≡ some (refuse 10 (x .from))
   unfolding misfit
   too-long k h = ap (λ (b : Bool). elim b as (λ _. Option Refusal) [ true ↦ misfit k (r - bytes x) l | false ↦ some (refuse 10 (x .from)) ]) h
 
--- edges that fit leave so many slots and bytes
-pub misfit-after : (es l : List Edge) (k r : ℕ) → length es ≤ k → total es ≤ r → misfit k r (es ++ l) ≡ misfit (k - length es) (r - total es) l
-unfolding total
-misfit-after [] l k r h g = let a : k - 0 ≡ k = omega arith in let b : r - 0 ≡ r = omega arith in rw (a, b)
-misfit-after (x ∷ es) l zero r h g = absurd (omega arith)
-misfit-after (x ∷ es) l (suc k) r h g =
-    let a : k - length es ≡ suc k - suc (length es) = omega arith in
-    let b : r - bytes x - total es ≡ r - (bytes x + total es) = omega arith in
-    fits-next x (es ++ l) r k (omega arith) ∙ misfit-after es l k (r - bytes x) (omega arith) (omega arith)
-    ∙ ap (λ (n : ℕ). misfit n (r - bytes x - total es) l) a ∙ ap (λ (n : ℕ). misfit (suc k - suc (length es)) n l) b
+-- edges for which there are slots and bytes fit
+all-fit : (es : List Edge) (k r : ℕ) → length es ≤ k → all-bytes es ≤ r → misfit k r es ≡ none
+unfolding misfit all-bytes
+all-fit [] k r h g = refl
+all-fit (x ∷ es) zero r h g = absurd (omega arith)
+all-fit (x ∷ es) (suc k) r h g =
+    ap (λ (b : Bool). elim b as (λ _. Option Refusal) [ true ↦ misfit k (r - bytes x) es | false ↦ some (refuse 10 (x .from)) ])
+    (le-leb (bytes x) r (omega arith))
+    ∙ all-fit es k (r - bytes x) (omega arith) (omega arith)
 
 module _ (slots room : List ℕ) (count used : ℕ) (e : Numbers) (text : List ℕ)
     (st : Stored slots room count used) (w : Writable used e text) where
@@ -56,8 +52,9 @@ module _ (slots room : List ℕ) (count used : ℕ) (e : Numbers) (text : List �
   left : (l : List Edge) → misfit (length slots / slot-bytes) (length room) (es ++ x ∷ l) ≡ misfit (length slots / slot-bytes - count) (length room - used) (x ∷ l)
   left l =
       let a = edge-count slots room count in
-      misfit-after es (x ∷ l) (length slots / slot-bytes) (length room) (omega (arith, st .slot, a)) (omega (arith, st .within, st .sum))
-      ∙ ap (λ n. misfit (length slots / slot-bytes - n) (length room - total es) (x ∷ l)) a
+      misfit-after (length slots / slot-bytes) (length room) es (x ∷ l)
+      (all-fit es (length slots / slot-bytes) (length room) (omega (arith, st .slot, a)) (omega (arith, st .within, st .sum)))
+      ∙ ap (λ n. misfit (length slots / slot-bytes - n) (length room - all-bytes es) (x ∷ l)) a
       ∙ ap (λ n. misfit (length slots / slot-bytes - count) (length room - n) (x ∷ l)) (sym (st .sum))
 
   is-new : any (alike x) (starting es (x .from)) ≡ false → add es (some x) ≡ es ++ x ∷ []

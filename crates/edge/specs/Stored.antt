@@ -1,6 +1,6 @@
 -- Slots and text room that hold edges: each slot's text lies within the used part of the room, and is UTF-8.
 use Prim.Native.Nat.{ℕ, _+_, _-_, _*_, _<_, _≤_, min}
-use mathlib.Core.List.{List, [], _∷_}
+use mathlib.Core.List.{List}
 use mathlib.Core.Path.{_≡_, refl, sym, ap, _∙_, subst}
 use native.Mathlib.Omega.{arith}
 use lib.ListN.{length, getD, take, drop, length-drop, length-take}
@@ -8,8 +8,8 @@ use lib.Seq.{take-take, getD-take, length-take-le}
 use Rattle.base.specs.Rows.{counted, counted-length, AllOf}
 use Rattle.definition.specs.Limits.{slot-bytes}
 use Rattle.definition.specs.Utf8.{encoded}
-use Rattle.definition.specs.Edges.{Edge}
 use Rattle.definition.specs.Capacity.{bytes}
+use Rattle.definition.specs.Growth.{all-bytes}
 use Rattle.utf8.specs.Encodings.{TextBytes}
 use Rattle.edge.specs.Slots.{offset-of, length-of, bytes-of, edge-by, numbers-of, edge-of, edges-of}
 use Rattle.edge.specs.Counted.{drop-take}
@@ -19,20 +19,15 @@ pub record Slot (room : List ℕ) (used : ℕ) (s : List ℕ) : Type 0 where
   pub inside : offset-of s + length-of s ≤ used
   pub text : TextBytes (bytes-of room s)
 
--- the bytes of some edges' texts
-unfoldable pub total : List Edge → ℕ
-total [] = 0
-total (x ∷ l) = bytes x + total l
-
 pub record Stored (slots room : List ℕ) (count used : ℕ) : Type 0 where
   pub rows : AllOf (Slot room used) slot-bytes count slots
   pub slot : count * slot-bytes ≤ length slots
   pub within : used ≤ length room
-  pub sum : used ≡ total (edges-of room count slots)
+  pub sum : used ≡ all-bytes (edges-of room count slots)
 
 -- at first there is none
 pub none-stored : (slots room : List ℕ) → Stored slots room 0 0
-unfolding AllOf counted total
+unfolding AllOf counted all-bytes
 none-stored slots room = record { rows = tt; slot = omega arith; within = omega arith; sum = refl }
 
 pub edge-count : (slots room : List ℕ) (count : ℕ) → length (edges-of room count slots) ≡ count

@@ -1,10 +1,11 @@
 -- Some bytes put at a place of others: what stands there, what stays, and one put after another.
 use Prim.Native.Nat.{ℕ, _+_, _-_, _≤_}
-use mathlib.Core.List.{List, _++_}
+use mathlib.Core.List.{List, [], _++_, append-assoc}
 use mathlib.Core.Path.{_≡_, refl, sym, ap, _∙_}
 use native.Mathlib.Omega.{arith}
-use lib.ListN.{length, take, drop, length-drop, length-append}
-use lib.Seq.{drop-drop, take-at, drop-at, drop-append-seam, length-take-le}
+use native.Mathlib.Nat.{add-zero}
+use lib.ListN.{length, take, drop, replicate, length-drop, length-append, take-append-drop}
+use lib.Seq.{drop-drop, take-add, take-at, drop-at, drop-append-seam, length-take-le}
 
 unfoldable pub put-at : ℕ → List ℕ → List ℕ → List ℕ
 put-at a new s = take a s ++ (new ++ drop (a + length new) s)
@@ -34,3 +35,45 @@ put-length a new s h =
     let k = length-drop (a + length new) s in
     let l = length-take-le a s (omega arith) in
     omega (arith, length-append (take a s) (new ++ drop (a + length new) s), length-append new (drop (a + length new) s))
+
+-- putting nothing changes nothing
+pub put-none : (a : ℕ) (s : List ℕ) → put-at a [] s ≡ s
+unfolding put-at
+put-none a s = ap (λ n. take a s ++ drop n s) (add-zero a) ∙ take-append-drop a s
+
+-- up to the end of what is put there is what stood before, and the new
+put-until : (a : ℕ) (new s : List ℕ) → a ≤ length s → take (a + length new) (put-at a new s) ≡ take a s ++ new
+put-until a new s h =
+    take-add a (length new) (put-at a new s) ∙ ap (λ l. l ++ take (length new) (drop a (put-at a new s))) (put-before a new s h)
+    ∙ ap (_++_ (take a s)) (put-there a new s h)
+
+-- one put right behind another is one put of both
+pub put-put : (a : ℕ) (x y s : List ℕ) → a ≤ length s
+    → put-at (a + length x) y (put-at a x s) ≡ put-at a (x ++ y) s
+unfolding put-at
+put-put a x y s h =
+    let m = a + length x in
+    let t = put-at a x s in
+    let rest : drop (m + length y) t ≡ drop (a + length (x ++ y)) s =
+    sym (drop-drop (length y) m t) ∙ ap (drop (length y)) (put-behind a x s h) ∙ drop-drop (length y) m s
+    ∙ ap (λ n. drop n s) {x = m + length y} {y = a + length (x ++ y)} (omega (arith, length-append x y)) in
+    ap (λ l. take m t ++ (y ++ l)) rest
+    ∙ ap (λ l. l ++ (y ++ drop (a + length (x ++ y)) s)) (put-until a x s h)
+    ∙ append-assoc (take a s) x (y ++ drop (a + length (x ++ y)) s)
+    ∙ ap (_++_ (take a s)) (sym (append-assoc x y (drop (a + length (x ++ y)) s)))
+
+-- the same, where the place behind the first, and what that left, are known by equations
+pub put-next : (a n : ℕ) (x y s t : List ℕ) → n ≡ a + length x → a ≤ length s → t ≡ put-at a x s
+    → put-at n y t ≡ put-at a (x ++ y) s
+put-next a n x y s t k h e =
+    ap (put-at n y) e ∙ ap (λ m. put-at m y (put-at a x s)) k ∙ put-put a x y s h
+
+-- bytes put at the front, and zeros from their end on
+pub put-whole : (x s : List ℕ) → length x ≤ length s
+    → take (length x) (put-at 0 x s) ++ replicate (length (put-at 0 x s) - length x) 0
+    ≡ x ++ replicate (length s - length x) 0
+put-whole x s h =
+    let e : take (length x) (put-at 0 x s) ≡ x = put-there 0 x s (omega arith) in
+    let l = put-length 0 x s (omega arith) in
+    ap (λ t. t ++ replicate (length (put-at 0 x s) - length x) 0) e
+    ∙ ap (λ n. x ++ replicate (n - length x) 0) l

@@ -68,10 +68,14 @@ ends w = go (eq-nil-or-concat w)
     go (inr k) = inr (k .0, k .1, k .2 ∙ concat-eq-append (k .0) (k .1))
 
 -- and the bytes of that one stand behind those of the others
+pub encoded-append : (u w : Text) → encoded (u ++ w) ≡ encoded u ++ encoded w
+unfolding encoded
+encoded-append [] w = refl
+encoded-append (d ∷ u) w = ap (λ l. encode d ++ l) (encoded-append u w) ∙ sym (append-assoc (encode d) (encoded u) (encoded w))
+
 encoded-end : (u : Text) (c : ℕ) → encoded (u ++ c ∷ []) ≡ encoded u ++ encode c
 unfolding encoded
-encoded-end [] c = append-nil (encode c)
-encoded-end (d ∷ u) c = ap (λ l. encode d ++ l) (encoded-end u c) ∙ sym (append-assoc (encode d) (encoded u) (encode c))
+encoded-end u c = encoded-append u (c ∷ []) ∙ ap (λ l. encoded u ++ l) (append-nil (encode c))
 
 bytes-end : {b : List ℕ} → TextBytes b → (u : Text) (c : ℕ) → decoded b ≡ u ++ c ∷ [] → b ≡ encoded u ++ encode c
 bytes-end e u c k = sym (e .whole) ∙ ap encoded k ∙ encoded-end u c

@@ -1,0 +1,97 @@
+// The bytes of an output: a listing's header and its rows, or the texts of a string.
+ghost use mathlib.Core.Path.{_≡_};
+ghost use mathlib.Core.List.{_∷_, _++_};
+ghost use Prim.Native.Nat.{_+_, _≤_};
+ghost use lib.ListN.{length, drop};
+ghost use Rattle.base.specs.Big.{four};
+ghost use Rattle.definition.specs.Utf8.{encoded};
+ghost use Rattle.definition.specs.Capacity.{bytes};
+ghost use Rattle.definition.specs.Listing.{edge-row};
+ghost use Rattle.room.specs.Puts.{put-at};
+ghost use Rattle.edge.specs.Slots.{length-of, edge-by, edge-of};
+ghost use Rattle.edge.specs.Stored.{Slot};
+ghost use Rattle.listing.specs.Rows.{row-head, row-of, row-size};
+
+// The header of a listing whose rows take `rows` bytes: version 1, and that number in four bytes.
+pub fn put_header(out: &mut [u8], rows: usize)
+    requires { ⌜ 5 ≤ length (now out) ⌝ }
+    ensures { λ _. ⌜ now (out .exit) ≡ put-at 0 (1 ∷ four rows) (now (out .entry)) ⌝ }
+{
+    let header = [
+        1,
+        (rows / 16777216 % 256) as u8,
+        (rows / 65536 % 256) as u8,
+        (rows / 256 % 256) as u8,
+        (rows % 256) as u8,
+    ];
+    room::put_at(out, 0, &header);
+}
+
+// A row's first eight bytes, before a text of `len` bytes.
+fn put_row_head(out: &mut [u8], at: usize, e: edge::Numbers, len: usize)
+    requires { ⌜ at + 8 + len ≤ length (now out) ⌝ }
+    ensures { λ _. ⌜ now (out .exit) ≡ put-at at (row-head e len) (now (out .entry)) ⌝ }
+{
+    let rest = 6 + len;
+    let head = [
+        (rest / 256 % 256) as u8,
+        (rest % 256) as u8,
+        (e.from / 256 % 256) as u8,
+        (e.from % 256) as u8,
+        (e.to / 256 % 256) as u8,
+        (e.to % 256) as u8,
+        e.note,
+        e.core,
+    ];
+    room::put_at(out, at, &head);
+}
+
+// A row whose text is `text` and, behind it, `more`: an alternative is a rule's text and an edge's vowel.
+pub fn put_row(out: &mut [u8], at: usize, e: edge::Numbers, text: &[u8], more: &[u8]) -> usize
+    requires { ⌜ at + 8 + length (now text) + length (now more) ≤ length (now out) ⌝ }
+    ensures end { λ r. ⌜ r ≡ at + 8 + length (now (text .entry)) + length (now (more .entry)) ⌝ }
+    ensures row { λ _. ⌜ now (out .exit) ≡ put-at at (edge-row (edge-by e (now (text .entry) ++ now (more .entry)))
+        (now (text .entry) ++ now (more .entry))) (now (out .entry)) ⌝ }
+{
+    let start = at + 8;
+    let seam = start + text.len();
+    put_row_head(out, at, e, text.len() + more.len());
+    room::put_at(out, start, text);
+    room::put_at(out, seam, more);
+    seam + more.len()
+}
+
+// How many bytes the row of the edge in a slot takes.
+pub fn edge_row_len(slots: &[u8], slot: usize) -> usize
+    ensures { λ r. ⌜ r ≡ 8 + length-of (drop slot (now (slots .entry))) ⌝ }
+{
+    8 + edge::text_len(slots, slot)
+}
+
+// The text of the edge in a slot.
+pub fn put_edge_text(out: &mut [u8], at: usize, slots: &[u8], room: &[u8], slot: usize) -> usize
+    requires { ⌜ Slot (now room) (length (now room)) (drop slot (now slots))
+        × (at + bytes (edge-of (now room) (drop slot (now slots))) ≤ length (now out)) ⌝ }
+    ensures end { λ r. ⌜ r ≡ at + bytes (edge-of (now (room .entry)) (drop slot (now (slots .entry)))) ⌝ }
+    ensures text { λ _. ⌜ now (out .exit) ≡ put-at at (encoded (edge-of (now (room .entry)) (drop slot (now (slots .entry))) .text)) (now (out .entry)) ⌝ }
+{
+    let text = edge::edge_text(slots, room, slot);
+    room::put_at(out, at, text);
+    at + text.len()
+}
+
+// Its row.
+pub fn put_edge_row(out: &mut [u8], at: usize, slots: &[u8], room: &[u8], slot: usize) -> usize
+    requires { ⌜ Slot (now room) (length (now room)) (drop slot (now slots))
+        × (at + row-size (edge-of (now room) (drop slot (now slots))) ≤ length (now out)) ⌝ }
+    ensures end { λ r. ⌜ r ≡ at + row-size (edge-of (now (room .entry)) (drop slot (now (slots .entry)))) ⌝ }
+    ensures row { λ _. ⌜ now (out .exit) ≡ put-at at (row-of (edge-of (now (room .entry)) (drop slot (now (slots .entry))))) (now (out .entry)) ⌝ }
+{
+    put_row_head(
+        out,
+        at,
+        edge::numbers_at(slots, slot),
+        edge::text_len(slots, slot),
+    );
+    put_edge_text(out, at + 8, slots, room, slot)
+}
