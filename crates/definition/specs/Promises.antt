@@ -49,7 +49,7 @@ unfolding text-where pick
 where-short true s e = text-short s e
 where-short false s e = tt
 
-rule-spoken : (old : Text) (s : List ℕ) → rule-right old s ≡ true → Spoken (rule-of s)
+pub rule-spoken : (old : Text) (s : List ℕ) → rule-right old s ≡ true → Spoken (rule-of s)
 unfolding rule-of target-right end-target-right others-right others-of
 rule-spoken old s e =
     let c = rule-checked old s e in

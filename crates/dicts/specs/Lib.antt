@@ -4,5 +4,6 @@ pub mod Sorted
 pub mod Doors
 pub mod Index
 pub mod Seek
+pub mod Entries
 pub mod Starts
 pub mod First

@@ -1,6 +1,6 @@
 -- The order of sources: what of it a search in sorted rows needs.
 use mathlib.Core.Bool.{Bool, true, false, _&&_, true≢false}
-use mathlib.Core.Path.{_≡_, refl, sym, ap, _∙_}
+use mathlib.Core.Path.{_≡_, refl, sym, ap, _∙_, subst}
 use mathlib.Core.List.{List, [], _∷_, append-nil}
 use Prim.Native.Nat.{ℕ, suc, _+_, _-_, _≤_, _<_}
 use native.Mathlib.Omega.{arith}
@@ -114,6 +114,15 @@ risen-not-below (x ∷ y) (v ∷ w) e r = ways x v
     (λ k. let j = ltb-true v x k in omega arith)
     (λ k. risen-not-below y w (sym (beside-same x v (compared y w) i) ∙ e) (and-right (eqb v x) _ k)) r)
     (λ l. let q = sym (beside-higher x v (compared y w) l) ∙ e in absurd (let z : _≡_ {A = ℕ} 0 1 = cc in omega arith))
+
+-- What comes before one that is below is below too
+pub below-earlier : (a y w : Text) → compared y w ≡ Below → rises a y ≡ true → compared a w ≡ Below
+below-earlier a y w e r = go (compared a w) refl
+  where
+    go : (o : Order) → compared a w ≡ o → o ≡ Below
+    go Below q = refl
+    go Equal q = absurd (risen-not-below y w e (subst (λ x. rises x y ≡ true) (same-true a w (equal-same a w q)) r))
+    go Above q = let k = sym e ∙ above-later a y w q r in absurd (let z : _≡_ {A = ℕ} 0 1 = cc in omega arith)
 
 -- Prefixes: one that is equal starts with it, one below does not
 pub equal-starts : (a w : Text) → compared a w ≡ Equal → starts w a ≡ true

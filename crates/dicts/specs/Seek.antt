@@ -11,7 +11,6 @@ use lib.ListN.{length, take, drop, drop-of-length-le}
 use Rattle.base.specs.Pick.{pick}
 use Rattle.base.specs.Lists.{starts, head, bind}
 use Rattle.base.specs.ListLaws.{same-true}
-use Rattle.base.specs.Alls.{All}
 use Rattle.definition.specs.Texts.{Text}
 use Rattle.definition.specs.Tables.{Rule}
 use Rattle.definition.specs.Blocks.{head-bytes}
@@ -21,7 +20,7 @@ use Rattle.definition.specs.Rules.{first-rule}
 use Rattle.definition.specs.Accepted.{rule-moves}
 use Rattle.definition.specs.Places.{Placed}
 use Rattle.dicts.specs.Order.{compared, equal-same, risen-not-below, equal-starts}
-use Rattle.dicts.specs.Sorted.{rules-from, Sorted, sorted-placed, sorted-next, sorted-later, rules-over, rules-next}
+use Rattle.dicts.specs.Sorted.{rules-from, Sorted, sorted-placed, sorted-next, sorted-risen, rules-over, rules-next}
 use Rattle.dicts.specs.Doors.{with-source, is-start, Sought, sought-start, sought-next, sought-source, sought-start-of, none-over, no-start-over, none-above, start-equal, start-above, one-equal}
 use Rattle.dicts.specs.Index.{offsets-from, row-offsets, offsets-over, offsets-next}
 use Rattle.dicts.specs.declared.Order.{Order}
@@ -86,7 +85,7 @@ module _ (b : List ℕ) (w : Text) (at : ℕ) where
     run-ends e = rw (offsets-next b at h, e)
 
 -- The three ways a row can stand
-below-is : (o : Order) → is-below o ≡ true → o ≡ Below
+pub below-is : (o : Order) → is-below o ≡ true → o ≡ Below
 unfolding is-below
 below-is Below e = refl
 below-is Equal e = absurd (true≢false (sym e))
@@ -198,19 +197,16 @@ module _ (b w : List ℕ) where
   -- past an equal row nothing is below
   next-not-below : (at : ℕ) → at < length b → Sorted b at → order-at b w at ≡ Equal
       → at + rule-size (drop at b) < length b → is-below (order-at b w (at + rule-size (drop at b))) ≡ false
-  unfolding order-at rule-of
+  unfolding order-at
   next-not-below at l s e k = go (is-below (order-at b w next)) refl
     where
       next : ℕ
       next = at + rule-size (drop at b)
 
-      risen : rises (rule-source (drop at b)) (rule-source (drop next b)) ≡ true
-      risen = subst (All (λ y. rises (rule-source (drop at b)) (y .source) ≡ true)) (rules-next b next k) (sorted-later l s) .0
-
       go : (c : Bool) → is-below (order-at b w next) ≡ c → c ≡ false
       go false i = refl
       go true i = absurd (risen-not-below (rule-source (drop next b)) w (below-is (order-at b w next) i)
-          (subst (λ a. rises a (rule-source (drop next b)) ≡ true) (same-true (rule-source (drop at b)) w (equal-same (rule-source (drop at b)) w e)) risen))
+          (subst (λ a. rises a (rule-source (drop next b)) ≡ true) (same-true (rule-source (drop at b)) w (equal-same (rule-source (drop at b)) w e)) (sorted-risen l s k)))
 
   counts : (at : ℕ) → Sorted b at → (at < length b → is-below (order-at b w at) ≡ false)
       → (at < length b → Sorted b (at + rule-size (drop at b))

@@ -63,7 +63,12 @@ module _ {b : List ℕ} {at : ℕ} (l : at < length b) (s : Sorted b at) where
   first : First (drop at b)
   first = chain-first (omega (arith, length-drop at b)) (s .rows)
 
-  -- the row's parts lie in it, and it in the table
+  -- the row is right after some source
+  pub sorted-right : (k : Text) × (rule-right k (drop at b) ≡ true)
+  unfolding first
+  sorted-right = (first .mark, first .right)
+
+  -- its parts lie in it, and it in the table
   pub sorted-placed : Placed (drop at b)
   unfolding first
   sorted-placed = rule-placed (first .mark) (drop at b) (first .right)
@@ -84,3 +89,10 @@ module _ {b : List ℕ} {at : ℕ} (l : at < length b) (s : Sorted b at) where
       (λ k s p. rule-checked k s p .risen)
       (λ k s y p q. rises-trans k (rule-source s) (y .source) (rule-checked k s p .risen) q)
       (λ s y q. q) (sorted-next .rows) .0
+
+  -- the next row's among them
+  pub sorted-risen : at + rule-size (drop at b) < length b
+      → rises (rule-source (drop at b)) (rule-source (drop (at + rule-size (drop at b)) b)) ≡ true
+  unfolding rule-of
+  sorted-risen k = subst (All (λ y. rises (rule-source (drop at b)) (y .source) ≡ true))
+      (rules-next b (at + rule-size (drop at b)) k) sorted-later .0

@@ -3,13 +3,14 @@ ghost use mathlib.Core.Path.{_≡_};
 ghost use mathlib.Core.Bool.{Bool};
 ghost use mathlib.Core.Option.{none};
 ghost use Prim.Native.Nat.{_+_, _<_, _≤_};
-ghost use lib.ListN.{length, drop};
+ghost use lib.ListN.{length, getD, drop};
 ghost use Rattle.definition.specs.RuleRows.{rule-source, rule-right, rule-fault, rules-of};
 ghost use Rattle.classes.specs.Told.{fault-place};
 ghost use Rattle.dicts.specs.Marks.{mark-of};
 ghost use Rattle.dicts.specs.Order.{compared};
-ghost use Rattle.dicts.specs.Index.{index-entries, row-offsets, entered, indexed, Ready};
-ghost use Rattle.dicts.specs.Seek.{is-below, is-equal, order-at, first-at, equal-rows};
+ghost use Rattle.dicts.specs.Index.{index-entries, offsets-from, row-offsets, entered, indexed, Ready};
+ghost use Rattle.dicts.specs.Seek.{is-below, is-equal, order-at, seek, first-at, equal-rows};
+ghost use Rattle.dicts.specs.Entries.{entry-below};
 ghost use Rattle.dicts.specs.Doors.{is-start};
 ghost use Rattle.dicts.specs.First.{target-named, readable};
 ghost use Rattle.definition.specs.Rules.{first-rule};
@@ -163,11 +164,46 @@ fn is_equal(rules: &[u8], row: usize, w: &[u32]) -> bool
     }
 }
 
+// Is there an entry, and is its row below a text? Past the table's last row the index is 0.
+fn is_entry_below(rules: &[u8], index: &[u32], k: usize, w: &[u32]) -> bool
+    requires { ⌜ k < length (now index) ⌝ }
+    ensures { λ r. ⌜ r ≡ entry-below (now (rules .entry)) (now (w .entry)) (getD (now (index .entry)) k 0) ⌝ }
+{
+    let at = index[k];
+    if at == 0 {
+        return false;
+    }
+    is_below(rules, at as usize, w)
+}
+
+// Where the walk to a text begins: at the last row of the index that is below it, or at the first of all.
+fn walk_start(rules: &[u8], index: &[u32], w: &[u32]) -> usize
+    requires { ⌜ Ready (now rules) (now index) ⌝ }
+    ensures { λ r. ⌜ seek (now (rules .entry)) (now (w .entry)) (offsets-from (now (rules .entry)) r)
+        ≡ first-at (now (rules .entry)) (now (w .entry)) ⌝ }
+{
+    let mut low: usize = 0;
+    let mut high = index.len();
+    while low < high {
+        let mid = low + (high - low) / 2;
+        if is_entry_below(rules, index, mid, w) {
+            low = mid + 1;
+        } else {
+            high = mid;
+        }
+    }
+    if low == 0 {
+        return 5;
+    }
+    index[low - 1] as usize
+}
+
 // The first row that is not below a text, or the end of the table.
-fn seek(rules: &[u8], w: &[u32]) -> usize
+fn seek(rules: &[u8], index: &[u32], w: &[u32]) -> usize
+    requires { ⌜ Ready (now rules) (now index) ⌝ }
     ensures { λ r. ⌜ r ≡ first-at (now (rules .entry)) (now (w .entry)) ⌝ }
 {
-    let mut at: usize = 5;
+    let mut at = walk_start(rules, index, w);
     while at < rules.len() {
         if is_below(rules, at, w) {
             at += rulerow::size(rules, at);
@@ -178,13 +214,13 @@ fn seek(rules: &[u8], w: &[u32]) -> usize
     rules.len()
 }
 
-// The rows with a source: the first, and how many. The index is where a search begins; the walk needs none yet.
+// The rows with a source: the first, and how many.
 pub fn find_rows(rules: &[u8], index: &[u32], w: &[u32]) -> Rows
     requires { ⌜ Ready (now rules) (now index) ⌝ }
     ensures { λ r. ⌜ (r .first ≡ first-at (now (rules .entry)) (now (w .entry)))
         × (r .count ≡ equal-rows (now (rules .entry)) (now (w .entry))) ⌝ }
 {
-    let first = seek(rules, w);
+    let first = seek(rules, index, w);
     let mut at = first;
     let mut count: usize = 0;
     while at < rules.len() {
@@ -224,7 +260,7 @@ pub fn is_prefix(rules: &[u8], index: &[u32], w: &[u32]) -> bool
     requires { ⌜ Ready (now rules) (now index) ⌝ }
     ensures { λ r. ⌜ r ≡ is-start (now (w .entry)) (rules-of (now (rules .entry))) ⌝ }
 {
-    let at = seek(rules, w);
+    let at = seek(rules, index, w);
     if at < rules.len() {
         return starts_with(rules, at, w);
     }
@@ -237,7 +273,7 @@ pub fn first_rule(rules: &[u8], index: &[u32], w: &[u32]) -> FirstRule
     ensures { λ r. ⌜ (target-named (now (rules .entry)) r ≡ first-rule (rules-of (now (rules .entry))) (now (w .entry)))
         × readable (now (rules .entry)) r ⌝ }
 {
-    let at = seek(rules, w);
+    let at = seek(rules, index, w);
     if rules.len() <= at {
         return FirstRule::Without;
     }

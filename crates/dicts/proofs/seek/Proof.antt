@@ -1,5 +1,5 @@
 -- `dicts::seek`: from each row on the search ends where the whole ends.
-use mathlib.Core.Path.{_≡_, refl, sym, ap, _∙_}
+use mathlib.Core.Path.{_≡_, sym, ap, _∙_}
 use Prim.Native.Nat.{ℕ, _+_, _-_}
 use native.Mathlib.Omega.{arith}
 use lib.ListN.{length, drop}
@@ -7,26 +7,28 @@ use denote.Ref.{now}
 use borrow.Author.Needs.{needs}
 use mathlib.Core.List.{List}
 use Rattle.definition.specs.Accepted.{rule-moves}
-use Rattle.dicts.specs.Index.{offsets-from, row-offsets}
+use Rattle.dicts.specs.Index.{offsets-from}
 use Rattle.dicts.specs.Seek.{seek, first-at, seek-over, seek-past, seek-here}
 use Rattle.dicts.proofs.seek.Statement.{statement}
 use Rattle.dicts.proofs.seek.Tie as tie
 
 abbrev Inv-loop : tie.InvT-loop
-Inv-loop rules w at₀ at = seek rules w (offsets-from rules at) ≡ first-at rules w
+Inv-loop rules index w at₀ at = seek rules w (offsets-from rules at) ≡ first-at rules w
 
 abbrev μ-loop : tie.MeasureT-loop
-μ-loop rules w at₀ at = length rules - at
+μ-loop rules index w at₀ at = length rules - at
 
 abbrev B : tie.At-loop Inv-loop μ-loop → List ℕ
-B l = now (l .before .before .before .args .rules)
+B l = now (l .before .before .before .before .before .args .rules)
 
 abbrev W : tie.At-loop Inv-loop μ-loop → List ℕ
-W l = now (l .before .before .before .args .w)
+W l = now (l .before .before .before .before .before .args .w)
+
+walk-start-requires : tie.Need-walk-start-requires Inv-loop μ-loop
+walk-start-requires c κs = search needs
 
 loop-holds : tie.Need-loop-holds Inv-loop μ-loop
-unfolding first-at row-offsets
-loop-holds c = refl
+loop-holds c = c .walk-start .ensures
 
 is-below-requires : tie.Need-is-below-requires Inv-loop μ-loop
 is-below-requires c κs = search needs
@@ -59,6 +61,7 @@ seek-spec =
     (tie.spec
     Inv-loop
     μ-loop
+    walk-start-requires
     loop-holds
     is-below-requires
     size-requires

@@ -1,0 +1,5 @@
+pub mod Did
+pub mod Given
+pub mod Spans
+pub mod Found
+pub mod Goes
