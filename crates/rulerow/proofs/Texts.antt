@@ -2,18 +2,13 @@
 use mathlib.Core.Bool.{Bool, true, false}
 use mathlib.Core.Path.{_≡_, refl, sym, ap, _∙_}
 use mathlib.Core.List.{List}
-use Prim.Native.Nat.{ℕ, _+_, _-_, _*_, _≤_}
+use Prim.Native.Nat.{ℕ, _+_, _-_, _≤_}
 use native.Mathlib.Omega.{arith}
 use lib.ListN.{length, getD, take, drop, length-drop}
 use lib.Seq.{drop-drop}
-use Rattle.definition.specs.RuleRows.{rule-flag, source-count, codes-at, codes-count, target-at, past-text, end-target-at, others-at, target-bit, end-target-bit, text-size, text-of}
+use Rattle.definition.specs.RuleRows.{rule-flag, target-at, past-text, end-target-at, others-at, target-bit, end-target-bit, text-size, text-of}
 use Rattle.definition.specs.Places.{Placed}
 use Rattle.rulerow.proofs.Fields.{byte-there}
-
-pub target-is : (s : List ℕ) (n k : ℕ) → n ≡ source-count s → k ≡ getD s (6 + 3 * n) 0
-    → 6 + 3 * n + 1 + 3 * k ≡ target-at s
-unfolding target-at codes-count codes-at
-target-is s n k e f = rw (f, e)
 
 module _ (s : List ℕ) (o n : ℕ) (e : n ≡ getD s o 0) where
   pub size-is : 1 + n ≡ text-size (drop o s)

@@ -7,7 +7,7 @@ ghost use lib.ListN.{length, getD, drop};
 ghost use mathlib.Core.List.{[]};
 ghost use Rattle.definition.specs.RuleRows.{printable, rises, rule-size, rule-flag, rule-count, rule-source, source-count};
 ghost use Rattle.definition.specs.RuleRows.{target-bit, end-target-bit, target-at, end-target-at, others-at};
-ghost use Rattle.definition.specs.RuleRows.{past-text, text-size, text-of};
+ghost use Rattle.definition.specs.RuleRows.{codes-at, codes-count, past-text, text-size, text-of};
 ghost use Rattle.definition.specs.Places.{Placed};
 ghost use Rattle.rulerow.specs.Reading.{field, fields, character-right, code-letters, byte-right};
 ghost use Rattle.rulerow.specs.Reading.{read-text, read-texts, read-text-if, read-flags, read-source, read-codes};
@@ -24,10 +24,21 @@ const MOST_ALTERNATIVES: u32 = 8;
 
 const MOST_TARGET: u32 = 64;
 
-// Bits of its flags.
+// Bits of its flags: only and not at the start of a word, only and not at its end, only for a whole word; a target, and
+// one for the end of a syllable, are there; and the one that stays 0.
+pub const START_ONLY_BIT: u32 = 0;
+
+pub const NOT_START_BIT: u32 = 1;
+
+pub const END_ONLY_BIT: u32 = 2;
+
+pub const NOT_END_BIT: u32 = 3;
+
+pub const WHOLE_WORD_BIT: u32 = 4;
+
 pub const TARGET_BIT: u32 = 5;
 
-const END_TARGET_BIT: u32 = 6;
+pub const END_TARGET_BIT: u32 = 6;
 
 const ZERO_BIT: u32 = 7;
 
@@ -416,12 +427,24 @@ pub fn sources_rise(rules: &[u8], a: usize, b: usize) -> bool
     true
 }
 
+// Where its codes begin, and how many there are.
+pub fn codes_at(rules: &[u8], row: usize) -> usize
+    ensures { λ r. ⌜ (r ≡ codes-at (drop row (now (rules .entry)))) × (r < 772) ⌝ }
+{
+    6 + 3 * source_len(rules, row)
+}
+
+pub fn codes_count(rules: &[u8], row: usize) -> usize
+    ensures { λ r. ⌜ (r ≡ codes-count (drop row (now (rules .entry)))) × (r < 256) ⌝ }
+{
+    base::at(rules, row, codes_at(rules, row)) as usize
+}
+
 // Where its targets and its alternatives begin, each behind what stands before it.
 fn target_at(rules: &[u8], row: usize) -> usize
     ensures { λ r. ⌜ (r ≡ target-at (drop row (now (rules .entry)))) × (r < 2000) ⌝ }
 {
-    let codes_at = 6 + 3 * source_len(rules, row);
-    codes_at + 1 + 3 * base::at(rules, row, codes_at) as usize
+    codes_at(rules, row) + 1 + 3 * codes_count(rules, row)
 }
 
 // Past the text at `o`, where the row has one.

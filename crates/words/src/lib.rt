@@ -19,9 +19,6 @@ ghost use Rattle.words.specs.Given.{text-of, view-of, Lined, alpha-kind,
 ghost use Rattle.words.specs.Found.{Row};
 ghost use Rattle.words.specs.Goes.{brings, letter-byte};
 
-// The flag of a rule that is only for the start of a word.
-const START_ONLY_BIT: u32 = 0;
-
 // The class at a place of the line.
 pub fn kind_at(kinds: &[u32], i: usize) -> u32
     ensures { λ r. ⌜ r ≡ getD (now (kinds .entry)) i 0 ⌝ }
@@ -121,7 +118,7 @@ fn brings_letter(rules: &[u8], alphas: &[u8], row: usize) -> bool
     ensures { λ r. ⌜ ((classes : List ℕ) → now (alphas .entry) ≡ alphas-of classes
         → r ≡ brings (classes-of classes) (rule-of (drop row (now (rules .entry))))) ⌝ }
 {
-    if rulerow::flag(rules, row, START_ONLY_BIT) {
+    if rulerow::flag(rules, row, rulerow::START_ONLY_BIT) {
         return false;
     }
     if rulerow::flag(rules, row, rulerow::TARGET_BIT) {
