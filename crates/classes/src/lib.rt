@@ -16,6 +16,21 @@ ghost use Rattle.definition.specs.Vowels.{vowel-row};
 ghost use Rattle.classes.specs.Told.{fault-place, Fine, FineVowels, seen, Ranged};
 ghost use Rattle.classes.specs.Told.{packed, kinds-of, alphas-of, Alphas, told, Lettered};
 
+// Bits of a class's flags: vowel sign, medial, subjoined, virama, vocalic, tone mark, written before its consonant.
+pub const SIGN: u32 = 0;
+
+pub const MEDIAL: u32 = 1;
+
+pub const SUBJOINED: u32 = 2;
+
+pub const VIRAMA: u32 = 3;
+
+pub const VOCALIC: u32 = 4;
+
+pub const TONE: u32 = 5;
+
+pub const PRE: u32 = 6;
+
 // A table is valid, or has its first fault at this row's offset (0 for the header).
 pub enum TableRead {
     Valid,

@@ -1,11 +1,11 @@
 -- What is asked of all edges: a test of each that passes another, from slot to slot.
-use Prim.Native.Nat.{ℕ, _+_, _-_, _<_}
+use Prim.Native.Nat.{ℕ, zero, suc, _+_, _-_, _*_, _<_, _≤_}
 use mathlib.Core.Bool.{Bool, true, false, _&&_, _||_}
 use mathlib.Core.List.{List, [], _∷_}
 use mathlib.Core.Option.{Option, none, some}
 use mathlib.Core.Path.{_≡_, refl, sym, ap, _∙_}
 use native.Mathlib.Omega.{arith}
-use lib.ListN.{length, drop}
+use lib.ListN.{length, drop, length-drop}
 use Rattle.base.specs.Pick.{pick}
 use Rattle.base.specs.Lists.{put, keep, any, best-of, best}
 use Rattle.base.specs.Rows.{counted, counted-none, counted-some, AllOf}
@@ -26,6 +26,14 @@ pub stored-readable : (slots room : List ℕ) (count used : ℕ) → Stored slot
 stored-readable slots room count used st =
     all-agree slot-bytes (Slot room used) (Slot room (length room))
     (λ s s′ e. slot-agree room room used refl s s′ e (length room) (st .within)) count slots slots refl (st .rows)
+
+-- there are so many of them
+pub readable-slots : (slots room : List ℕ) (count : ℕ) → Readable slots room count → count * slot-bytes ≤ length slots
+unfolding AllOf
+readable-slots slots room zero h = omega arith
+readable-slots slots room (suc n) h =
+    let r = h .0 .row in
+    let k = readable-slots (drop slot-bytes slots) room n (h .1) in omega (arith, length-drop slot-bytes slots)
 
 -- Does an edge end at `p`, and its text in a letter or mark?
 unfoldable pub letter-edge : List Class → ℕ → Edge → Bool
