@@ -19,22 +19,29 @@ ghost use Rattle.words.specs.Given.{text-of, view-of, Lined, alpha-kind,
 ghost use Rattle.words.specs.Found.{Row};
 ghost use Rattle.words.specs.Goes.{brings, letter-byte};
 
-// The class at a place of the line.
-pub fn kind_at(kinds: &[u32], i: usize) -> u32
-    ensures { λ r. ⌜ r ≡ getD (now (kinds .entry)) i 0 ⌝ }
+// The number at a place of the line, or of its classes; past the end there is 0.
+pub fn number_at(numbers: &[u32], i: usize) -> u32
+    ensures { λ r. ⌜ r ≡ getD (now (numbers .entry)) i 0 ⌝ }
 {
-    if i < kinds.len() {
-        return kinds[i];
+    if i < numbers.len() {
+        return numbers[i];
     }
     0
 }
 
-// Is it that of a letter or mark?
+// Is a class that of a letter or mark?
+pub fn is_alpha_kind(kind: u32) -> bool
+    ensures { λ r. ⌜ r ≡ alpha-kind kind ⌝ }
+{
+    let category = classes::category(kind);
+    1 <= category && category <= 3
+}
+
+// Is the one at a place?
 pub fn is_alpha_at(kinds: &[u32], i: usize) -> bool
     ensures { λ r. ⌜ r ≡ alpha-kind (getD (now (kinds .entry)) i 0) ⌝ }
 {
-    let category = classes::category(kind_at(kinds, i));
-    1 <= category && category <= 3
+    is_alpha_kind(number_at(kinds, i))
 }
 
 // No letter or mark before, and no edge ending here whose text ends in one.

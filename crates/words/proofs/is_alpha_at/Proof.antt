@@ -1,25 +1,18 @@
--- `words::is_alpha_at`: by the category of the packed class.
+-- `words::is_alpha_at`
 use mathlib.Core.Path.{ap, _∙_}
-use Prim.Native.Nat.{_%_}
-use native.Mathlib.Omega.{arith}
-use lib.ListN.{getD}
-use denote.Ref.{now}
-use Rattle.words.proofs.Starts.{alpha-no, alpha-if}
+use Rattle.words.specs.Given.{alpha-kind}
 use borrow.Author.Needs.{needs}
 use Rattle.words.proofs.is_alpha_at.Statement.{statement}
 use Rattle.words.proofs.is_alpha_at.Tie as tie
 
-kind-at-requires : tie.Need-kind-at-requires
-kind-at-requires c κs = search needs
+number-at-requires : tie.Need-number-at-requires
+number-at-requires c κs = search needs
 
-category-requires : tie.Need-category-requires
-category-requires c κs = search needs
+is-alpha-kind-requires : tie.Need-is-alpha-kind-requires
+is-alpha-kind-requires c κs = search needs
 
 returns : tie.Need-returns
-returns c = let a = c .before .before .before .before .args in alpha-if (getD (now (a .kinds)) (a .i) 0) _ (c .before .category .ensures ∙ ap (λ n. n % 8) (c .before .before .kind-at .ensures)) (omega arith)
-
-returns-2 : tie.Need-returns-2
-returns-2 c = let a = c .before .before .before .before .args in alpha-no (getD (now (a .kinds)) (a .i) 0) _ (c .before .category .ensures ∙ ap (λ n. n % 8) (c .before .before .kind-at .ensures)) (omega arith)
+returns c = c .is-alpha-kind .ensures ∙ ap alpha-kind (c .before .number-at .ensures)
 
 pub is-alpha-at-spec : {M : Type 1} → statement M
-is-alpha-at-spec = tie.close (tie.spec kind-at-requires category-requires returns returns-2)
+is-alpha-at-spec = tie.close (tie.spec number-at-requires is-alpha-kind-requires returns)
