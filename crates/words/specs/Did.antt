@@ -12,3 +12,7 @@ did {A} {o} {r} {m} e = record { value = sym (ap (λ (x : A × Mem). x .0) e); m
 
 pub outcome : {A : Type 0} {o : A × Mem} {r : A} {m : Mem} → Did o r m → o ≡ (r, m)
 outcome {A} {o} {r} {m} d = sym (ap (λ (x : A). (x, m)) (d .value) ∙ ap (λ (y : Mem). (o .0, y)) (d .memory))
+
+-- with an answer that is equal
+pub did-by : {A : Type 0} {o : A × Mem} {r u : A} {m : Mem} → r ≡ u → Did o u m → Did o r m
+did-by e d = record { value = e ∙ d .value; memory = d .memory }
