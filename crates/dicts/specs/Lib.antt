@@ -6,4 +6,3 @@ pub mod Index
 pub mod Seek
 pub mod Entries
 pub mod Starts
-pub mod First

@@ -9,18 +9,15 @@ use native.Mathlib.Decide.{decLt}
 use native.Mathlib.Numerals.{add-one}
 use lib.ListN.{length, take, drop, drop-of-length-le}
 use Rattle.base.specs.Pick.{pick}
-use Rattle.base.specs.Lists.{starts, head, bind}
+use Rattle.base.specs.Lists.{starts}
 use Rattle.base.specs.ListLaws.{same-true}
 use Rattle.definition.specs.Texts.{Text}
-use Rattle.definition.specs.Tables.{Rule}
 use Rattle.definition.specs.Blocks.{head-bytes}
 use Rattle.definition.specs.BlockTurns.{Chain}
-use Rattle.definition.specs.RuleRows.{rises, rule-size, rule-source, rule-right, rule-of, rule-flag, target-bit, target-at, text-where, rule-fault, rules-of}
-use Rattle.definition.specs.Rules.{first-rule}
+use Rattle.definition.specs.RuleRows.{rises, rule-size, rule-source, rule-right, rule-of, rule-fault, rules-of}
 use Rattle.definition.specs.Accepted.{rule-moves}
-use Rattle.definition.specs.Places.{Placed}
 use Rattle.dicts.specs.Order.{compared, equal-same, risen-not-below, equal-starts}
-use Rattle.dicts.specs.Sorted.{rules-from, Sorted, sorted-placed, sorted-next, sorted-risen, rules-over, rules-next}
+use Rattle.dicts.specs.Sorted.{rules-from, Sorted, sorted-next, sorted-risen, rules-over, rules-next}
 use Rattle.dicts.specs.Doors.{with-source, is-start, Sought, sought-start, sought-next, sought-source, sought-start-of, none-over, no-start-over, none-above, start-equal, start-above, one-equal}
 use Rattle.dicts.specs.Index.{offsets-from, row-offsets, offsets-over, offsets-next}
 use Rattle.dicts.specs.declared.Order.{Order}
@@ -163,31 +160,6 @@ module _ (b w : List ℕ) (e : rule-fault b ≡ none) (at : ℕ) (h : at ≡ fir
       go true i = let o = equal-is (order-at b w at) i in
           start-equal b w at l (q .sought .sorted) o ∙ sym (equal-starts (rule-source (drop at b)) w o)
       go false i = start-above b w at l (q .sought .sorted) (above-is (order-at b w at) (q .not-below l) i)
-
-  -- the target of the first row with that source
-  first : first-rule (rules-of b) w ≡ bind (head (with-source w (rules-from b at))) (λ r. r .target)
-  unfolding first-rule with-source
-  first = ap (λ l. bind (head l) (λ r. r .target)) (unfold with-source in sought-source b w at (q .sought))
-
-  pub first-over : length b ≤ at → none ≡ first-rule (rules-of b) w
-  unfolding head
-  first-over l = sym (first ∙ ap (λ l. bind (head l) (λ (r : Rule). r .target)) (none-over b w at l))
-
-  module _ (l : at < length b) where
-    pub first-unlike : is-equal (order-at b w at) ≡ false → none ≡ first-rule (rules-of b) w
-    unfolding head order-at
-    first-unlike i = sym (first ∙ ap (λ l. bind (head l) (λ (r : Rule). r .target))
-        (none-above b w at l (q .sought .sorted) (above-is (order-at b w at) (q .not-below l) i)))
-
-    pub first-there : is-equal (order-at b w at) ≡ true → (c : Bool) → rule-flag (drop at b) target-bit ≡ c
-        → text-where c (drop (target-at (drop at b)) (drop at b)) ≡ first-rule (rules-of b) w
-    unfolding head order-at rule-of
-    first-there i c f = ap (λ d. text-where d (drop (target-at (drop at b)) (drop at b))) (sym f)
-        ∙ sym (first ∙ ap (λ l. bind (head l) (λ (r : Rule). r .target))
-        (one-equal b w at l (q .sought .sorted) (equal-is (order-at b w at) i)))
-
-    pub first-placed : Placed (drop at b)
-    first-placed = sorted-placed l (q .sought .sorted)
 
 -- the rows found are those with that source
 module _ (b w : List ℕ) where

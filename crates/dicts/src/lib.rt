@@ -1,7 +1,5 @@
 // The rule table as a whole (dicts/mod.rs): its check, its sparse index, and the doors to its rows.
 ghost use mathlib.Core.Path.{_≡_};
-ghost use mathlib.Core.Bool.{Bool};
-ghost use mathlib.Core.Option.{none};
 ghost use Prim.Native.Nat.{_+_, _<_, _≤_};
 ghost use lib.ListN.{length, getD, drop};
 ghost use Rattle.definition.specs.RuleRows.{rule-source, rule-right, rule-fault, rules-of};
@@ -12,8 +10,6 @@ ghost use Rattle.dicts.specs.Index.{index-entries, offsets-from, row-off
 ghost use Rattle.dicts.specs.Seek.{is-below, is-equal, order-at, seek, first-at, equal-rows};
 ghost use Rattle.dicts.specs.Entries.{entry-below};
 ghost use Rattle.dicts.specs.Doors.{is-start};
-ghost use Rattle.dicts.specs.First.{target-named, readable};
-ghost use Rattle.definition.specs.Rules.{first-rule};
 ghost use Rattle.base.specs.Lists.{starts};
 use classes::TableRead;
 use rulerow::RowRead;
@@ -29,12 +25,6 @@ pub enum Order {
 pub struct Rows {
     pub first: usize,
     pub count: usize,
-}
-
-// The row whose target a text has by its first rule, if there is one.
-pub enum FirstRule {
-    Target(usize),
-    Without,
 }
 
 // Whether a row is right after the one at `old`, or as the first.
@@ -265,23 +255,4 @@ pub fn is_prefix(rules: &[u8], index: &[u32], w: &[u32]) -> bool
         return starts_with(rules, at, w);
     }
     false
-}
-
-// `romanization_by_first_rule`: the target of the first row with a source, whatever its codes and flags.
-pub fn first_rule(rules: &[u8], index: &[u32], w: &[u32]) -> FirstRule
-    requires { ⌜ Ready (now rules) (now index) ⌝ }
-    ensures { λ r. ⌜ (target-named (now (rules .entry)) r ≡ first-rule (rules-of (now (rules .entry))) (now (w .entry)))
-        × readable (now (rules .entry)) r ⌝ }
-{
-    let at = seek(rules, index, w);
-    if rules.len() <= at {
-        return FirstRule::Without;
-    }
-    if is_equal(rules, at, w) {
-        if rulerow::flag(rules, at, rulerow::TARGET_BIT) {
-            return FirstRule::Target(at);
-        }
-        return FirstRule::Without;
-    }
-    FirstRule::Without
 }
