@@ -5,3 +5,4 @@ pub mod Adding
 pub mod Fitting
 pub mod Asked
 pub mod Best
+pub mod Behind

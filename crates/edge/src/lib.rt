@@ -11,7 +11,7 @@ ghost use Rattle.definition.specs.Texts.{last-is};
 ghost use Rattle.definition.specs.Utf8.{decoded};
 ghost use Rattle.definition.specs.ClassRows.{classes-of};
 ghost use Rattle.definition.specs.Classes.{alpha};
-ghost use Rattle.definition.specs.Edges.{alike, left-best, right-best, covered, view};
+ghost use Rattle.definition.specs.Edges.{alike, left-best, right-best, covered, walk, view};
 ghost use Rattle.utf8.specs.Encodings.{TextBytes};
 ghost use Rattle.classes.specs.Told.{Alphas};
 ghost use Rattle.room.specs.Puts.{put-at};
@@ -20,6 +20,7 @@ ghost use Rattle.edge.specs.Stored.{Slot, Stored};
 ghost use Rattle.edge.specs.Adding.{there, answer, added, slots-after, room-after, Writable};
 ghost use Rattle.edge.specs.Asked.{Readable, letter-edge};
 ghost use Rattle.edge.specs.Best.{edge-at, Found, touches, longer, neighbor, improved};
+ghost use Rattle.edge.specs.Behind.{text-at, spoken, back-from};
 use utf8::LastChar;
 
 // An edge without its text: start, end, annotation and core length.
@@ -318,4 +319,49 @@ pub fn has_letter_edge(
         slot += 12;
     }
     false
+}
+
+// Has an edge that was answered a text that is not empty?
+fn is_spoken(slots: &[u8], best: BestEdge) -> bool
+    ensures { λ r. ⌜ r ≡ spoken (now (slots .entry)) best ⌝ }
+{
+    match best {
+        BestEdge::At(slot) => 0 < text_len(slots, slot),
+        BestEdge::Nothing => false,
+    }
+}
+
+// Where the walk back goes on from `p`: at its start, or one back where there is none.
+fn back_from(slots: &[u8], best: BestEdge, p: usize) -> usize
+    ensures { λ r. ⌜ r ≡ back-from (now (slots .entry)) best p ⌝ }
+{
+    match best {
+        BestEdge::At(slot) => base::two(slots, slot, 0) as usize,
+        BestEdge::Nothing => {
+            if p == 0 {
+                return 0;
+            }
+            p - 1
+        }
+    }
+}
+
+// `find_rom_edge_path_backwards_str`: the edge whose text stands behind `p`, over positions where none ends and over
+// empty texts. It takes `p` steps at most.
+pub fn find_rom_edge_path_backwards(slots: &[u8], count: usize, p: usize) -> BestEdge
+    requires { ⌜ count * slot-bytes ≤ length (now slots) ⌝ }
+    ensures { λ r. ⌜ ((room : List ℕ) → Readable (now (slots .entry)) room count
+        → text-at room (now (slots .entry)) r ≡ walk (edges-of room count (now (slots .entry))) p p) × Found count r ⌝ }
+{
+    let mut left = p;
+    let mut at = p;
+    while 0 < left {
+        let best = best_left_neighbor_edge(slots, count, at);
+        if is_spoken(slots, best) {
+            return best;
+        }
+        at = back_from(slots, best, at);
+        left -= 1;
+    }
+    BestEdge::Nothing
 }
