@@ -3,3 +3,4 @@ pub mod Given
 pub mod Spans
 pub mod Found
 pub mod Goes
+pub mod Characters

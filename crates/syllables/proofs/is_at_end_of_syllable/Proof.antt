@@ -6,7 +6,8 @@ use denote.Ref.{now}
 use Rattle.words.specs.Given.{text-of, view-of}
 use Rattle.rules.specs.Lent.{lexicon-of}
 use Rattle.syllables.specs.Tests.{word-begins, pre-left, pre-right, word-ends, consonant-left, by-vowel}
-use Rattle.syllables.proofs.Characters.{alpha-prev, pre-prev, alpha-next, pre-next, tone-told, tone-near}
+use Rattle.words.specs.Characters.{alpha-prev, flag-prev, alpha-here, flag-here}
+use Rattle.syllables.proofs.Tones.{tone-told, tone-near}
 use borrow.Author.Needs.{needs}
 use Rattle.syllables.proofs.is_at_end_of_syllable.Statement.{statement}
 use Rattle.syllables.proofs.is_at_end_of_syllable.Tie as tie
@@ -32,8 +33,8 @@ returns c =
     let m = now (a .starts) in
     let p = c .before .before .before .before .before .before .before .before .before .before .before .before .before .before .before .pre in
     let g = p .0 .read .text in
-    let x = alpha-prev g (a .p - 1) (omega (arith, p .2)) _ (c .before .before .before .before .number-at .ensures) (c .before .before .before .is-alpha-kind .ensures) (c .before .before .if1 .taken) in
-    let y = pre-prev g (a .p - 1) (omega (arith, p .2)) _ (c .before .before .before .before .number-at .ensures) (c .before .class-flag .ensures) (c .if2 .taken) in
+    let x = sym (alpha-prev g (a .p - 1) (omega (arith, p .2)) (c .before .before .before .before .number-at .ensures) (c .before .before .before .is-alpha-kind .ensures)) ∙ c .before .before .if1 .taken in
+    let y = sym (flag-prev g (a .p - 1) (omega (arith, p .2)) (c .before .before .before .before .number-at .ensures) 6 (λ k. k .pre) (λ m k z. z .pre) (c .before .class-flag .ensures)) ∙ c .if2 .taken in
     pre-left L t v (a .p) _ m refl x y
 
 past-tone-requires : tie.Need-past-tone-requires
@@ -57,12 +58,12 @@ returns-2 c =
     let m = now (a .starts) in
     let p = c .before .before .before .before .before .before .before .before .before .before .before .before .before .before .before .before .before .before .before .pre in
     let g = p .0 .read .text in
-    let x = alpha-prev g (a .p - 1) (omega (arith, p .2)) _ (c .before .before .before .before .before .before .before .before .number-at .ensures) (c .before .before .before .before .before .before .before .is-alpha-kind .ensures) (c .before .before .before .before .before .before .if1 .taken) in
-    let y = pre-prev g (a .p - 1) (omega (arith, p .2)) _ (c .before .before .before .before .before .before .before .before .number-at .ensures) (c .before .before .before .before .before .class-flag .ensures) (c .before .before .before .before .if2 .left) in
+    let x = sym (alpha-prev g (a .p - 1) (omega (arith, p .2)) (c .before .before .before .before .before .before .before .before .number-at .ensures) (c .before .before .before .before .before .before .before .is-alpha-kind .ensures)) ∙ c .before .before .before .before .before .before .if1 .taken in
+    let y = sym (flag-prev g (a .p - 1) (omega (arith, p .2)) (c .before .before .before .before .before .before .before .before .number-at .ensures) 6 (λ k. k .pre) (λ m k z. z .pre) (c .before .before .before .before .before .class-flag .ensures)) ∙ c .before .before .before .before .if2 .left in
     let q = c .before .before .before .past-tone .result in
     let near = tone-near g (a .p) q (c .before .before .before .past-tone .ensures) in
     let tone = tone-told g (a .p) q (c .before .before .before .past-tone .ensures) (omega (arith, p .2)) in
-    let z = pre-next g q (omega (arith, p .2, near)) _ (c .before .before .number-at2 .ensures) (c .before .class-flag2 .ensures) (c .if3 .taken) in
+    let z = sym (flag-here g q (omega (arith, p .2, near)) (c .before .before .number-at2 .ensures) 6 (λ k. k .pre) (λ m k z. z .pre) (c .before .class-flag2 .ensures)) ∙ c .if3 .taken in
     pre-right L t v (a .p) q m tone x y z
 
 is-alpha-kind-requires-2 : tie.Need-is-alpha-kind-requires-2
@@ -83,13 +84,13 @@ returns-3 c =
     let m = now (a .starts) in
     let p = c .before .before .before .before .before .before .before .before .before .before .before .before .before .before .before .before .before .before .before .before .before .before .before .pre in
     let g = p .0 .read .text in
-    let x = alpha-prev g (a .p - 1) (omega (arith, p .2)) _ (c .before .before .before .before .before .before .before .before .before .before .before .before .number-at .ensures) (c .before .before .before .before .before .before .before .before .before .before .before .is-alpha-kind .ensures) (c .before .before .before .before .before .before .before .before .before .before .if1 .taken) in
-    let y = pre-prev g (a .p - 1) (omega (arith, p .2)) _ (c .before .before .before .before .before .before .before .before .before .before .before .before .number-at .ensures) (c .before .before .before .before .before .before .before .before .before .class-flag .ensures) (c .before .before .before .before .before .before .before .before .if2 .left) in
+    let x = sym (alpha-prev g (a .p - 1) (omega (arith, p .2)) (c .before .before .before .before .before .before .before .before .before .before .before .before .number-at .ensures) (c .before .before .before .before .before .before .before .before .before .before .before .is-alpha-kind .ensures)) ∙ c .before .before .before .before .before .before .before .before .before .before .if1 .taken in
+    let y = sym (flag-prev g (a .p - 1) (omega (arith, p .2)) (c .before .before .before .before .before .before .before .before .before .before .before .before .number-at .ensures) 6 (λ k. k .pre) (λ m k z. z .pre) (c .before .before .before .before .before .before .before .before .before .class-flag .ensures)) ∙ c .before .before .before .before .before .before .before .before .if2 .left in
     let q = c .before .before .before .before .before .before .before .past-tone .result in
     let near = tone-near g (a .p) q (c .before .before .before .before .before .before .before .past-tone .ensures) in
     let tone = tone-told g (a .p) q (c .before .before .before .before .before .before .before .past-tone .ensures) (omega (arith, p .2)) in
-    let z = pre-next g q (omega (arith, p .2, near)) _ (c .before .before .before .before .before .before .number-at2 .ensures) (c .before .before .before .before .before .class-flag2 .ensures) (c .before .before .before .before .if3 .left) in
-    let w = alpha-next g q (omega (arith, p .2, near)) _ (c .before .before .before .before .before .before .number-at2 .ensures) (c .before .before .before .is-alpha-kind2 .ensures) (c .before .before .if4 .taken) in
+    let z = sym (flag-here g q (omega (arith, p .2, near)) (c .before .before .before .before .before .before .number-at2 .ensures) 6 (λ k. k .pre) (λ m k z. z .pre) (c .before .before .before .before .before .class-flag2 .ensures)) ∙ c .before .before .before .before .if3 .left in
+    let w = sym (alpha-here g q (omega (arith, p .2, near)) (c .before .before .before .before .before .before .number-at2 .ensures) (c .before .before .before .is-alpha-kind2 .ensures)) ∙ c .before .before .if4 .taken in
     let k = sym (c .before .is-closed .ensures (L .classes)) ∙ c .if5 .taken in
     consonant-left L t v (a .p) q m tone x y z w k
 
@@ -108,13 +109,13 @@ returns-4 c =
     let m = now (a .starts) in
     let p = c .before .before .before .before .before .before .before .before .before .before .before .before .before .before .before .before .before .before .before .before .before .before .before .before .before .before .before .pre in
     let g = p .0 .read .text in
-    let x = alpha-prev g (a .p - 1) (omega (arith, p .2)) _ (c .before .before .before .before .before .before .before .before .before .before .before .before .before .before .before .before .number-at .ensures) (c .before .before .before .before .before .before .before .before .before .before .before .before .before .before .before .is-alpha-kind .ensures) (c .before .before .before .before .before .before .before .before .before .before .before .before .before .before .if1 .taken) in
-    let y = pre-prev g (a .p - 1) (omega (arith, p .2)) _ (c .before .before .before .before .before .before .before .before .before .before .before .before .before .before .before .before .number-at .ensures) (c .before .before .before .before .before .before .before .before .before .before .before .before .before .class-flag .ensures) (c .before .before .before .before .before .before .before .before .before .before .before .before .if2 .left) in
+    let x = sym (alpha-prev g (a .p - 1) (omega (arith, p .2)) (c .before .before .before .before .before .before .before .before .before .before .before .before .before .before .before .before .number-at .ensures) (c .before .before .before .before .before .before .before .before .before .before .before .before .before .before .before .is-alpha-kind .ensures)) ∙ c .before .before .before .before .before .before .before .before .before .before .before .before .before .before .if1 .taken in
+    let y = sym (flag-prev g (a .p - 1) (omega (arith, p .2)) (c .before .before .before .before .before .before .before .before .before .before .before .before .before .before .before .before .number-at .ensures) 6 (λ k. k .pre) (λ m k z. z .pre) (c .before .before .before .before .before .before .before .before .before .before .before .before .before .class-flag .ensures)) ∙ c .before .before .before .before .before .before .before .before .before .before .before .before .if2 .left in
     let q = c .before .before .before .before .before .before .before .before .before .before .before .past-tone .result in
     let near = tone-near g (a .p) q (c .before .before .before .before .before .before .before .before .before .before .before .past-tone .ensures) in
     let tone = tone-told g (a .p) q (c .before .before .before .before .before .before .before .before .before .before .before .past-tone .ensures) (omega (arith, p .2)) in
-    let z = pre-next g q (omega (arith, p .2, near)) _ (c .before .before .before .before .before .before .before .before .before .before .number-at2 .ensures) (c .before .before .before .before .before .before .before .before .before .class-flag2 .ensures) (c .before .before .before .before .before .before .before .before .if3 .left) in
-    let w = alpha-next g q (omega (arith, p .2, near)) _ (c .before .before .before .before .before .before .before .before .before .before .number-at2 .ensures) (c .before .before .before .before .before .before .before .is-alpha-kind2 .ensures) (c .before .before .before .before .before .before .if4 .taken) in
+    let z = sym (flag-here g q (omega (arith, p .2, near)) (c .before .before .before .before .before .before .before .before .before .before .number-at2 .ensures) 6 (λ k. k .pre) (λ m k z. z .pre) (c .before .before .before .before .before .before .before .before .before .class-flag2 .ensures)) ∙ c .before .before .before .before .before .before .before .before .if3 .left in
+    let w = sym (alpha-here g q (omega (arith, p .2, near)) (c .before .before .before .before .before .before .before .before .before .before .number-at2 .ensures) (c .before .before .before .before .before .before .before .is-alpha-kind2 .ensures)) ∙ c .before .before .before .before .before .before .if4 .taken in
     let k = sym (c .before .before .before .before .before .is-closed .ensures (L .classes)) ∙ c .before .before .before .before .if5 .left in
     by-vowel L t v (a .p) q m tone x y z w k (c .before .before .vowel-test .ensures)
 
@@ -127,13 +128,13 @@ returns-5 c =
     let m = now (a .starts) in
     let p = c .before .before .before .before .before .before .before .before .before .before .before .before .before .before .before .before .before .before .before .before .before .pre in
     let g = p .0 .read .text in
-    let x = alpha-prev g (a .p - 1) (omega (arith, p .2)) _ (c .before .before .before .before .before .before .before .before .before .before .number-at .ensures) (c .before .before .before .before .before .before .before .before .before .is-alpha-kind .ensures) (c .before .before .before .before .before .before .before .before .if1 .taken) in
-    let y = pre-prev g (a .p - 1) (omega (arith, p .2)) _ (c .before .before .before .before .before .before .before .before .before .before .number-at .ensures) (c .before .before .before .before .before .before .before .class-flag .ensures) (c .before .before .before .before .before .before .if2 .left) in
+    let x = sym (alpha-prev g (a .p - 1) (omega (arith, p .2)) (c .before .before .before .before .before .before .before .before .before .before .number-at .ensures) (c .before .before .before .before .before .before .before .before .before .is-alpha-kind .ensures)) ∙ c .before .before .before .before .before .before .before .before .if1 .taken in
+    let y = sym (flag-prev g (a .p - 1) (omega (arith, p .2)) (c .before .before .before .before .before .before .before .before .before .before .number-at .ensures) 6 (λ k. k .pre) (λ m k z. z .pre) (c .before .before .before .before .before .before .before .class-flag .ensures)) ∙ c .before .before .before .before .before .before .if2 .left in
     let q = c .before .before .before .before .before .past-tone .result in
     let near = tone-near g (a .p) q (c .before .before .before .before .before .past-tone .ensures) in
     let tone = tone-told g (a .p) q (c .before .before .before .before .before .past-tone .ensures) (omega (arith, p .2)) in
-    let z = pre-next g q (omega (arith, p .2, near)) _ (c .before .before .before .before .number-at2 .ensures) (c .before .before .before .class-flag2 .ensures) (c .before .before .if3 .left) in
-    let w = alpha-next g q (omega (arith, p .2, near)) _ (c .before .before .before .before .number-at2 .ensures) (c .before .is-alpha-kind2 .ensures) (c .if4 .left) in
+    let z = sym (flag-here g q (omega (arith, p .2, near)) (c .before .before .before .before .number-at2 .ensures) 6 (λ k. k .pre) (λ m k z. z .pre) (c .before .before .before .class-flag2 .ensures)) ∙ c .before .before .if3 .left in
+    let w = sym (alpha-here g q (omega (arith, p .2, near)) (c .before .before .before .before .number-at2 .ensures) (c .before .is-alpha-kind2 .ensures)) ∙ c .if4 .left in
     word-ends L t v (a .p) q m tone x y z w
 
 returns-6 : tie.Need-returns-6
@@ -145,7 +146,7 @@ returns-6 c =
     let m = now (a .starts) in
     let p = c .before .before .before .before .before .before .before .before .before .before .before .before .before .pre in
     let g = p .0 .read .text in
-    let x = alpha-prev g (a .p - 1) (omega (arith, p .2)) _ (c .before .before .number-at .ensures) (c .before .is-alpha-kind .ensures) (c .if1 .left) in
+    let x = sym (alpha-prev g (a .p - 1) (omega (arith, p .2)) (c .before .before .number-at .ensures) (c .before .is-alpha-kind .ensures)) ∙ c .if1 .left in
     word-begins L t v (a .p) _ m refl x
 
 pub is-at-end-of-syllable-spec : {M : Type 1} → statement M
