@@ -1,10 +1,11 @@
 // Choosing a rule (rules.rs).
 ghost use mathlib.Core.Path.{_≡_};
 ghost use mathlib.Core.Bool.{true, _||_};
-ghost use Prim.Native.Nat.{_+_, _<_, _≤_};
+ghost use mathlib.Core.List.{List};
+ghost use Prim.Native.Nat.{ℕ, _+_, _<_, _≤_};
 ghost use lib.ListN.{drop};
 ghost use Rattle.base.specs.Pick.{pick};
-ghost use Rattle.base.specs.Lists.{bind};
+ghost use Rattle.base.specs.Lists.{has, bind};
 ghost use Rattle.definition.specs.Texts.{Text};
 ghost use Rattle.definition.specs.RuleRows.{rule-flag, whole-word-bit, rule-of, rules-of};
 ghost use Rattle.definition.specs.ClassRows.{classes-of};
@@ -373,6 +374,17 @@ pub fn romanization_by_first_rule(rules: &[u8], index: &[u32], source: &[u32]) -
         return Chosen::Untold;
     }
     target_of(rules, Choice::Matched(found.first))
+}
+
+// Did a search answer a text?
+pub fn is_told(chosen: Chosen) -> bool
+    ensures { λ r. ⌜ ((rules : List ℕ) → r ≡ has (said rules chosen)) ⌝ }
+{
+    match chosen {
+        Chosen::Target(_) => true,
+        Chosen::EndTarget(_) => true,
+        Chosen::Untold => false,
+    }
 }
 
 // The text that was chosen, a part of the lent table.

@@ -1,7 +1,7 @@
 // End of syllable (word_boundaries.rs), and the full search that asks it (rules.rs).
 ghost use mathlib.Core.Path.{_≡_};
 ghost use mathlib.Core.List.{List};
-ghost use Prim.Native.Nat.{ℕ, _+_, _/_, _<_, _≤_};
+ghost use Prim.Native.Nat.{_+_, _/_, _<_, _≤_};
 ghost use lib.ListN.{getD};
 ghost use Rattle.base.specs.Pick.{pick};
 ghost use Rattle.base.specs.Bits.{flagged};
@@ -63,17 +63,6 @@ fn opens(rules: &[u8], rom: Chosen) -> bool
     starts_with_vowel(rules::chosen_text(rules, rom))
 }
 
-// Did it answer?
-fn is_told(rom: Chosen) -> bool
-    ensures { λ r. ⌜ ((rules : List ℕ) → r ≡ has (said rules rom)) ⌝ }
-{
-    match rom {
-        Chosen::Target(_) => true,
-        Chosen::EndTarget(_) => true,
-        Chosen::Untold => false,
-    }
-}
-
 // One tone mark is skipped.
 fn past_tone(kinds: &[u32], p: usize) -> usize
     requires { ⌜ p < 65536 ⌝ }
@@ -123,7 +112,7 @@ fn next_rom(
         q,
         q + 2,
     );
-    if is_told(two) {
+    if rules::is_told(two) {
         return two;
     }
     rules::simple_top_romanization_candidate_for_span(

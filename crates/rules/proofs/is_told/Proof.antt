@@ -1,10 +1,10 @@
--- `syllables::is_told`
+-- `rules::is_told`
 use mathlib.Core.Path.{sym, ap}
 use Rattle.base.specs.Lists.{has}
 use Rattle.rules.specs.Chosen.{said}
 use borrow.Author.Needs.{needs}
-use Rattle.syllables.proofs.is_told.Statement.{statement}
-use Rattle.syllables.proofs.is_told.Tie as tie
+use Rattle.rules.proofs.is_told.Statement.{statement}
+use Rattle.rules.proofs.is_told.Tie as tie
 
 enum-told : tie.Need-enum-told
 enum-told c = search needs

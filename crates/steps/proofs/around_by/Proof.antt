@@ -1,0 +1,106 @@
+-- `steps::around_by`: the rules of the pattern are those with one source, which the line's numbers are.
+use mathlib.Core.Path.{sym}
+use Prim.Native.Nat.{ℕ, _+_}
+use native.Mathlib.Omega.{arith}
+use denote.Ref.{now}
+use lib.Seq.{length-take-le}
+use Rattle.definition.specs.RuleRows.{rules-of}
+use Rattle.steps.specs.Works.{work-of}
+use Rattle.steps.proofs.Frames.{frame-past, frame-first}
+use Rattle.steps.proofs.Tries.{not-done, tries-as}
+use borrow.Author.Needs.{needs}
+use Rattle.steps.proofs.around_by.Statement.{statement}
+use Rattle.steps.proofs.around_by.Tie as tie
+
+add-if1 : tie.Need-add-if1
+add-if1 c = search needs
+
+returns : tie.Need-returns
+returns c =
+    let s = c .before .before .before .before in
+    let a = s .args in
+    let R = rules-of (now (a .rules)) in (
+      (λ classes kinds g.
+          let e = frame-past g R (a .k) (work-of (a .w)) (omega (arith, s .pre)) (omega arith) in
+          not-done (a .w) _ e),
+      s .pre .1,
+      omega arith,
+    )
+
+number-at-requires : tie.Need-number-at-requires
+number-at-requires c κs = search needs
+
+add-number-at : tie.Need-add-number-at
+add-number-at c = search needs
+
+number-at-requires-2 : tie.Need-number-at-requires-2
+number-at-requires-2 c κs = search needs
+
+add-number-at-2 : tie.Need-add-number-at-2
+add-number-at-2 c = search needs
+
+number-at-requires-3 : tie.Need-number-at-requires-3
+number-at-requires-3 c κs = search needs
+
+add-number-at-3 : tie.Need-add-number-at-3
+add-number-at-3 c = search needs
+
+number-at-requires-4 : tie.Need-number-at-requires-4
+number-at-requires-4 c κs = search needs
+
+add-len : tie.Need-add-len
+add-len c = search needs
+
+array-share-prefix-source : tie.Need-array-share-prefix-source
+array-share-prefix-source c = search needs
+
+slice-aggregate-romanization-by-first-rule : tie.Need-slice-aggregate-romanization-by-first-rule
+slice-aggregate-romanization-by-first-rule c =
+    let s = c .before .before .before .before .before .before .before .before .before in
+    sym (length-take-le {A = ℕ} (s .args .k + 2) _ (omega (arith, s .pre)))
+
+romanization-by-first-rule-requires : tie.Need-romanization-by-first-rule-requires
+romanization-by-first-rule-requires c κs = search needs
+
+put-behind-requires : tie.Need-put-behind-requires
+put-behind-requires c κs = search needs
+
+returns-2 : tie.Need-returns-2
+returns-2 c =
+    let s = c .before .before .before .before .before .before .before .before .before .before .before in
+    let a = s .args in
+    let I = c .before .before .before .before .before .before .before .if1 .left in
+    let C = c .before .before .before .before .before .before .number-at .ensures in
+    let X = c .before .before .before .before .before .number-at2 .ensures in
+    let Y = c .before .before .before .before .number-at3 .ensures in
+    let Z = c .before .before .before .number-at4 .ensures in
+    let F = c .before .romanization-by-first-rule .ensures in
+    let U = c .put-behind .ensures in
+    let R = rules-of (now (a .rules)) in
+    let h = s .pre in (
+      (λ classes kinds g.
+          let e = frame-first g R (a .k) (work-of (a .w)) _ C X Y Z (omega (arith, h)) (omega (arith, h)) (omega (arith, h)) (omega (arith, I)) (F .0) in
+          tries-as (sym e) (U .0)),
+      U .1,
+      U .2,
+    )
+
+pub around-by-spec : {M : Type 1} → statement M
+around-by-spec =
+    tie.close
+    (tie.spec
+    add-if1
+    returns
+    number-at-requires
+    add-number-at
+    number-at-requires-2
+    add-number-at-2
+    number-at-requires-3
+    add-number-at-3
+    number-at-requires-4
+    add-len
+    array-share-prefix-source
+    slice-aggregate-romanization-by-first-rule
+    romanization-by-first-rule-requires
+    put-behind-requires
+    returns-2)

@@ -1,0 +1,73 @@
+-- `steps::put_behind`: a target has 64 bytes at most.
+use mathlib.Core.List.{_++_}
+use mathlib.Core.Path.{sym, ap, _∙_}
+use Prim.Native.Nat.{_+_, _-_, _≤_}
+use native.Mathlib.Omega.{arith}
+use denote.Ref.{now}
+use lib.ListN.{length, length-append}
+use Rattle.definition.specs.Limits.{most-target}
+use Rattle.definition.specs.Texts.{Text}
+use Rattle.definition.specs.Notes.{note-exp}
+use Rattle.definition.specs.Expansion.{work}
+use Rattle.rom.specs.Rom.{text, rom, text-length, text-by, len-by, clean-by}
+use Rattle.rules.specs.Chosen.{said, or-nothing}
+use Rattle.steps.specs.Works.{work-of}
+use Rattle.steps.proofs.Tries.{said-short, not-done, no-target, a-target}
+use borrow.Author.Needs.{needs}
+use Rattle.steps.proofs.put_behind.Statement.{statement}
+use Rattle.steps.proofs.put_behind.Tie as tie
+
+is-told-requires : tie.Need-is-told-requires
+is-told-requires c κs = search needs
+
+chosen-text-requires : tie.Need-chosen-text-requires
+chosen-text-requires c κs = search needs
+
+append-requires : tie.Need-append-requires
+append-requires c κs =
+    let s = c .before .before .before .before .before in
+    (s .pre .1, omega (arith, s .pre, ap length (c .chosen-text .ensures), said-short (now (s .args .rules)) (s .args .target) (s .pre .0)))
+
+sub-t10 : tie.Need-sub-t10
+sub-t10 c = search needs
+
+add-t11 : tie.Need-add-t11
+add-t11 c = search needs
+
+returns : tie.Need-returns
+returns c =
+    let s = c .before .before .before .before .before .before .before .before in
+    let a = s .args in
+    let T = c .before .before .before .before .before .before .is-told .ensures in
+    let I = c .before .before .before .before .before .if1 .taken in
+    let X = c .before .before .before .chosen-text in
+    let E = c .before .before .append in
+    let o = said (now (a .rules)) (a .target) in
+    let old = text (a .w .rom) in
+    let e = E .ensures ∙ ap (λ (x : Text). rom (old ++ x)) (X .ensures) in
+    let h : length (old ++ or-nothing o) ≤ a .w .rom .len + most-target = omega (arith, length-append old (or-nothing o), text-length (s .pre .1), said-short (now (a .rules)) (a .target) (s .pre .0)) in (
+      a-target (a .w) _ (a .k) o (sym (T (now (a .rules))) ∙ I)
+          (ap (λ (x : Text). work x (a .w .from - 1) (a .w .to + a .k) note-exp) (text-by (old ++ or-nothing o) e (omega (arith, h, s .pre)))),
+      clean-by (old ++ or-nothing o) e (omega (arith, h, s .pre)),
+      omega (arith, h, len-by (old ++ or-nothing o) e),
+    )
+
+returns-2 : tie.Need-returns-2
+returns-2 c =
+    let s = c .before .before .before in
+    let a = s .args in
+    let T = c .before .is-told .ensures in
+    let o = said (now (a .rules)) (a .target) in
+    (not-done (a .w) _ (no-target (work-of (a .w)) (a .k) o (sym (T (now (a .rules))) ∙ c .if1 .left)), s .pre .1, omega arith)
+
+pub put-behind-spec : {M : Type 1} → statement M
+put-behind-spec =
+    tie.close
+    (tie.spec
+    is-told-requires
+    chosen-text-requires
+    append-requires
+    sub-t10
+    add-t11
+    returns
+    returns-2)
