@@ -367,7 +367,7 @@ fn alpha_byte(classes: &[u8], c: u32) -> u8
     1
 }
 
-// Of each ASCII character whether it is a letter or a mark: the texts of edges are ASCII.
+// Of each ASCII character whether it is a letter or a mark: most texts of edges are ASCII.
 pub fn classify_ascii(classes: &[u8], alphas: &mut [u8])
     requires { ⌜ Fine (now classes) × (length (now alphas) ≡ 128) ⌝ }
     ensures { λ r. ⌜ now (alphas .exit) ≡ alphas-of (now (classes .entry)) ⌝ }
