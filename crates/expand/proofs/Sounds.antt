@@ -16,7 +16,7 @@ use Rattle.definition.specs.Expansion.{o-ang-side}
 use Rattle.utf8.specs.Encodings.{last-decoded}
 use Rattle.rom.specs.declared.Rom.{Rom}
 use Rattle.rom.specs.Rom.{text, Clean, bytes-length}
-use Rattle.rom.specs.Sets.{member, member-low, o-ang-side-set, in-o-ang-side}
+use Rattle.rom.specs.Sets.{member, o-ang-side-set, in-o-ang-side, none-past, last-as, all-as}
 use Rattle.rom.proofs.Backwards.{back-cons}
 use Rattle.edge.specs.Slots.{bytes-of, edge-by, edges-of}
 use Rattle.edge.specs.Stored.{Slot}
@@ -25,24 +25,6 @@ use Rattle.edge.specs.declared.BestEdge.{BestEdge}
 use Rattle.edge.specs.declared.BestEdge.the-variants.{At, Nothing}
 use Rattle.rules.specs.Chosen.{or-nothing}
 use Rattle.expand.specs.Sides.{beside}
-
--- the consonants beside O ang, by their mask
-side-low : (c : ℕ) → 128 ≤ c → o-ang-side c ≡ false
-side-low c h = sym (in-o-ang-side c) ∙ member-low o-ang-side-set c h
-
-is-side : (o : Option ℕ) → is (member o-ang-side-set) o ≡ is o-ang-side o
-is-side none = refl
-is-side (some c) = in-o-ang-side c
-
-last-side : (w : Text) → last-is (member o-ang-side-set) w ≡ last-is o-ang-side w
-unfolding last-is
-last-side w = is-side (head (reverse w))
-
-all-side : (w : Text) → all (member o-ang-side-set) w ≡ all o-ang-side w
-unfolding all
-all-side [] = refl
-all-side (c ∷ w) =
-    ap (λ (b : Bool). b && all (member o-ang-side-set) w) (in-o-ang-side c) ∙ ap (λ (b : Bool). o-ang-side c && b) (all-side w)
 
 -- what stands behind a position, by the last byte of the edge that has it
 module _ (ks : List Class) (room slots : List ℕ) (count p : ℕ) (r : BestEdge) (b : text-at room slots r ≡ walk (edges-of room count slots) p p) where
@@ -54,8 +36,8 @@ module _ (ks : List Class) (room slots : List ℕ) (count p : ℕ) (r : BestEdge
       → last-is (member o-ang-side-set) (bytes-of room (drop o slots)) ≡ last-is o-ang-side (view ks (edges-of room count slots) .behind p)
   unfolding view edge-by
   one-behind o e s =
-      last-side (bytes-of room (drop o slots))
-      ∙ sym (last-decoded o-ang-side side-low (s .text))
+      last-as o-ang-side-set o-ang-side in-o-ang-side (bytes-of room (drop o slots))
+      ∙ sym (last-decoded o-ang-side (none-past o-ang-side-set o-ang-side in-o-ang-side) (s .text))
       ∙ ap (last-is o-ang-side) (sym (ap (text-at room slots) e) ∙ b)
 
 -- one or more of them
@@ -67,7 +49,7 @@ none-beside (c ∷ w) h = absurd (omega arith)
 pub some-beside : (w : Text) → (length w ≡ 0 → ⊥) → all (member o-ang-side-set) w ≡ beside w
 unfolding beside same
 some-beside [] h = absurd (h refl)
-some-beside (c ∷ w) h = all-side (c ∷ w)
+some-beside (c ∷ w) h = all-as o-ang-side-set o-ang-side in-o-ang-side (c ∷ w)
 
 -- of what may be absent
 pub beside-text : (o : Option Text) → beside (or-nothing o) ≡ is beside o

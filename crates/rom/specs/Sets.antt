@@ -1,7 +1,7 @@
 -- Sets of small letters as masks: each is the definition's set, at every number.
 use Prim.Native.Nat.{ℕ, zero, suc, _-_, _<_, _≤_}
 use mathlib.Core.Bool.{Bool, true, false, not, _&&_}
-use mathlib.Core.Path.{_≡_, refl, sym, ap, _∙_}
+use mathlib.Core.Path.{_≡_, refl, sym, ap, _∙_, fun-ext}
 use native.Mathlib.Omega.{arith}
 use native.Mathlib.Decide.{decLe}
 use lib.Dec.{eqb, leb, ltb}
@@ -11,7 +11,7 @@ use Rattle.base.specs.Bools.{and-left, and-right}
 use Rattle.base.specs.Lists.{all}
 use Rattle.base.specs.Alls.{all-all}
 use Rattle.base.specs.Bits.{flagged}
-use Rattle.definition.specs.Texts.{chars, among, consonants, vowels}
+use Rattle.definition.specs.Texts.{Text, chars, among, last-is, consonants, vowels}
 use Rattle.definition.specs.Letters.{among-all}
 use Rattle.definition.specs.Edges.{closing}
 use Rattle.definition.specs.Vowels.{before-y}
@@ -128,3 +128,14 @@ plus-before-set = 0x23040
 pub in-plus-before : (c : ℕ) → member plus-before-set c ≡ among "mngr" c
 unfolding member flagged all among
 in-plus-before = as-quoted plus-before-set "mngr" refl refl
+
+-- What such a law says of texts: no number past ASCII is in the set, and a text's last and all of it are asked alike
+module _ (set : ℕ) (q : ℕ → Bool) (law : (c : ℕ) → member set c ≡ q c) where
+  pub none-past : (c : ℕ) → 128 ≤ c → q c ≡ false
+  none-past c h = sym (law c) ∙ member-low set c h
+
+  pub last-as : (w : Text) → last-is (member set) w ≡ last-is q w
+  last-as w = ap (λ (f : ℕ → Bool). last-is f w) (fun-ext law)
+
+  pub all-as : (w : Text) → all (member set) w ≡ all q w
+  all-as w = ap (λ (f : ℕ → Bool). all f w) (fun-ext law)

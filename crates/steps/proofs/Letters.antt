@@ -10,13 +10,12 @@ use lib.Seq.{getD-take}
 use borrow.Author.Tests.{eq-eqb, ne-eqb}
 use Rattle.base.specs.Pick.{pick, pick-all}
 use Rattle.base.specs.Bools.{and-right}
-use Rattle.base.specs.Lists.{all, head, tail, is, starts}
+use Rattle.base.specs.Lists.{head, tail, is, starts}
 use Rattle.base.specs.ListLaws.{tail-length}
 use Rattle.definition.specs.Texts.{Text, chars, among, addak, long-mark, vowels, consonants, the-space, last-is, without-last}
 use Rattle.definition.specs.Expansion.{doubling, doubled}
 use Rattle.rom.specs.declared.Rom.{Rom}
 use Rattle.rom.specs.Rom.{text, Clean, bytes-length}
-use Rattle.rom.specs.Sets.{member, consonants-set, in-consonants}
 use Rattle.rom.proofs.Backwards.{back-cons}
 use Rattle.steps.specs.Works.{first-of, last-of, letter-of, kana, long-by, front-of, back-of}
 
@@ -56,12 +55,6 @@ last-there q w e = one-there q (reverse w) e
 pub no-consonant : consonants 0 ≡ false
 unfolding consonants among
 no-consonant = refl
-
-pub all-consonants : (w : Text) → all (member consonants-set) w ≡ all consonants w
-unfolding all
-all-consonants [] = refl
-all-consonants (c ∷ w) =
-    ap (λ (b : Bool). b && all (member consonants-set) w) (in-consonants c) ∙ ap (λ (b : Bool). consonants c && b) (all-consonants w)
 
 -- Doubling
 no-letter : doubling 0 ≡ false

@@ -26,14 +26,14 @@ use Rattle.definition.specs.Expansion.{work, widen, around-by, around, pre-vowe
 use Rattle.definition.specs.Expansion as expansion
 use Rattle.classes.specs.Told.{Fine}
 use Rattle.rom.specs.Rom.{text}
-use Rattle.rom.specs.Sets.{member, consonants-set}
+use Rattle.rom.specs.Sets.{member, consonants-set, in-consonants, all-as}
 use Rattle.rules.specs.Chosen.{said, Said, or-nothing}
 use Rattle.rules.specs.declared.Chosen.{Chosen}
 use Rattle.rules.specs.declared.Chosen.the-variants.{Target, EndTarget, Untold}
 use Rattle.steps.specs.declared.Work.{Work}
 use Rattle.steps.specs.declared.Tried.{Tried}
 use Rattle.steps.specs.Works.{work-of, Tries, first-of, framed-by, before-by}
-use Rattle.steps.proofs.Letters.{first-passes, no-consonant, all-consonants}
+use Rattle.steps.proofs.Letters.{first-passes, no-consonant}
 
 -- a target has 64 bytes at most
 pub said-short : (rules : List ℕ) (x : Chosen) → Said rules x → length (or-nothing (said rules x)) ≤ most-target
@@ -157,4 +157,4 @@ module _ (p : Bool) (w : expansion.Work) where
   module _ (e : w .from + 1 ≡ w .to) {b : Bool} (d : all (member consonants-set) (w .rom) ≡ b) where
     pub one-framed : (b && p) ≡ framed-by p w
     unfolding framed-by
-    one-framed = sym (rw (eq-eqb (w .from + 1) (w .to) e, sym (all-consonants (w .rom)), d))
+    one-framed = sym (rw (eq-eqb (w .from + 1) (w .to) e, sym (all-as consonants-set consonants in-consonants (w .rom)), d))

@@ -1,9 +1,9 @@
 -- How a text begins and how an edge ends, by bytes.
-use mathlib.Core.Bool.{Bool, false}
-use mathlib.Core.List.{List, [], _∷_, reverse}
+use mathlib.Core.Bool.{false}
+use mathlib.Core.List.{List, [], _∷_}
 use mathlib.Core.Option.{Option, none, some}
 use mathlib.Core.Path.{_≡_, refl, sym, ap, _∙_}
-use Prim.Native.Nat.{ℕ, _≤_}
+use Prim.Native.Nat.{ℕ}
 use lib.ListN.{length, getD, drop}
 use Rattle.base.specs.Pick.{pick}
 use Rattle.base.specs.Lists.{head, is}
@@ -11,7 +11,7 @@ use Rattle.definition.specs.Texts.{Text, among, last-is, vowels, lower}
 use Rattle.definition.specs.Tables.{Class}
 use Rattle.definition.specs.Edges.{Edge, closing, left-best, view}
 use Rattle.utf8.specs.Encodings.{last-decoded}
-use Rattle.rom.specs.Sets.{member, member-low, closing-set, in-closing}
+use Rattle.rom.specs.Sets.{member, closing-set, in-closing, none-past, last-as}
 use Rattle.edge.specs.Slots.{bytes-of, edge-by, edges-of}
 use Rattle.edge.specs.Stored.{Slot}
 use Rattle.edge.specs.Best.{edge-at}
@@ -19,18 +19,6 @@ use Rattle.definition.specs.Syllables.{opens}
 use Rattle.rules.specs.Chosen.{or-nothing}
 use Rattle.edge.specs.declared.BestEdge.{BestEdge}
 use Rattle.edge.specs.declared.BestEdge.the-variants.{At, Nothing}
-
--- two tests that agree
-is-cong : (f g : ℕ → Bool) → ((c : ℕ) → f c ≡ g c) → (o : Option ℕ) → is f o ≡ is g o
-is-cong f g h none = refl
-is-cong f g h (some c) = h c
-
-last-cong : (f g : ℕ → Bool) → ((c : ℕ) → f c ≡ g c) → (w : Text) → last-is f w ≡ last-is g w
-unfolding last-is
-last-cong f g h w = is-cong f g h (head (reverse w))
-
-closing-low : (c : ℕ) → 128 ≤ c → closing c ≡ false
-closing-low c h = sym (in-closing c) ∙ member-low closing-set c h
 
 -- an edge's last letter is a consonant just where its last byte is
 module _ (ks : List Class) (room slots : List ℕ) (count p : ℕ) (r : BestEdge) (b : edge-at room slots r ≡ left-best (edges-of room count slots) p) where
@@ -42,8 +30,8 @@ module _ (ks : List Class) (room slots : List ℕ) (count p : ℕ) (r : BestEdge
       → last-is (member closing-set) (bytes-of room (drop o slots)) ≡ view ks (edges-of room count slots) .closed p
   unfolding view edge-by
   one-closed o e s =
-      last-cong (member closing-set) closing in-closing (bytes-of room (drop o slots))
-      ∙ sym (last-decoded closing closing-low (s .text))
+      last-as closing-set closing in-closing (bytes-of room (drop o slots))
+      ∙ sym (last-decoded closing (none-past closing-set closing in-closing) (s .text))
       ∙ ap (is (λ (x : Edge). last-is closing (x .text))) (sym (ap (edge-at room slots) e) ∙ b)
 
 -- a byte past the end is 0, which begins no text
