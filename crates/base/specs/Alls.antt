@@ -5,7 +5,7 @@ use mathlib.Core.List.{List, [], _∷_, _++_, reverse, reverseAux}
 use mathlib.Core.Option.{Option, none, some}
 use Prim.Native.Nat.{ℕ, zero, suc, _<_}
 use native.Mathlib.Omega.{arith}
-use lib.ListN.{getD, take, drop}
+use lib.ListN.{length, getD, take, drop}
 use Rattle.base.specs.Pick.{pick, pick-all}
 use Rattle.base.specs.Bools.{and-left, and-right, conj}
 use Rattle.base.specs.Lists.{put, keep, any, all, head, or-else, maybe, front, after, tail, bind, best-of, best}
@@ -18,6 +18,12 @@ All P (x ∷ l) = P x × All P l
 pub All-map : {A : Type 0} {P Q : A → Type 0} → ((x : A) → P x → Q x) → (l : List A) → All P l → All Q l
 All-map f [] h = tt
 All-map f (x ∷ l) h = (f x (h .0), All-map f l (h .1))
+
+-- of one that stands there
+pub All-at : {A : Type 0} (P : A → Type 0) (l : List A) (i : ℕ) (d : A) → All P l → i < length l → P (getD l i d)
+All-at P [] i d a h = absurd (omega arith)
+All-at P (x ∷ l) zero d a h = a .0
+All-at P (x ∷ l) (suc i) d a h = All-at P l i d (a .1) (omega arith)
 
 -- each stands so to every later one
 abbrev pub Ordered : {A : Type 0} → (A → A → Type 0) → List A → Type 0

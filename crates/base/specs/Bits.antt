@@ -50,3 +50,8 @@ or-bit k b false h q =
 pub unflagged : (k : ℕ) → flagged 0 k ≡ false
 unfolding flagged
 unflagged k = ne-eqb (0 / 2 ^ k % 2) 1 (λ e. omega (arith, zero-div (2 ^ k)))
+
+-- a bit is set just where it is told
+pub is-set : (b : Bool) → eqb (bit b) 1 ≡ b
+is-set true = refl
+is-set false = refl

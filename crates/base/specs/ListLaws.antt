@@ -9,6 +9,7 @@ use native.Mathlib.Omega.{arith}
 use native.Mathlib.Decide.{decLe}
 use lib.Dec.{eqb, leb}
 use lib.ListN.{length, take, drop, replicate}
+use lib.Seq.{take-nil}
 use borrow.Author.Tests.{le-leb, lt-leb, leb-true, eq-eqb, ne-eqb, eqb-true}
 use Rattle.base.specs.Bools.{and-left, and-right}
 use Rattle.base.specs.Pick.{pick}
@@ -126,6 +127,11 @@ pub same-none : (a : List ℕ) → same a [] ≡ empty a
 unfolding same empty
 same-none [] = refl
 same-none (x ∷ a) = refl
+
+pub same-some : (a : List ℕ) → 0 < length a → same a [] ≡ false
+unfolding same
+same-some [] h = absurd (omega arith)
+same-some (x ∷ a) h = refl
 
 pub starts-append : (a b : List ℕ) → starts a (a ++ b) ≡ true
 unfolding starts
@@ -245,3 +251,19 @@ module _ {A : Type 0} where
       go true false e f h = rw f h
       go false true e f h = rw e h
       go false false e f h = h
+
+-- a part of a front
+pub drop-take : (i n : ℕ) (l : List ℕ) → drop i (take (i + n) l) ≡ take n (drop i l)
+drop-take zero n l = ap (λ (k : ℕ). take k l) {x = 0 + n} {y = n} (omega arith)
+drop-take (suc i) n [] = ap (λ (l : List ℕ). drop (suc i) l) (take-nil (suc i + n)) ∙ sym (take-nil n)
+drop-take (suc i) n (x ∷ l) = ap (λ (k : ℕ). drop (suc i) (take k (x ∷ l))) {x = suc i + n} {y = suc (i + n)} (omega arith) ∙ drop-take i n l
+
+-- any of those kept
+pub any-keep : {A : Type 0} (f g : A → Bool) (l : List A) → any f (keep g l) ≡ any (λ x. g x && f x) l
+unfolding any keep
+any-keep f g [] = refl
+any-keep f g (x ∷ l) = go (g x) (any-keep f g l)
+  where
+    go : (b : Bool) → any f (keep g l) ≡ any (λ x. g x && f x) l → any f (put b x (keep g l)) ≡ ((b && f x) || any (λ x. g x && f x) l)
+    go true e = ap (λ (t : Bool). f x || t) e
+    go false e = e

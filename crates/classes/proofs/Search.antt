@@ -12,7 +12,7 @@ use borrow.Author.Tests.{eq-eqb, ne-eqb}
 use Rattle.base.specs.Pick.{pick}
 use Rattle.base.specs.Bools.{and-left}
 use Rattle.base.specs.ListLaws.{holds-length}
-use Rattle.base.specs.Alls.{All, Ordered}
+use Rattle.base.specs.Alls.{All, Ordered, All-at}
 use Rattle.base.specs.Rows.{Each, no-row, row-then, each-map, rows, rows-nil, rows-cons}
 use Rattle.definition.specs.Tables.{Class}
 use Rattle.definition.specs.Blocks.{headed, fault}
@@ -32,11 +32,6 @@ miss k ks c h = ap (λ (b : Bool). elim b as (λ _. Class) [ true ↦ k | false 
 meet : (k : Class) (ks : List Class) (c : ℕ) → k .char ≡ c → class (k ∷ ks) c ≡ k
 unfolding class
 meet k ks c h = ap (λ (b : Bool). elim b as (λ _. Class) [ true ↦ k | false ↦ class ks c ]) (eq-eqb (k .char) c h)
-
-All-at : {A : Type 0} (P : A → Type 0) (l : List A) (i : ℕ) (d : A) → All P l → i < length l → P (getD l i d)
-All-at P [] i d a h = absurd (omega arith)
-All-at P (x ∷ l) zero d a h = a .0
-All-at P (x ∷ l) (suc i) d a h = All-at P l i d (a .1) (omega arith)
 
 absent : (ks : List Class) (c : ℕ) → All (λ k. c < k .char) ks → class ks c ≡ plain c
 unfolding class

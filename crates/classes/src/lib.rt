@@ -16,6 +16,26 @@ ghost use Rattle.definition.specs.Vowels.{vowel-row};
 ghost use Rattle.classes.specs.Told.{fault-place, Fine, FineVowels, seen, Ranged};
 ghost use Rattle.classes.specs.Told.{packed, kinds-of, alphas-of, Alphas, told, Lettered};
 
+// Scripts that the engine asks for.
+pub const THAI: u32 = 1;
+
+pub const COPTIC: u32 = 2;
+
+pub const HIRAGANA: u32 = 3;
+
+pub const KATAKANA: u32 = 4;
+
+pub const DEVANAGARI: u32 = 5;
+
+// Categories that the engine asks for: nonspacing marks, format characters, private use, spaces.
+pub const NONSPACING: u32 = 2;
+
+pub const FORMAT: u32 = 5;
+
+pub const PRIVATE: u32 = 6;
+
+pub const SEPARATOR: u32 = 7;
+
 // Bits of a class's flags: vowel sign, medial, subjoined, virama, vocalic, tone mark, written before its consonant.
 pub const SIGN: u32 = 0;
 

@@ -8,8 +8,8 @@ use Prim.Native.Nat.{ℕ, zero, suc, _+_, _-_, _≤_, _<_}
 use native.Mathlib.Omega.{arith}
 use lib.ListN.{length, replicate, length-append}
 use Rattle.base.specs.Pick.{pick-all}
-use Rattle.base.specs.Lists.{any, is}
-use Rattle.base.specs.Alls.{All, All-append, Opt, maybe-all, bind-all}
+use Rattle.base.specs.Lists.{any}
+use Rattle.base.specs.Alls.{All, All-append, Opt, Opt-map, maybe-all, bind-all}
 use Rattle.definition.specs.Limits.{most-target, most-vowel, most-bytes, most-source}
 use Rattle.definition.specs.Notes.{note-core, note-single, note-Mn, note-Cf, note-Co, note-Zs, note-orig}
 use Rattle.definition.specs.Texts.{Text, at, the-space}
@@ -44,12 +44,12 @@ pub record Sound (n : ℕ) (x : Edge) : Type 0 where
 
 module _ (D : Tables) (ok : Bounded D) (t : Text) where
   -- What the searches answer
-  simple-short : (v : View) (s e : ℕ) → Post (Option Text) (Opt (Short most-target)) (simple (lexicon D) t v s e)
+  pub simple-short : (v : View) (s e : ℕ) → Post (Option Text) (Opt (Short most-target)) (simple (lexicon D) t v s e)
   unfolding simple
   simple-short v s e = post-bind (Opt Spoken) _ (choose-all (lexicon D) t v Spoken s e (ok .rules))
       (λ o q. post-ret _ (bind-all (Short most-target) Spoken o (λ r. r .target) q (λ r z. z .target)))
 
-  full-short : (v : View) (s e : ℕ) → Post (Option Text) (Opt (Short most-target)) (full (lexicon D) t v s e)
+  pub full-short : (v : View) (s e : ℕ) → Post (Option Text) (Opt (Short most-target)) (full (lexicon D) t v s e)
   unfolding full
   full-short v s e = post-bind (Opt Spoken) _ (choose-all (lexicon D) t v Spoken s e (ok .rules))
       (λ o q. post-maybe o Spoken q (post-ret none tt)
@@ -64,8 +64,12 @@ module _ (D : Tables) (ok : Bounded D) (t : Text) where
   sound-of x l k h n c =
       record { forward = l; inside = k; short = rw (encoded-low (x .text) (h .low)) (h .long); known = n; core = c }
 
+  -- it is sound, and its text ASCII
+  abbrev pub Spelt : Edge → Type 0
+  Spelt x = Sound (length t) x × Short most-bytes (x .text)
+
   edge-sound : (v : View) (b : Bool) (rom : Text) (s e : ℕ) → s < e → e ≤ length t → Short most-target rom
-      → Post Edge (Sound (length t)) (edge-of D t v b rom s e)
+      → Post Edge Spelt (edge-of D t v b rom s e)
   unfolding edge-of
   edge-sound v b rom s e l k h =
       post-bind (Voiced rom) _ (vowel-step-voiced (lexicon D) t v (D .vowels) b rom s e (ok .vowels) (h .low))
@@ -73,19 +77,25 @@ module _ (D : Tables) (ok : Bounded D) (t : Text) where
       let r = h .long in
       let w = expand-held (lexicon D) t (ok .rules) (ok .virama) v new s e l k (short-wide (length rom + most-vowel) (omega arith) (q .short)) in
       post-bind (λ x. Held (length t) most-bytes x × Kept new x) _ (both w (expand-kept (lexicon D) t new v s e))
-      (λ x z. post-ret _ (unfold as-edge in sound-of (as-edge b rom new x) (z .0 .forward) (z .0 .inside) (z .0 .short)
-      (let y = edge-known b rom new x (z .1) in omega arith) (edge-cored b rom new x q (z .1)))))
+      (λ x z. post-ret _ (unfold as-edge in (
+        sound-of (as-edge b rom new x) (z .0 .forward) (z .0 .inside) (z .0 .short)
+            (let y = edge-known b rom new x (z .1) in omega arith) (edge-cored b rom new x q (z .1)),
+        z .0 .short,
+      ))))
 
-  plus-short : (w : Text) → Short most-target w → Short most-target (without-plus w)
+  pub plus-short : (w : Text) → Short most-target w → Short most-target (without-plus w)
   unfolding without-plus
   plus-short w h = pick-all (Short most-target) (is-tail w) (short-wide (most-target - 1) (omega arith) (short-tail most-target h)) h
 
-  span-sound : (v : View) (s e : ℕ) → s < e → e ≤ length t → Post (Option Edge) (Opt (Sound (length t))) (span-edge D t v s e)
+  pub span-spelt : (v : View) (s e : ℕ) → s < e → e ≤ length t → Post (Option Edge) (Opt Spelt) (span-edge D t v s e)
   unfolding span-edge
-  span-sound v s e l k = post-bind (Opt (Short most-target)) _ (full-short v s e)
+  span-spelt v s e l k = post-bind (Opt (Short most-target)) _ (full-short v s e)
       (λ o q. post-maybe o (Short most-target) q (post-ret none tt)
-      (λ w z. post-bind (Sound (length t)) _ (edge-sound v (is-tail w) (without-plus w) s e l k (plus-short w z))
+      (λ w z. post-bind Spelt _ (edge-sound v (is-tail w) (without-plus w) s e l k (plus-short w z))
       (λ x y. post-ret (some x) y)))
+
+  span-sound : (v : View) (s e : ℕ) → s < e → e ≤ length t → Post (Option Edge) (Opt (Sound (length t))) (span-edge D t v s e)
+  span-sound v s e l k = record { gives = λ m. Opt-map (λ x y. y .0) ((span-edge D t v s e m) .0) (span-spelt v s e l k .gives m) }
 
   -- The fallback: nothing, a space, a target, or the character's own bytes
   single-sound : (p n : ℕ) (w : Text) → p < length t → note-core < n → n ≤ note-orig → Short most-target w → Sound (length t) (single p n w)

@@ -96,7 +96,7 @@ All-from n p [] h = tt
 All-from n p (x ∷ es) h = All-put (λ x. Sound n x × (x .from ≡ p)) (eqb (x .from) p) x (keep (λ x. eqb (x .from) p) es)
     (λ e. (h .0, eqb-true (x .from) p e)) (All-from n p es (h .1))
 
-right-sound : (n p : ℕ) (es : List Edge) → All (Sound n) es → Opt (λ x. Sound n x × (x .from ≡ p)) (right-best es p)
+pub right-sound : (n p : ℕ) (es : List Edge) → All (Sound n) es → Opt (λ x. Sound n x × (x .from ≡ p)) (right-best es p)
 unfolding right-best
 right-sound n p es h = All-best (λ x. Sound n x × (x .from ≡ p)) (λ x y. ltb (y .to) (x .to)) (starting es p) (All-from n p es h)
 

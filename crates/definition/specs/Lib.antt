@@ -56,6 +56,9 @@ pub mod Cover
 -- alternatives only follow the path, in 68 bytes; code 13 is absent
 pub mod Alternatives
 pub mod Alt2
+-- edge by edge, whatever is remembered of word starts
+pub mod Recalled
+pub mod Offers
 -- UTF-8 there and back; a part of an accepted text is accepted; what is returned
 pub mod Roundtrip
 pub mod Parts

@@ -16,8 +16,9 @@ use Rattle.base.specs.Alls.{All, Opt, all-all}
 use Rattle.definition.specs.Limits.{most-characters, most-alternatives, most-target, most-vowel, most-edges}
 use Rattle.definition.specs.Texts.{Text}
 use Rattle.definition.specs.Blocks.{small}
-use Rattle.definition.specs.RuleRows.{printable, text-of, text-right, texts-of, texts-right, rule-flag, target-bit, end-target-bit, target-at, end-target-at, others-at, others-of, others-right, text-where, target-right, end-target-right, rule-right, rule-of}
-use Rattle.definition.specs.VowelRows.{vowel-length, vowel-letters, vowel-right, vowel-of}
+use Rattle.definition.specs.RuleRows.{printable, text-of, text-right, texts-of, texts-right, rule-flag, target-bit, end-target-bit, target-at, end-target-at, others-at, others-of, others-right, text-where, target-right, end-target-right, rule-right, rule-fault, rule-of}
+use Rattle.definition.specs.ClassRows.{class-fault}
+use Rattle.definition.specs.VowelRows.{vowel-length, vowel-letters, vowel-right, vowel-fault, vowel-of}
 use Rattle.definition.specs.Paths.{edges, edge-count}
 use Rattle.definition.specs.Call.{Inputs, tables-of, tables, characters, refusal}
 use Rattle.definition.specs.Checked.{rule-checked, vowel-checked}
@@ -68,13 +69,19 @@ vowel-short low s e =
       low = all-all Low small (λ x q. below-128 97 122 x (omega arith) q) _ (c .letters);
     }
 
-pub bounded : (i : Inputs) → Accepted i → Bounded (tables i)
-unfolding tables tables-of
-bounded i a = record {
-  rules = rules-all Spoken rule-spoken (i .rules) (a .rules);
-  vowels = vowels-all (λ y. Short most-vowel (y .letters)) vowel-short (i .vowels) (a .vowels);
-  virama = blank (i .classes) (a .classes) .virama;
+-- Tables without fault
+pub tables-bounded : (rules classes vowels code : List ℕ) → rule-fault rules ≡ none → class-fault classes ≡ none → vowel-fault vowels ≡ none
+    → Bounded (tables-of rules classes vowels code)
+unfolding tables-of
+tables-bounded rules classes vowels code a b c = record {
+  rules = rules-all Spoken rule-spoken rules a;
+  vowels = vowels-all (λ y. Short most-vowel (y .letters)) vowel-short vowels c;
+  virama = blank classes b .virama;
 }
+
+pub bounded : (i : Inputs) → Accepted i → Bounded (tables i)
+unfolding tables
+bounded i a = tables-bounded (i .rules) (i .classes) (i .vowels) (i .code) (a .rules) (a .classes) (a .vowels)
 
 -- Of a call that is not refused for its mode, tables, code or text
 pub few-characters : (i : Inputs) → refusal i ≡ none → length (characters i) ≤ most-characters

@@ -5,13 +5,13 @@ use mathlib.Core.Path.{_≡_, sym}
 use Prim.Native.Nat.{ℕ}
 use lib.Dec.{eqb}
 use borrow.Author.Tests.{eq-eqb, ne-eqb}
+use Rattle.base.specs.ListLaws.{any-keep}
 use Rattle.base.specs.Lists.{any, same}
 use Rattle.definition.specs.Edges.{Edge, starting, alike}
 use Rattle.utf8.specs.Encodings.{TextBytes, same-decoded}
 use Rattle.edge.specs.declared.Numbers.{Numbers}
 use Rattle.edge.specs.Slots.{bytes-of, edge-by, numbers-of, edge-of}
 use Rattle.edge.specs.Adding.{there}
-use Rattle.edge.specs.Asked.{any-keep}
 
 -- equal in start too
 abbrev pub like : Numbers → List ℕ → Edge → Bool

@@ -238,3 +238,38 @@ module _ (slots room : List ℕ) (count used : ℕ) (e : Numbers) (text : List �
           (rw add-one (one-more b c ∙ sym (ap (λ t. pick t es (es ++ x ∷ [])) a)), rw add-one (still-stored b c))
       go false true false a b c q = absurd (let z : _≡_ {A = ℕ} 0 1 = cc in omega arith)
       go false false r a b c q = absurd (let z : _≡_ {A = ℕ} 0 1 = cc in omega arith)
+
+  -- slots and room keep their lengths
+  pub slots-after-length : length (slots-after slots room count used e text) ≡ length slots
+  unfolding slots-after enters pick slot-of two three four
+  slots-after-length = go (there es x) (slot-left (length slots) count) (room-left (length room) used (length text)) refl refl
+    where
+      go : (t s r : Bool) → slot-left (length slots) count ≡ s → room-left (length room) used (length text) ≡ r
+          → length (pick (not t && (s && r)) (put-at (count * slot-bytes) (slot-of e used (length text)) slots) slots) ≡ length slots
+      go true s r a b = refl
+      go false true true a b = put-length (count * slot-bytes) (slot-of e used (length text)) slots (a-slot a b)
+      go false true false a b = refl
+      go false false r a b = refl
+
+  pub room-after-length : length (room-after slots room count used e text) ≡ length room
+  unfolding room-after enters pick
+  room-after-length = go (there es x) (slot-left (length slots) count) (room-left (length room) used (length text)) refl refl
+    where
+      go : (t s r : Bool) → slot-left (length slots) count ≡ s → room-left (length room) used (length text) ≡ r
+          → length (pick (not t && (s && r)) (put-at used text room) room) ≡ length room
+      go true s r a b = refl
+      go false true true a b = put-length used text room (its-room a b)
+      go false true false a b = refl
+      go false false r a b = refl
+
+  -- no more is used than the text takes
+  pub added-used : (n u : ℕ) → added slots room count used e text ≡ Fits n u → u ≤ used + length text
+  unfolding added answer pick
+  added-used n u q = go (there es x) (slot-left (length slots) count) (room-left (length room) used (length text)) q
+    where
+      go : (t s r : Bool) → pick t (Fits count used) (pick s (pick r (Fits (count + 1) (used + length text)) (NoRoom (e .from))) (NoSlot (e .from))) ≡ Fits n u
+          → u ≤ used + length text
+      go true s r q = let p : used ≡ u = cc in omega arith
+      go false true true q = let p : used + length text ≡ u = cc in omega arith
+      go false true false q = absurd (let z : _≡_ {A = ℕ} 0 1 = cc in omega arith)
+      go false false r q = absurd (let z : _≡_ {A = ℕ} 0 1 = cc in omega arith)

@@ -1,13 +1,14 @@
 -- What is asked of all edges: a test of each that passes another, from slot to slot.
 use Prim.Native.Nat.{ℕ, zero, suc, _+_, _-_, _*_, _<_, _≤_}
 use mathlib.Core.Bool.{Bool, true, false, _&&_, _||_}
-use mathlib.Core.List.{List, [], _∷_}
+use mathlib.Core.List.{List, []}
 use mathlib.Core.Option.{Option, none, some}
 use mathlib.Core.Path.{_≡_, refl, sym, ap, _∙_}
 use native.Mathlib.Omega.{arith}
 use lib.ListN.{length, drop, length-drop}
 use Rattle.base.specs.Pick.{pick}
 use Rattle.base.specs.Lists.{put, keep, any, best-of, best}
+use Rattle.base.specs.ListLaws.{any-keep}
 use Rattle.base.specs.Rows.{counted, counted-none, counted-some, AllOf}
 use Rattle.definition.specs.Limits.{slot-bytes}
 use Rattle.edge.specs.Stored.{Slot, Stored, slot-agree}
@@ -40,16 +41,6 @@ unfoldable pub letter-edge : List Class → ℕ → Edge → Bool
 letter-edge ks p x = eqb (x .to) p && last-is (alpha ks) (x .text)
 
 module _ {A : Type 0} where
-  -- any of those kept
-  pub any-keep : (f g : A → Bool) (l : List A) → any f (keep g l) ≡ any (λ x. g x && f x) l
-  unfolding any keep
-  any-keep f g [] = refl
-  any-keep f g (x ∷ l) = go (g x) (any-keep f g l)
-    where
-      go : (b : Bool) → any f (keep g l) ≡ any (λ x. g x && f x) l → any f (put b x (keep g l)) ≡ ((b && f x) || any (λ x. g x && f x) l)
-      go true e = ap (λ (t : Bool). f x || t) e
-      go false e = e
-
   -- the best of those seen and of a list
   unfoldable pub best-after : (A → A → Bool) → Option A → List A → Option A
   best-after beats none l = best beats l

@@ -5,13 +5,9 @@ use mathlib.Core.Path.{_≡_, refl, sym, ap, _∙_, subst}
 use native.Mathlib.Omega.{arith}
 use native.Mathlib.Nat.{add-comm, zero-mul, suc-mul}
 use lib.ListN.{take, drop}
-use lib.Seq.{drop-drop, take-take, take-nil}
+use lib.Seq.{drop-drop, take-take}
+use Rattle.base.specs.ListLaws.{drop-take}
 use Rattle.base.specs.Rows.{counted, AllOf}
-
-pub drop-take : (i n : ℕ) (l : List ℕ) → drop i (take (i + n) l) ≡ take n (drop i l)
-drop-take zero n l = ap (λ (k : ℕ). take k l) {x = 0 + n} {y = n} (omega arith)
-drop-take (suc i) n [] = ap (λ (l : List ℕ). drop (suc i) l) (take-nil (suc i + n)) ∙ sym (take-nil n)
-drop-take (suc i) n (x ∷ l) = ap (λ (k : ℕ). drop (suc i) (take k (x ∷ l))) {x = suc i + n} {y = suc (i + n)} (omega arith) ∙ drop-take i n l
 
 -- the next row's start, counted from the front and from the second row
 next-row : (size n : ℕ) (s : List ℕ) → drop (n * size) (drop size s) ≡ drop (suc n * size) s

@@ -80,7 +80,7 @@ module _ (slots room : List ℕ) (count used : ℕ) (e : Numbers) (text : List �
       (ap (λ n. leb n (length room - used)) (written-bytes used e text w) ∙ k)
 
   -- what adding answered
-  abbrev Told : Added → Type 0
+  abbrev pub Told : Added → Type 0
   Told (Fits n u) = Unit {0}
   Told (NoSlot p) = (p ≡ e .from) × Stopped 9
   Told (NoRoom p) = (p ≡ e .from) × Stopped 10

@@ -5,6 +5,7 @@ use mathlib.Core.Path.{_≡_, refl, sym, ap, _∙_, subst}
 use native.Mathlib.Omega.{arith}
 use lib.ListN.{length, getD, take, drop, length-drop, length-take}
 use lib.Seq.{take-take, getD-take, length-take-le}
+use Rattle.base.specs.ListLaws.{drop-take}
 use Rattle.base.specs.Rows.{counted, counted-length, AllOf}
 use Rattle.definition.specs.Limits.{slot-bytes}
 use Rattle.definition.specs.Utf8.{encoded}
@@ -12,7 +13,6 @@ use Rattle.definition.specs.Capacity.{bytes}
 use Rattle.definition.specs.Growth.{all-bytes}
 use Rattle.utf8.specs.Encodings.{TextBytes}
 use Rattle.edge.specs.Slots.{offset-of, length-of, bytes-of, edge-by, numbers-of, edge-of, edges-of}
-use Rattle.edge.specs.Counted.{drop-take}
 
 pub record Slot (room : List ℕ) (used : ℕ) (s : List ℕ) : Type 0 where
   pub row : slot-bytes ≤ length s

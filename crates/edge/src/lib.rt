@@ -23,6 +23,38 @@ ghost use Rattle.edge.specs.Best.{edge-at, Found, touches, longer, neigh
 ghost use Rattle.edge.specs.Behind.{text-at, spoken, back-from};
 use utf8::LastChar;
 
+// Annotations by their numbers in a listing: plain, with a core, a tail, expanded, a deleted character.
+pub const ROM: u8 = 1;
+
+pub const CORE: u8 = 2;
+
+pub const TAIL: u8 = 3;
+
+pub const EXPANDED: u8 = 4;
+
+pub const DELETED: u8 = 5;
+
+// A fallback: by simple search, of the categories Mn, Cf, Co and Zs, or the character itself.
+pub const SINGLE: u8 = 6;
+
+pub const MN: u8 = 7;
+
+pub const CF: u8 = 8;
+
+pub const CO: u8 = 9;
+
+pub const ZS: u8 = 10;
+
+pub const ORIG: u8 = 11;
+
+// An alternative of a rule, and a target where an end-of-syllable target was taken.
+pub const ALT: u8 = 12;
+
+pub const ALT3: u8 = 14;
+
+// Nothing yet.
+pub const UNTOUCHED: u8 = 0;
+
 // An edge without its text: start, end, annotation and core length.
 pub struct Numbers {
     pub from: usize,

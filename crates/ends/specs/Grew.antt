@@ -6,19 +6,14 @@ use mathlib.Core.Path.{_≡_, refl, ap, _∙_}
 use native.Mathlib.Omega.{arith}
 use lib.ListN.{length, take, length-append, drop-of-length-le}
 use lib.Seq.{slice, length-slice, length-take-le, take-length, drop-append-seam}
-use borrow.Author.Tests.{ne-eqb}
 use Rattle.base.specs.Pick.{pick}
 use Rattle.base.specs.Lists.{all, same, starts}
-use Rattle.base.specs.ListLaws.{starts-append, same-none, empty-is}
+use Rattle.base.specs.ListLaws.{starts-append, same-some}
 use Rattle.definition.specs.Texts.{Text, vowels}
 use Rattle.definition.specs.Building.{grown}
 use Rattle.ends.specs.Shown.{Within, shown, chosen}
 use Rattle.ends.specs.declared.Forms.{Forms}
 use Rattle.ends.specs.declared.Which.{Which}
-
--- a text that holds something
-pub same-some : (l : Text) → 0 < length l → same l [] ≡ false
-same-some l h = same-none l ∙ empty-is l ∙ ne-eqb (length l) 0 (λ z. omega arith)
 
 -- `grown`, of what is behind
 abbrev G : Bool → Text → Bool

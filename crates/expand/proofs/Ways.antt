@@ -39,11 +39,6 @@ unfolding maybe
 there none d e = absurd (true≢false (sym e))
 there (some x) d e = refl
 
-pub some-text : (w : Text) → (length w ≡ 0 → ⊥) → same w [] ≡ false
-unfolding same
-some-text [] h = absurd (h refl)
-some-text (c ∷ w) h = refl
-
 pub no-text : (w : Text) → length w ≡ 0 → same w [] ≡ true
 unfolding same
 no-text [] h = refl

@@ -31,11 +31,6 @@ use rom::Rom;
 use rules::Chosen;
 use steps::Work;
 
-// Scripts by their numbers in the class table.
-const THAI: u32 = 1;
-
-const COPTIC: u32 = 2;
-
 // U+0300, the grave over a Coptic letter.
 const GRAVE: u32 = 0x0300;
 
@@ -55,13 +50,6 @@ const KATAKANA_YU: u32 = 0x30E5;
 
 const KATAKANA_YO: u32 = 0x30E7;
 
-// The annotations of what was not expanded, of what was, and of what was deleted.
-const NOT_EXPANDED: u8 = 0;
-
-const EXPANDED: u8 = 4;
-
-const DELETED: u8 = 5;
-
 // Does a grave stand over a Coptic character, the last of the span?
 fn has_grave(line: &[u32], kinds: &[u32], w: Work) -> bool
     requires { ⌜ w .to ≤ most-characters ⌝ }
@@ -69,7 +57,7 @@ fn has_grave(line: &[u32], kinds: &[u32], w: Work) -> bool
         → r ≡ has-grave (lexicon-of rules classes code) (text-of (now (line .entry)) n) v (work-of w)) ⌝ }
 {
     if words::number_at(line, w.to + 1) == GRAVE {
-        return classes::script(words::number_at(kinds, w.to)) == COPTIC;
+        return classes::script(words::number_at(kinds, w.to)) == classes::COPTIC;
     }
     false
 }
@@ -86,7 +74,7 @@ fn put_grave(w: Work) -> Work
         rom: made,
         from: w.from,
         to: w.to + 1,
-        note: EXPANDED,
+        note: edge::EXPANDED,
     }
 }
 
@@ -226,7 +214,7 @@ fn put_small(rules: &[u8], target: Chosen, w: Work) -> Work
         rom: made,
         from: w.from,
         to: w.to + 1,
-        note: EXPANDED,
+        note: edge::EXPANDED,
     }
 }
 
@@ -392,8 +380,8 @@ fn is_in_thai(kinds: &[u32], w: Work) -> bool
         → r ≡ (eqb (script (classes-of classes) (prev (text-of line n) (w .from))) script-thai
         && eqb (script (classes-of classes) (at (text-of line n) (w .to))) script-thai)) ⌝ }
 {
-    if classes::script(words::number_at(kinds, w.from)) == THAI {
-        return classes::script(words::number_at(kinds, w.to + 1)) == THAI;
+    if classes::script(words::number_at(kinds, w.from)) == classes::THAI {
+        return classes::script(words::number_at(kinds, w.to + 1)) == classes::THAI;
     }
     false
 }
@@ -481,7 +469,7 @@ fn o_ang_step(
             rom: rom::new(),
             from: w.from,
             to: w.to,
-            note: DELETED,
+            note: edge::DELETED,
         };
     }
     rest(
@@ -569,7 +557,7 @@ fn by_script(
     ensures { λ r. ⌜ Did (by-script (lexicon-of (now (rules .entry)) (now (classes .entry)) (now (code .entry))) (text-of (now (line .entry)) n)
         (view-of (now (classes .entry)) (now (slots .entry)) (now (room .entry)) count) o (work-of w) (now (starts .entry))) (work-of r) (now (starts .exit)) × Clean (r .rom) ⌝ }
 {
-    if classes::script(words::number_at(kinds, o + 1)) == THAI {
+    if classes::script(words::number_at(kinds, o + 1)) == classes::THAI {
         return thai(
             rules,
             index,
@@ -632,7 +620,7 @@ pub fn expand_rom_with_special_chars(
         rom: r,
         from: s,
         to: e,
-        note: NOT_EXPANDED,
+        note: edge::UNTOUCHED,
     };
     if r.len == 0 {
         return w;

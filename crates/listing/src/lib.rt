@@ -1,16 +1,18 @@
 // The bytes of an output: a listing's header and its rows, or the texts of a string.
 ghost use mathlib.Core.Path.{_≡_};
 ghost use mathlib.Core.List.{_∷_, _++_};
-ghost use Prim.Native.Nat.{_+_, _≤_};
+ghost use Prim.Native.Nat.{_+_, _<_, _≤_};
 ghost use lib.ListN.{length, drop};
 ghost use Rattle.base.specs.Big.{four};
 ghost use Rattle.definition.specs.Utf8.{encoded};
 ghost use Rattle.definition.specs.Capacity.{bytes};
 ghost use Rattle.definition.specs.Listing.{edge-row};
+ghost use Rattle.utf8.specs.Encodings.{TextBytes};
 ghost use Rattle.room.specs.Puts.{put-at};
 ghost use Rattle.edge.specs.Slots.{length-of, edge-by, edge-of};
 ghost use Rattle.edge.specs.Stored.{Slot};
 ghost use Rattle.listing.specs.Rows.{row-head, row-of, row-size};
+ghost use Rattle.listing.specs.Items.{item, put-bytes};
 
 // The header of a listing whose rows take `rows` bytes: version 1, and that number in four bytes.
 pub fn put_header(out: &mut [u8], rows: usize)
@@ -63,7 +65,7 @@ pub fn put_row(out: &mut [u8], at: usize, e: edge::Numbers, text: &[u8], more: &
 
 // How many bytes the row of the edge in a slot takes.
 pub fn edge_row_len(slots: &[u8], slot: usize) -> usize
-    ensures { λ r. ⌜ r ≡ 8 + length-of (drop slot (now (slots .entry))) ⌝ }
+    ensures { λ r. ⌜ (r ≡ 8 + length-of (drop slot (now (slots .entry)))) × (r < 65544) ⌝ }
 {
     8 + edge::text_len(slots, slot)
 }
@@ -94,4 +96,44 @@ pub fn put_edge_row(out: &mut [u8], at: usize, slots: &[u8], room: &[u8], slot: 
         edge::text_len(slots, slot),
     );
     put_edge_text(out, at + 8, slots, room, slot)
+}
+
+// The row of the edge in a slot, or in a string its text alone. Where it does not fit nothing is written, but it is
+// counted. A row has at most 65543 bytes: eight, and a text whose length has two bytes.
+pub fn put_item(
+    out: &mut [u8],
+    at: usize,
+    slots: &[u8],
+    room: &[u8],
+    slot: usize,
+    rows: bool,
+) -> usize
+    requires { ⌜ Slot (now room) (length (now room)) (drop slot (now slots)) × (at < 9223372036854775808) ⌝ }
+    ensures { λ r. ⌜ ((r, now (out .exit)) ≡ put-bytes (item rows (edge-of (now (room .entry)) (drop slot (now (slots .entry))))) (at, now (out .entry)))
+        × (r ≤ at + 65543) ⌝ }
+{
+    if rows {
+        let end = at + edge_row_len(slots, slot);
+        if out.len() < end {
+            return end;
+        }
+        return put_edge_row(out, at, slots, room, slot);
+    }
+    let end = at + edge::text_len(slots, slot);
+    if out.len() < end {
+        return end;
+    }
+    put_edge_text(out, at, slots, room, slot)
+}
+
+// A row whose text is `text` and, behind it, `more`, likewise.
+pub fn put_other(out: &mut [u8], at: usize, e: edge::Numbers, text: &[u8], more: &[u8]) -> usize
+    requires { ⌜ (at < 9223372036854775808) × (length (now text) < 65536) × (length (now more) < 65536) × TextBytes (now text ++ now more) ⌝ }
+    ensures { λ r. ⌜ (r, now (out .exit)) ≡ put-bytes (row-of (edge-by e (now (text .entry) ++ now (more .entry)))) (at, now (out .entry)) ⌝ }
+{
+    let end = at + 8 + text.len() + more.len();
+    if out.len() < end {
+        return end;
+    }
+    put_row(out, at, e, text, more)
 }

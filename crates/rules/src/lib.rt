@@ -149,6 +149,20 @@ fn holds_at(
     false
 }
 
+// Do code and word flags hold, where it is known whether the span is at a start and at an end of word?
+pub fn holds(rules: &[u8], code: &[u8], row: usize, start: bool, end: bool) -> bool
+    requires { ⌜ Row (drop row (now rules)) ⌝ }
+    ensures { λ r. ⌜ r ≡ holds-at (now (code .entry)) start end (rule-of (drop row (now (rules .entry)))) ⌝ }
+{
+    if matches_lcode(rules, code, row) {
+        if start_holds(rules, row, start) {
+            return end_holds(rules, row, end);
+        }
+        return false;
+    }
+    false
+}
+
 // Is the rule in a row valid for a span? The start of a word is asked only where a flag asks it, but then also under a
 // foreign language code: it is remembered.
 pub fn cand_is_valid(

@@ -20,13 +20,6 @@ ghost use Rattle.steps.specs.Works.{work-of, Tries, first-of, last-of, l
 use rom::Rom;
 use rules::Chosen;
 
-// Scripts by their numbers in the class table.
-const THAI: u32 = 1;
-
-const HIRAGANA: u32 = 3;
-
-const KATAKANA: u32 = 4;
-
 // U+3063 and U+30C3, small tsu of the two, and U+0A71, addak, which double a consonant.
 const HIRAGANA_TSU: u32 = 0x3063;
 
@@ -42,9 +35,6 @@ const SPACE: u32 = 0x20;
 
 // U+30FC, the mark that lengthens a kana's vowel.
 const LONG_MARK: u32 = 0x30FC;
-
-// The annotation of what was expanded.
-const EXPANDED: u8 = 4;
 
 // What the expansion works on: a romanization, its span, and its annotation, 0 while nothing was expanded.
 pub struct Work {
@@ -128,7 +118,7 @@ fn put_front(w: Work, letter: u8) -> Work
         rom: made,
         from: w.from - 1,
         to: w.to,
-        note: EXPANDED,
+        note: edge::EXPANDED,
     }
 }
 
@@ -172,7 +162,7 @@ fn put_behind(rules: &[u8], target: Chosen, w: Work, k: usize) -> Tried
             rom: made,
             from: w.from - 1,
             to: w.to + k,
-            note: EXPANDED,
+            note: edge::EXPANDED,
         };
         return Tried { work, done: true };
     }
@@ -261,7 +251,7 @@ fn is_before(kind: u32, r: Rom) -> bool
     requires { ⌜ Clean r ⌝ }
     ensures { λ b. ⌜ b ≡ before-by (kind / 8 % 128) (flagged (kind / 1024) 6) (text r) ⌝ }
 {
-    if classes::script(kind) == THAI {
+    if classes::script(kind) == classes::THAI {
         if classes::class_flag(kind, classes::PRE) {
             return rom::is_in(rom::CONSONANTS, first(r) as u32);
         }
@@ -296,10 +286,10 @@ pub fn before(rules: &[u8], index: &[u32], line: &[u32], kinds: &[u32], n: usize
 fn is_kana(script: u32) -> bool
     ensures { λ r. ⌜ r ≡ kana script ⌝ }
 {
-    if script == HIRAGANA {
+    if script == classes::HIRAGANA {
         return true;
     }
-    script == KATAKANA
+    script == classes::KATAKANA
 }
 
 // Does the character `c` lengthen a romanization: the long mark, after a kana and a vowel?
@@ -386,7 +376,7 @@ fn lengthen(w: Work) -> Work
         rom: made,
         from: w.from,
         to: w.to + 1,
-        note: EXPANDED,
+        note: edge::EXPANDED,
     }
 }
 
@@ -409,7 +399,7 @@ pub fn finish(line: &[u32], kinds: &[u32], n: usize, w: Work) -> Work
             rom: old,
             from: w.from,
             to: at,
-            note: EXPANDED,
+            note: edge::EXPANDED,
         };
     }
     trim(line, n, w)

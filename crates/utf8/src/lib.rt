@@ -194,6 +194,22 @@ pub fn encode(c: u32) -> Encoded
     }
 }
 
+// How many they are.
+pub fn encoded_len(c: u32) -> usize
+    ensures { λ r. ⌜ (r ≡ length (encode c)) × (r ≤ 4) ⌝ }
+{
+    if c <= 0x7F {
+        return 1;
+    }
+    if c <= 0x7FF {
+        return 2;
+    }
+    if c <= 0xFFFF {
+        return 3;
+    }
+    4
+}
+
 // Is a character Tibetan, Braille or a Hangul syllable, which are left out?
 pub fn left_out(c: u32) -> bool
     ensures { λ r. ⌜ r ≡ left-out c ⌝ }

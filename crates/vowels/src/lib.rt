@@ -30,12 +30,6 @@ ghost use Rattle.vowels.specs.Ways.{keeping, silent, inside, settled};
 // U+1799, the Khmer yo.
 const KHMER_YO: u32 = 0x1799;
 
-// A nonspacing mark, in the class table.
-const NONSPACING: u32 = 2;
-
-// Devanagari, in the class table.
-const DEVANAGARI: u32 = 5;
-
 // What the vowel step made: the romanization, and whether it only put vowels behind it.
 pub struct Voiced {
     pub rom: Rom,
@@ -65,7 +59,7 @@ fn is_keeping(code: &[u8]) -> bool
 fn keeps_end(code: &[u8], script: u32) -> bool
     ensures { λ r. ⌜ r ≡ keeps-end (now (code .entry)) script ⌝ }
 {
-    if script == DEVANAGARI {
+    if script == classes::DEVANAGARI {
         if room::same(code, b"san") {
             return is_keeping(code);
         }
@@ -79,7 +73,7 @@ fn is_marked(kind: u32, next: u32, k: u32) -> bool
     requires { ⌜ k < 8 ⌝ }
     ensures { λ r. ⌜ r ≡ (eqb (kind % 8) 2 && flagged (next / 1024) k) ⌝ }
 {
-    classes::category(kind) == NONSPACING && classes::class_flag(next, k)
+    classes::category(kind) == classes::NONSPACING && classes::class_flag(next, k)
 }
 
 // Is no vowel spoken before a character of this class, and the one behind it?

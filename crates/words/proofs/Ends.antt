@@ -2,14 +2,14 @@
 use mathlib.Core.Bool.{Bool, true, false, not, _&&_, _||_, and-false}
 use mathlib.Core.List.{List}
 use mathlib.Core.Option.{none}
-use mathlib.Core.Path.{_≡_, refl, sym, ap, _∙_, subst}
+use mathlib.Core.Path.{_≡_, sym, ap, _∙_, subst}
 use Prim.Native.Nat.{ℕ, _+_, _-_, _<_, _≤_}
 use native.Mathlib.Omega.{arith}
 use lib.Dec.{eqb}
 use lib.ListN.{getD, take, drop}
 use borrow.Author.Tests.{eq-eqb, ne-eqb}
 use Rattle.base.specs.Alls.{All, All-map, Opt, any-cong}
-use Rattle.base.specs.Bits.{bit}
+use Rattle.base.specs.Bits.{is-set}
 use Rattle.base.specs.Lists.{any, is}
 use Rattle.base.specs.Pick.{pick}
 use Rattle.definition.specs.Limits.{most-target}
@@ -29,10 +29,6 @@ use Rattle.words.specs.Given.{text-of, part, Lined, part-at}
 use Rattle.words.specs.Spans.{prefix-is, spanning}
 use Rattle.words.specs.Found.{Rows, rules-in, none-in, one-in, next-rows, found-rows, found-are}
 use Rattle.words.specs.Goes.{brings, letter-byte, goes-from, goes-over, goes-stops, goes-next}
-
-is-set : (b : Bool) → eqb (bit b) 1 ≡ b
-is-set true = refl
-is-set false = refl
 
 -- a byte of a text, as it was told
 module _ (alphas text : List ℕ) (i c b : ℕ) (e : c ≡ getD text i 0) (f : b ≡ getD alphas c 0) where

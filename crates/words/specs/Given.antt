@@ -8,6 +8,7 @@ use native.Mathlib.Numerals.{add-one}
 use lib.Dec.{leb}
 use lib.ListN.{length, getD, take, drop, replicate, length-append, length-replicate}
 use lib.Seq.{take-all, take-take, drop-drop, take-append-seam}
+use Rattle.base.specs.ListLaws.{drop-take}
 use Rattle.definition.specs.Limits.{most-characters}
 use Rattle.definition.specs.Texts.{Text, the-space, at, prev}
 use Rattle.definition.specs.ClassRows.{classes-of}
@@ -18,7 +19,6 @@ use Rattle.utf8.specs.Puts.{puts, puts-all, puts-length}
 use Rattle.classes.specs.Told.{Fine, kinds-of}
 use Rattle.classes.specs.Packing.{Says, says, says-alpha, kinds-at}
 use Rattle.edge.specs.Slots.{edges-of}
-use Rattle.edge.specs.Counted.{drop-take}
 
 -- the text's `n` characters, and what is asked of the edges in the slots
 abbrev pub text-of : List ℕ → ℕ → Text

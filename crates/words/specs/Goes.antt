@@ -9,9 +9,8 @@ use lib.Dec.{eqb, leb}
 use lib.ListN.{length, getD}
 use borrow.Author.Tests.{le-leb, lt-leb, eq-eqb, ne-eqb, leb-true}
 use Rattle.base.specs.Lists.{keep, any, is}
-use Rattle.base.specs.ListLaws.{any-elim, any-implies}
+use Rattle.base.specs.ListLaws.{any-elim, any-implies, any-keep}
 use Rattle.base.specs.Bools.{and-left, and-right}
-use Rattle.edge.specs.Asked.{any-keep}
 use Rattle.base.specs.Alls.{All, All-each, All-map, any-cong}
 use Rattle.definition.specs.Texts.{Text, stands, fits, begins}
 use Rattle.definition.specs.Tables.{Rule, Class}

@@ -1,23 +1,18 @@
 -- `classes::is_letter`: either way a bit that is 1 just for a letter or mark.
-use mathlib.Core.Bool.{Bool, true, false}
 use mathlib.Core.List.{List}
-use mathlib.Core.Path.{_≡_, refl, ap, _∙_}
+use mathlib.Core.Path.{ap, _∙_}
 use Prim.Native.Nat.{ℕ}
 use native.Mathlib.Omega.{arith}
 use lib.Dec.{eqb}
 use lib.ListN.{getD}
 use denote.Ref.{now}
 use borrow.Author.Needs.{needs}
-use Rattle.base.specs.Bits.{bit}
+use Rattle.base.specs.Bits.{is-set}
 use Rattle.definition.specs.ClassRows.{classes-of}
 use Rattle.definition.specs.Classes.{alpha}
 use Rattle.classes.specs.Packing.{alphas-at}
 use Rattle.classes.proofs.is_letter.Statement.{statement}
 use Rattle.classes.proofs.is_letter.Tie as tie
-
-is-set : (b : Bool) → eqb (bit b) 1 ≡ b
-is-set true = refl
-is-set false = refl
 
 byte-requires : tie.Need-byte-requires
 byte-requires c κs = search needs

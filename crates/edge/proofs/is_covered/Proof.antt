@@ -7,11 +7,12 @@ use native.Mathlib.Omega.{arith}
 use lib.Dec.{eqb}
 use lib.ListN.{length, drop}
 use denote.Ref.{now}
+use Rattle.base.specs.ListLaws.{any-keep}
 use Rattle.base.specs.Lists.{any}
 use Rattle.definition.specs.Limits.{slot-bytes}
 use Rattle.definition.specs.Edges.{Edge, starting, covered}
 use Rattle.edge.specs.Slots.{edge-of, edges-of}
-use Rattle.edge.specs.Asked.{any-keep, any-over, any-here, any-next}
+use Rattle.edge.specs.Asked.{any-over, any-here, any-next}
 use borrow.Author.Needs.{needs}
 use Rattle.edge.proofs.is_covered.Statement.{statement}
 use Rattle.edge.proofs.is_covered.Tie as tie

@@ -11,7 +11,7 @@ use Rattle.definition.specs.Texts.{consonants}
 use Rattle.definition.specs.Vowels.{consonant-only}
 use Rattle.rom.specs.Sets.{member, consonants-set, in-consonants}
 use Rattle.ends.specs.Back.{slice-lent}
-use Rattle.ends.specs.Grew.{same-some}
+use Rattle.base.specs.ListLaws.{same-some}
 use Rattle.ends.proofs.consonant_only.Statement.{statement}
 use Rattle.ends.proofs.consonant_only.Tie as tie
 

@@ -2,6 +2,7 @@
 use mathlib.Core.Path.{sym, ap}
 use native.Mathlib.Omega.{arith}
 use denote.Ref.{now}
+use Rattle.base.specs.ListLaws.{same-some}
 use Rattle.definition.specs.Notes.{note-none}
 use Rattle.definition.specs.Expansion.{work}
 use Rattle.definition.specs.Expansion as expansion
@@ -9,7 +10,7 @@ use Rattle.rom.specs.Rom.{text, text-length}
 use Rattle.words.specs.Given.{text-of, view-of}
 use Rattle.rules.specs.Lent.{lexicon-of}
 use Rattle.expand.specs.Tests.{nothing-to-expand, expanded}
-use Rattle.expand.proofs.Ways.{some-text, no-text, doubled-there}
+use Rattle.expand.proofs.Ways.{no-text, doubled-there}
 use borrow.Author.Needs.{needs}
 use Rattle.expand.proofs.expand_rom_with_special_chars.Statement.{statement}
 use Rattle.expand.proofs.expand_rom_with_special_chars.Tie as tie
@@ -56,7 +57,7 @@ returns-2 c =
     let m = now (a .starts) in
     let e = c .before .before .before .before .double .ensures .0 (now (a .classes)) (p .0 .read .text) in
     let x = c .before .before .by-script .ensures in
-    (expanded L t v (text (a .r)) (a .s) (a .e) m (some-text (text (a .r)) (λ k. omega (arith, k, text-length (p .1)))) (rw (sym e) (x .0)), x .1)
+    (expanded L t v (text (a .r)) (a .s) (a .e) m (same-some (text (a .r)) (omega (arith, text-length (p .1)))) (rw (sym e) (x .0)), x .1)
 
 pub expand-rom-with-special-chars-spec : {M : Type 1} → statement M
 expand-rom-with-special-chars-spec =

@@ -1,0 +1,201 @@
+-- A row's texts by its flags, and what they are to an edge: one law for each answer.
+use mathlib.Core.Bool.{Bool, true, false, _&&_, _||_, true≢false}
+use mathlib.Core.List.{List, [], _++_, map, append-nil}
+use mathlib.Core.Option.{none, some}
+use mathlib.Core.Path.{_≡_, refl, sym, ap, _∙_, subst}
+use Prim.Native.Nat.{ℕ, _-_, _≤_, _<_}
+use native.Mathlib.Omega.{arith}
+use lib.ListN.{length, getD, take, drop, length-map, length-drop}
+use lib.Seq.{take-all}
+use borrow.Author.Tests.{eq-eqb, ne-eqb}
+use Rattle.base.specs.Pick.{pick}
+use Rattle.base.specs.Lists.{has, is, maybe, same}
+use Rattle.base.specs.Alls.{All, All-getD, Opt}
+use Rattle.definition.specs.Limits.{most-target}
+use Rattle.definition.specs.Notes.{note-core, note-alt}
+use Rattle.definition.specs.Texts.{Text}
+use Rattle.definition.specs.Tables.{Rule}
+use Rattle.definition.specs.Utf8.{decoded}
+use Rattle.definition.specs.RuleRows.{rule-flag, target-bit, end-target-bit, target-at, end-target-at, text-of, text-where, rule-of}
+use Rattle.definition.specs.Edges.{Edge}
+use Rattle.definition.specs.Paths.{cored, other}
+use Rattle.definition.specs.Shorts.{Low, Short, short-none}
+use Rattle.definition.specs.ExpandBounds.{Spoken as Worded}
+use Rattle.definition.specs.Alternatives.{edge-vowel}
+use Rattle.definition.specs.Offers.{target-offers, offers}
+use Rattle.utf8.specs.Encodings.{TextBytes, low-bytes, low-decoded, same-decoded}
+use Rattle.rulerow.specs.Others.{others}
+use Rattle.edge.specs.declared.Numbers.{Numbers}
+use Rattle.edge.specs.Slots.{edge-by}
+use Rattle.offers.specs.declared.Offers.{Offers}
+use Rattle.offers.specs.Texts.{texts, Spoken, Tells, count-of, target-there, cored-is, by-other, by-target, text-at, core-own, core-note}
+
+-- An ASCII text against the bytes of another
+pub same-bytes : (w b : List ℕ) → All Low w → TextBytes b → same w (decoded b) ≡ same w b
+same-bytes w b l t = ap (λ u. same u (decoded b)) (sym (low-decoded w l)) ∙ same-decoded (low-bytes w l) t
+
+-- Is it the core of an edge; does it give its alternatives?
+module _ (e : Numbers) (b w : List ℕ) where
+  abbrev X : Edge
+  X = edge-by e b
+
+  pub core-none : (e .note ≡ note-core → ⊥) → false ≡ cored X w
+  unfolding cored edge-by
+  core-none h = sym (ap (λ (y : Bool). y && same w (take (e .core) (decoded b))) (ne-eqb (e .note) note-core h))
+
+  pub core-same : Spoken e b → e .note ≡ note-core → same w (take (e .core) b) ≡ cored X w
+  unfolding cored edge-by
+  core-same h n = sym
+      (ap (λ (y : Bool). y && same w (take (e .core) (decoded b))) (eq-eqb (e .note) note-core n)
+      ∙ ap (λ l. same w (take (e .core) l)) (core-own h n))
+
+  module _ (h : Spoken e b) (l : All Low w) where
+    pub taken-whole : same w b ≡ true → true ≡ (same w (X .text) || cored X w)
+    unfolding edge-by
+    taken-whole z = sym (ap (λ (y : Bool). y || cored X w) (same-bytes w b l (h .text) ∙ z))
+
+    pub taken-core : same w b ≡ false → cored X w ≡ (same w (X .text) || cored X w)
+    unfolding edge-by
+    taken-core z = sym (ap (λ (y : Bool). y || cored X w) (same-bytes w b l (h .text) ∙ z))
+
+-- The texts of a row by their flags
+module _ (s : List ℕ) where
+  abbrev W : Text
+  W = text-of (drop (target-at s) s)
+
+  abbrev U : Text
+  U = text-of (drop (end-target-at s) s)
+
+  abbrev R : Rule
+  R = rule-of s
+
+  target-flag : (f : Bool) → rule-flag s target-bit ≡ f → R .target ≡ text-where f (drop (target-at s) s)
+  unfolding rule-of
+  target-flag f e = ap (λ (y : Bool). text-where y (drop (target-at s) s)) e
+
+  pub target-some : rule-flag s target-bit ≡ true → R .target ≡ some W
+  unfolding text-where pick
+  target-some e = target-flag true e
+
+  pub target-none : rule-flag s target-bit ≡ false → R .target ≡ none
+  unfolding text-where pick
+  target-none e = target-flag false e
+
+  pub target-short : Worded R → rule-flag s target-bit ≡ true → Short most-target W
+  target-short h e = subst (Opt (Short most-target)) (target-some e) (h .target)
+
+  end-flag : (f : Bool) → rule-flag s end-target-bit ≡ f → R .end-target ≡ text-where f (drop (end-target-at s) s)
+  unfolding rule-of
+  end-flag f e = ap (λ (y : Bool). text-where y (drop (end-target-at s) s)) e
+
+  end-some : rule-flag s end-target-bit ≡ true → R .end-target ≡ some U
+  unfolding text-where pick
+  end-some e = end-flag true e
+
+  pub end-is : Worded R → (b : List ℕ) → TextBytes b → rule-flag s end-target-bit ≡ true
+      → same U b ≡ is (λ u. same u (decoded b)) (R .end-target)
+  end-is h b t e =
+      let l = subst (Opt (Short most-target)) (end-some e) (h .end-target) .low in
+      sym (ap (is (λ u. same u (decoded b))) (end-some e) ∙ same-bytes U b l t)
+
+  pub end-not : (b : List ℕ) → rule-flag s end-target-bit ≡ false → false ≡ is (λ u. same u (decoded b)) (R .end-target)
+  unfolding text-where pick
+  end-not b e = sym (ap (is (λ u. same u (decoded b))) (end-flag false e))
+
+  others-are : R .others ≡ others s
+  unfolding rule-of
+  others-are = refl
+
+  pub other-short : Worded R → (k : ℕ) → Short most-target (getD (others s) k [])
+  unfolding rule-of
+  other-short h k = All-getD (Short most-target) (others s) k [] (h .others) (short-none most-target)
+
+  -- What it offers
+  module _ (x : Edge) where
+    abbrev taken : Bool
+    taken = same W (x .text) || cored x W
+
+    taken-count : (t : Bool) → taken ≡ t → length (target-offers x R W) ≡ pick t (length (others s)) 0
+    unfolding target-offers
+    taken-count t e = ap (λ (y : Bool). length (pick y l [])) e ∙ go t
+      where
+        l : List Edge
+        l = map (λ u. other x note-alt (u ++ edge-vowel x W)) (R .others)
+
+        go : (t : Bool) → length (pick t l []) ≡ pick t (length (others s)) 0
+        go true = unfold pick in (length-map (R .others) (λ u. other x note-alt (u ++ edge-vowel x W)) ∙ ap length others-are)
+        go false = unfold pick in refl
+
+    pub tells : (o : Offers) → rule-flag s target-bit ≡ true → (t : Bool) → taken ≡ t → o .others ≡ pick t (length (others s)) 0
+        → o .cored ≡ cored x W → o .target ≡ is (λ u. same u (x .text)) (R .end-target) → Tells x R o
+    unfolding maybe
+    tells o f t e n c g = record {
+      others = n ∙ sym (ap (λ t. maybe t 0 (λ w. length (target-offers x R w))) (target-some f) ∙ taken-count t e);
+      cored = c ∙ sym (ap (is (cored x)) (target-some f));
+      target = g ∙ sym (ap (λ t. has t && is (λ u. same u (x .text)) (R .end-target)) (target-some f));
+    }
+
+    pub tells-nothing : (o : Offers) → rule-flag s target-bit ≡ false → o .others ≡ 0 → o .cored ≡ false → o .target ≡ false → Tells x R o
+    unfolding maybe
+    tells-nothing o f n c g = record {
+      others = n ∙ sym (ap (λ t. maybe t 0 (λ w. length (target-offers x R w))) (target-none f));
+      cored = c ∙ sym (ap (is (cored x)) (target-none f));
+      target = g ∙ sym (ap (λ t. has t && is (λ u. same u (x .text)) (R .end-target)) (target-none f));
+    }
+
+-- The text of number `k`
+module _ (s : List ℕ) (e : Numbers) (b : List ℕ) (o : Offers) (k : ℕ) (h : Tells (edge-by e b) (rule-of s) o) (l : k < count-of o) where
+  abbrev x : Edge
+  x = edge-by e b
+
+  abbrev r : Rule
+  r = rule-of s
+
+  abbrev d : Edge
+  d = other x 0 []
+
+  pub flag-there : rule-flag s target-bit ≡ true
+  flag-there = go (rule-flag s target-bit) refl
+    where
+      go : (f : Bool) → rule-flag s target-bit ≡ f → f ≡ true
+      go true z = refl
+      go false z =
+          let t = target-there h (omega arith) in
+          absurd (true≢false (ap has (sym (t .1) ∙ target-none s z)))
+
+  there : r .target ≡ some (W s)
+  there = target-some s flag-there
+
+  pub other-there : k < o .others → k < length (others s)
+  unfolding rule-of
+  other-there q = by-other h there k d q .0
+
+  text-other : k < o .others → getD (texts (offers x r)) k [] ≡ getD (others s) k [] ++ edge-vowel x (W s)
+  unfolding other rule-of
+  text-other q = text-at h k d l ∙ ap (λ (c : Edge). c .text) (by-other h there k d q .1)
+
+  pub text-plain : k < o .others → o .cored ≡ false → getD (others s) k [] ≡ getD (texts (offers x r)) k []
+  unfolding pick
+  text-plain q z = sym
+      (text-other q ∙ ap (λ (y : Bool). getD (others s) k [] ++ pick y (drop (x .core) (x .text)) []) (sym (cored-is h there) ∙ z)
+      ∙ append-nil (getD (others s) k []))
+
+  pub note-there : Spoken e b → o .cored ≡ true → e .note ≡ note-core
+  note-there q z = core-note q (W s) (sym (cored-is h there) ∙ z)
+
+  pub text-cored : Spoken e b → k < o .others → o .cored ≡ true
+      → getD (others s) k [] ++ take (length b - e .core) (drop (e .core) b) ≡ getD (texts (offers x r)) k []
+  unfolding pick edge-by
+  text-cored p q z =
+      let own = core-own p (note-there p z) in sym
+      (text-other q ∙ ap (λ (y : Bool). getD (others s) k [] ++ pick y (drop (e .core) (decoded b)) []) (sym (cored-is h there) ∙ z)
+      ∙ ap (λ l. getD (others s) k [] ++ drop (e .core) l) own
+      ∙ ap (λ l. getD (others s) k [] ++ l) (sym (take-all (length b - e .core) (drop (e .core) b) (omega (arith, length-drop (e .core) b)))))
+
+  pub text-target : o .others ≤ k → W s ≡ getD (texts (offers x r)) k []
+  unfolding other count-of pick
+  text-target q = sym (text-at h k d l ∙ ap (λ (c : Edge). c .text) (by-target h there k d (last (o .target) refl) l))
+    where
+      last : (f : Bool) → o .target ≡ f → k ≡ o .others
+      last true z = let p = ap (λ y. pick {A = ℕ} y 1 0) z in omega (arith, p, l, q)
+      last false z = let p = ap (λ y. pick {A = ℕ} y 1 0) z in omega (arith, p, l, q)

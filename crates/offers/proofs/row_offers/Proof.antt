@@ -1,0 +1,136 @@
+-- `offers::row_offers`: the texts still to come have it where all have.
+use mathlib.Core.Bool.{true, false}
+use mathlib.Core.List.{List, []}
+use mathlib.Core.Path.{_≡_, sym, ap, _∙_}
+use Prim.Native.Nat.{ℕ, _-_, _≤_}
+use native.Mathlib.Omega.{arith}
+use lib.ListN.{length, getD, take, drop}
+use denote.Ref.{now}
+use Rattle.base.specs.Lists.{any, same}
+use Rattle.definition.specs.Texts.{Text}
+use Rattle.definition.specs.RuleRows.{rule-of}
+use Rattle.definition.specs.Offers.{offers}
+use Rattle.edge.specs.Slots.{edge-by}
+use Rattle.rom.specs.Rom.{len-by, text-by, clean-by, bytes-length, text-length}
+use Rattle.offers.specs.Texts.{texts, texts-count, texts-few}
+use Rattle.offers.proofs.Seeking.{left-of, left-over, left-none, left-turn}
+use borrow.Author.Needs.{needs}
+use Rattle.offers.proofs.row_offers.Statement.{statement}
+use Rattle.offers.proofs.row_offers.Tie as tie
+
+abbrev Inv-loop : tie.InvT-loop
+Inv-loop rules row e text most w o n k₀ k =
+    let l = texts (offers (edge-by e text) (rule-of (drop row rules))) in
+    left-of w l most k ≡ any (same w) (take most l)
+
+abbrev μ-loop : tie.MeasureT-loop
+μ-loop rules row e text most w o n k₀ k = n - k
+
+abbrev At : Type 0
+At = tie.At-loop Inv-loop μ-loop
+
+abbrev L : At → List Text
+L l = let a = l .before .before .before .before .before .before .args in texts (offers (edge-by (a .e) (now (a .text))) (rule-of (drop (a .row) (now (a .rules)))))
+
+abbrev W : At → Text
+W l = now (l .before .before .before .before .before .before .args .w)
+
+abbrev M : At → ℕ
+M l = l .before .before .before .before .before .before .args .most
+
+few : (l : At) → length (L l) ≤ 256
+few l = texts-few (l .before .before .offers-of .ensures .0) (l .before .before .offers-of .ensures .1)
+
+within : (l : At) → length (L l) ≡ l .before .offers-count .result
+within l = texts-count (l .before .before .offers-of .ensures .0) ∙ sym (l .before .offers-count .ensures)
+
+offers-of-requires : tie.Need-offers-of-requires Inv-loop μ-loop
+offers-of-requires c κs = search needs
+
+offers-count-requires : tie.Need-offers-count-requires Inv-loop μ-loop
+offers-count-requires c κs = c .offers-of .ensures .1
+
+loop-holds : tie.Need-loop-holds Inv-loop μ-loop
+loop-holds c =
+    let a = c .before .before .before .before .before .args in
+    let l = texts (offers (edge-by (a .e) (now (a .text))) (rule-of (drop (a .row) (now (a .rules))))) in
+    let z : a .most - 0 ≡ a .most = omega arith in
+    ap (λ n. any (same (now (a .w))) (take n l)) z
+
+returns : tie.Need-returns Inv-loop μ-loop
+returns c =
+    let l = c .before .before in
+    (left-none (W l) (L l) (M l) (l .loop .k) (omega arith) ∙ l .loop .inv, few l)
+
+offer-text-requires : tie.Need-offer-text-requires Inv-loop μ-loop
+offer-text-requires c κs =
+    let l = c .before .before in
+    let k = l .before .before .before .before .before .before in
+    (k .pre .0, k .pre .1, l .before .before .offers-of .ensures .0, omega (arith, l .before .offers-count .ensures))
+
+array-share-prefix-b : tie.Need-array-share-prefix-b Inv-loop μ-loop
+array-share-prefix-b c =
+    let l = c .before .before .before .before in
+    let T = getD (L l) (l .loop .k) [] in
+    let e = c .before .offer-text .ensures in
+    let q = clean-by T (e .0) (omega (arith, len-by T (e .0), e .1)) in
+    omega (arith, bytes-length q, q .fits)
+
+slice-aggregate-same : tie.Need-slice-aggregate-same Inv-loop μ-loop
+slice-aggregate-same c =
+    let l = c .before .before .before .before .before in
+    let T = getD (L l) (l .loop .k) [] in
+    let e = c .before .before .offer-text .ensures in
+    sym (text-length (clean-by T (e .0) (omega (arith, len-by T (e .0), e .1))))
+
+same-requires : tie.Need-same-requires Inv-loop μ-loop
+same-requires c κs = search needs
+
+returns-2 : tie.Need-returns-2 Inv-loop μ-loop
+returns-2 c =
+    let l = c .before .before .before .before .before .before .before in
+    let T = getD (L l) (l .loop .k) [] in
+    let e = c .before .before .before .before .offer-text .ensures in
+    let u = text-by T (e .0) (omega (arith, len-by T (e .0), e .1)) in
+    let t = left-turn (W l) (L l) (M l) (l .loop .k) (omega (arith, within l)) (omega arith) true (sym (c .if2 .taken) ∙ c .before .same .ensures ∙ ap (same (W l)) u) ∙ l .loop .inv in
+    (t, few l)
+
+add-k : tie.Need-add-k Inv-loop μ-loop
+add-k c = search needs
+
+loop-less : tie.Need-loop-less Inv-loop μ-loop
+loop-less c = search needs
+
+loop-again : tie.Need-loop-again Inv-loop μ-loop
+loop-again c =
+    let l = c .before .before .before .before .before .before .before in
+    let T = getD (L l) (l .loop .k) [] in
+    let e = c .before .before .before .before .offer-text .ensures in
+    let u = text-by T (e .0) (omega (arith, len-by T (e .0), e .1)) in
+    let t = left-turn (W l) (L l) (M l) (l .loop .k) (omega (arith, within l)) (omega arith) false (sym (c .if2 .left) ∙ c .before .same .ensures ∙ ap (same (W l)) u) ∙ l .loop .inv in
+    t
+
+returns-3 : tie.Need-returns-3 Inv-loop μ-loop
+returns-3 c =
+    let l = c .before in
+    (left-over (W l) (L l) (M l) (l .loop .k) (omega (arith, within l)) ∙ l .loop .inv, few l)
+
+pub row-offers-spec : {M : Type 1} → statement M
+row-offers-spec =
+    tie.close
+    (tie.spec
+    Inv-loop
+    μ-loop
+    offers-of-requires
+    offers-count-requires
+    loop-holds
+    returns
+    offer-text-requires
+    array-share-prefix-b
+    slice-aggregate-same
+    same-requires
+    returns-2
+    add-k
+    loop-less
+    loop-again
+    returns-3)

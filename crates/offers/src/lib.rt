@@ -1,0 +1,192 @@
+// What rules offer as alternatives of an edge (paths.rs, `add_alternatives`), and whether a text was offered before.
+// Nothing is kept of what was found: whether an alternative is new is asked again of the rows before it.
+ghost use mathlib.Core.Bool.{_&&_, _||_};
+ghost use mathlib.Core.List.{[]};
+ghost use mathlib.Core.Path.{_≡_};
+ghost use Prim.Native.Nat.{_≤_, _<_};
+ghost use lib.ListN.{length, getD, take, drop};
+ghost use Rattle.base.specs.Lists.{any, is, same};
+ghost use Rattle.base.specs.Alls.{All};
+ghost use Rattle.definition.specs.Shorts.{Low};
+ghost use Rattle.definition.specs.Limits.{most-alternative};
+ghost use Rattle.definition.specs.RuleRows.{rule-of};
+ghost use Rattle.definition.specs.Utf8.{decoded};
+ghost use Rattle.definition.specs.Rules.{holds-at};
+ghost use Rattle.definition.specs.Paths.{cored};
+ghost use Rattle.definition.specs.Offers.{offers, all-offers};
+ghost use Rattle.utf8.specs.Encodings.{TextBytes};
+ghost use Rattle.rom.specs.Rom.{rom};
+ghost use Rattle.edge.specs.Slots.{edge-by};
+ghost use Rattle.words.specs.Found.{Row, Rows};
+ghost use Rattle.offers.specs.Texts.{texts, Spoken, Tells, count-of, holding};
+use edge::Numbers;
+use rom::Rom;
+
+// What a row offers for an edge: how many of its alternatives, with the edge's vowel behind them or not, and its target
+// where its end-of-syllable target was taken.
+pub struct Offers {
+    pub others: usize,
+    pub cored: bool,
+    pub target: bool,
+}
+
+// Is a target the core of an edge?
+fn is_core(e: Numbers, text: &[u8], w: &[u8]) -> bool
+    requires { ⌜ Spoken e (now text) ⌝ }
+    ensures { λ r. ⌜ r ≡ cored (edge-by e (now (text .entry))) (now (w .entry)) ⌝ }
+{
+    if e.note != edge::CORE {
+        return false;
+    }
+    room::same(w, room::part(text, 0, e.core as usize))
+}
+
+// Does it give its alternatives: is it the edge's text, or its core?
+fn is_taken(e: Numbers, text: &[u8], w: &[u8]) -> bool
+    requires { ⌜ Spoken e (now text) × All Low (now w) ⌝ }
+    ensures { λ r. ⌜ r ≡ (same (now (w .entry)) (edge-by e (now (text .entry)) .text) || cored (edge-by e (now (text .entry))) (now (w .entry))) ⌝ }
+{
+    if room::same(w, text) {
+        return true;
+    }
+    is_core(e, text, w)
+}
+
+// Is the row's end-of-syllable target the edge's text?
+fn is_at_end(rules: &[u8], row: usize, text: &[u8]) -> bool
+    requires { ⌜ Row (drop row (now rules)) × TextBytes (now text) ⌝ }
+    ensures { λ r. ⌜ r ≡ is (λ u. same u (decoded (now (text .entry)))) (rule-of (drop row (now (rules .entry))) .end-target) ⌝ }
+{
+    if rulerow::flag(rules, row, rulerow::END_TARGET_BIT) {
+        return room::same(rulerow::end_target_text(rules, row), text);
+    }
+    false
+}
+
+// What a row offers.
+pub fn offers_of(rules: &[u8], row: usize, e: Numbers, text: &[u8]) -> Offers
+    requires { ⌜ Row (drop row (now rules)) × Spoken e (now text) ⌝ }
+    ensures { λ r. ⌜ Tells (edge-by e (now (text .entry))) (rule-of (drop row (now (rules .entry)))) r × (r .others ≤ 255) ⌝ }
+{
+    if rulerow::flag(rules, row, rulerow::TARGET_BIT) {
+        let w = rulerow::target_text(rules, row);
+        let target = is_at_end(rules, row, text);
+        let cored = is_core(e, text, w);
+        if is_taken(e, text, w) {
+            return Offers {
+                others: rulerow::others_count(rules, row),
+                cored,
+                target,
+            };
+        }
+        return Offers {
+            others: 0,
+            cored,
+            target,
+        };
+    }
+    Offers {
+        others: 0,
+        cored: false,
+        target: false,
+    }
+}
+
+// How many texts that are.
+pub fn offers_count(o: Offers) -> usize
+    requires { ⌜ o .others ≤ 255 ⌝ }
+    ensures { λ r. ⌜ r ≡ count-of o ⌝ }
+{
+    if o.target {
+        return o.others + 1;
+    }
+    o.others
+}
+
+// The text of number `k` of them: an alternative, with the edge's vowel where the target is its core, or the target.
+pub fn offer_text(rules: &[u8], row: usize, o: Offers, e: Numbers, text: &[u8], k: usize) -> Rom
+    requires { ⌜ Row (drop row (now rules)) × Spoken e (now text) × Tells (edge-by e (now text)) (rule-of (drop row (now rules))) o × (k < count-of o) ⌝ }
+    ensures { λ r. ⌜ (r ≡ rom (getD (texts (offers (edge-by e (now (text .entry))) (rule-of (drop row (now (rules .entry)))))) k []))
+        × (r .len ≤ most-alternative) ⌝ }
+{
+    if k < o.others {
+        let w = rom::bytes_of(rulerow::other_text(rules, row, k));
+        if o.cored {
+            let core = e.core as usize;
+            return rom::append(w, room::part(text, core, text.len() - core));
+        }
+        return w;
+    }
+    rom::bytes_of(rulerow::target_text(rules, row))
+}
+
+// Is a text among the first `most` that a row offers? It offers 256 at most.
+pub fn row_offers(rules: &[u8], row: usize, e: Numbers, text: &[u8], most: usize, w: &[u8]) -> bool
+    requires { ⌜ Row (drop row (now rules)) × Spoken e (now text) ⌝ }
+    ensures { λ r. ⌜ (r ≡ any (same (now (w .entry))) (take most (texts (offers (edge-by e (now (text .entry))) (rule-of (drop row (now (rules .entry))))))))
+        × (length (texts (offers (edge-by e (now (text .entry))) (rule-of (drop row (now (rules .entry)))))) ≤ 256) ⌝ }
+{
+    let o = offers_of(rules, row, e, text);
+    let n = offers_count(o);
+    let mut k: usize = 0;
+    while k < n {
+        if most <= k {
+            return false;
+        }
+        let u = offer_text(rules, row, o, e, text, k);
+        let b = u.bytes;
+        if room::same(w, &b[..u.len]) {
+            return true;
+        }
+        k += 1;
+    }
+    false
+}
+
+// Does a row offer it, and does its rule hold?
+fn holding_row_offers(
+    rules: &[u8],
+    code: &[u8],
+    start: bool,
+    end: bool,
+    row: usize,
+    e: Numbers,
+    text: &[u8],
+    w: &[u8],
+) -> bool
+    requires { ⌜ Row (drop row (now rules)) × Spoken e (now text) ⌝ }
+    ensures { λ r. ⌜ r ≡ (holds-at (now (code .entry)) start end (rule-of (drop row (now (rules .entry))))
+        && any (same (now (w .entry))) (texts (offers (edge-by e (now (text .entry))) (rule-of (drop row (now (rules .entry))))))) ⌝ }
+{
+    if rules::holds(rules, code, row, start, end) {
+        return row_offers(rules, row, e, text, 256, w);
+    }
+    false
+}
+
+// Is it among all that some rows offer whose rules hold?
+pub fn rows_offer(
+    rules: &[u8],
+    code: &[u8],
+    start: bool,
+    end: bool,
+    first: usize,
+    rows: usize,
+    e: Numbers,
+    text: &[u8],
+    w: &[u8],
+) -> bool
+    requires { ⌜ Rows (now rules) first rows × Spoken e (now text) ⌝ }
+    ensures { λ r. ⌜ r ≡ any (same (now (w .entry))) (texts (all-offers (edge-by e (now (text .entry))) (holding (now (code .entry)) start end (now (rules .entry)) first rows))) ⌝ }
+{
+    let mut row = first;
+    let mut left = rows;
+    while 0 < left {
+        if holding_row_offers(rules, code, start, end, row, e, text, w) {
+            return true;
+        }
+        row += rulerow::size(rules, row);
+        left -= 1;
+    }
+    false
+}

@@ -1,0 +1,39 @@
+-- The edge of a span as it is answered, and the text of a fallback.
+use mathlib.Core.Option.{Option, none, some}
+use mathlib.Core.List.{List}
+use Prim.Native.Nat.{ℕ}
+use lib.Dec.{eqb}
+use Rattle.base.specs.Pick.{pick}
+use Rattle.base.specs.Lists.{tail, maybe}
+use Rattle.definition.specs.Texts.{Text}
+use Rattle.definition.specs.Notes.{note-none, note-Mn, note-Cf, note-Co, note-Zs}
+use Rattle.definition.specs.Tables.{category-Mn, category-Cf, category-Co, category-Zs}
+use Rattle.definition.specs.Edges.{Edge}
+use Rattle.definition.specs.Building.{fallback-plus}
+use Rattle.rom.specs.Rom.{text}
+use Rattle.edge.specs.declared.Numbers.{Numbers}
+use Rattle.spans.specs.declared.Spanned.{Spanned}
+
+-- an edge by its numbers and its text
+abbrev pub edge-with : Numbers → Text → Edge
+edge-with e w = record { from = e .from; to = e .to; note = e .note; core = e .core; text = w }
+
+-- what was answered, where it is there
+unfoldable pub found : Spanned → Option Edge
+found r = pick (r .there) (some (edge-with (r .numbers) (text (r .rom)))) none
+
+-- a target without its plus before m, n, g or r
+unfoldable pub plus-dropped : Text → Text
+plus-dropped w = pick (fallback-plus w) (tail w) w
+
+-- the bytes of a fallback: a target, or those of the character itself
+unfoldable pub fallback-bytes : Option Text → List ℕ → Text
+fallback-bytes o own = maybe o own plus-dropped
+
+-- the annotation of a category that has no letters; none for another
+unfoldable pub category-note : ℕ → ℕ
+category-note k =
+    pick (eqb k category-Mn) note-Mn
+    (pick (eqb k category-Cf) note-Cf
+    (pick (eqb k category-Co) note-Co
+    (pick (eqb k category-Zs) note-Zs note-none)))

@@ -1,0 +1,308 @@
+// The edge of a span (`add_romanization`): what full search answers, through vowel step and expansion; and the text of
+// a fallback (`get_fallback_rom_and_annot`), a part of the rule table or of the text itself.
+ghost use mathlib.Core.Bool.{true};
+ghost use mathlib.Core.Path.{_≡_};
+ghost use Prim.Native.Nat.{_+_, _<_, _≤_};
+ghost use lib.ListN.{length, take, drop};
+ghost use Rattle.definition.specs.Limits.{most-target};
+ghost use Rattle.definition.specs.Texts.{Text};
+ghost use Rattle.definition.specs.Expansion.{work};
+ghost use Rattle.definition.specs.Building.{is-tail, without-plus, grown, as-edge, edge-of, span-edge, fallback-plus};
+ghost use Rattle.definition.specs.Call.{tables-of};
+ghost use Rattle.classes.specs.Told.{FineVowels};
+ghost use Rattle.rom.specs.Rom.{text, Clean};
+ghost use Rattle.words.specs.Did.{Did};
+ghost use Rattle.words.specs.Given.{text-of, view-of};
+ghost use Rattle.rules.specs.Lent.{Lent};
+ghost use Rattle.rules.specs.Chosen.{said, Said};
+ghost use Rattle.spans.specs.Spans.{edge-with, found, plus-dropped, fallback-bytes, category-note};
+use edge::Numbers;
+use rom::Rom;
+use rules::Chosen;
+
+// A plus sign, and the letter n.
+const PLUS: u32 = 43;
+
+const LETTER_N: u32 = 110;
+
+// The edge of a span, where there is one. (An enum can't hold an array.)
+pub struct Spanned {
+    pub there: bool,
+    pub numbers: Numbers,
+    pub rom: Rom,
+}
+
+// Is a target a tail: a plus and one byte, or a plus and two of which the first is n?
+fn is_tail(w: &[u8]) -> bool
+    ensures { λ r. ⌜ r ≡ is-tail (now (w .entry)) ⌝ }
+{
+    if base::byte(w, 0) != PLUS {
+        return false;
+    }
+    if w.len() == 2 {
+        return true;
+    }
+    if w.len() == 3 {
+        return base::byte(w, 1) == LETTER_N;
+    }
+    false
+}
+
+// A text without its first byte.
+fn without_first<'a>(w: &'a [u8]) -> &'a [u8]
+    requires { ⌜ 0 < length (now w) ⌝ }
+    ensures { λ r. ⌜ now r ≡ drop 1 (now (w .entry)) ⌝ }
+{
+    &w[1..]
+}
+
+// A tail loses its plus.
+fn without_plus<'a>(w: &'a [u8]) -> &'a [u8]
+    ensures { λ r. ⌜ now r ≡ without-plus (now (w .entry)) ⌝ }
+{
+    if is_tail(w) {
+        return without_first(w);
+    }
+    w
+}
+
+// An edge's numbers: annotated by the expansion where that acted, else with a core where only vowels were added, as a
+// tail, or as plain.
+fn as_edge(tail: bool, core: usize, grows: bool, from: usize, to: usize, note: u8) -> Numbers
+    requires { ⌜ core < 256 ⌝ }
+    ensures { λ r. ⌜ ((rom new text : Text) → grows ≡ grown rom new → core ≡ length rom
+        → edge-with r text ≡ as-edge tail rom new (work text from to note)) ⌝ }
+{
+    if note != edge::UNTOUCHED {
+        return Numbers {
+            from,
+            to,
+            note,
+            core: 0,
+        };
+    }
+    if grows {
+        return Numbers {
+            from,
+            to,
+            note: edge::CORE,
+            core: core as u8,
+        };
+    }
+    if tail {
+        return Numbers {
+            from,
+            to,
+            note: edge::TAIL,
+            core: 0,
+        };
+    }
+    Numbers {
+        from,
+        to,
+        note: edge::ROM,
+        core: 0,
+    }
+}
+
+// The edge of a span with a romanization `w`: vowel step, then expansion.
+fn edge_of(
+    rules: &[u8],
+    index: &[u32],
+    classes: &[u8],
+    alphas: &[u8],
+    vowels: &[u8],
+    code: &[u8],
+    line: &[u32],
+    kinds: &[u32],
+    n: usize,
+    slots: &[u8],
+    room: &[u8],
+    count: usize,
+    starts: &mut [u8],
+    w: &[u8],
+    tail: bool,
+    s: usize,
+    e: usize,
+) -> Spanned
+    requires { ⌜ Lent (now rules) (now index) (now classes) (now alphas) (now line) (now kinds) (now slots) (now room) n count
+        × FineVowels (now vowels) × (length (now w) ≤ most-target) × (s < e) × (e ≤ n) ⌝ }
+    ensures { λ r. ⌜ Did (edge-of (tables-of (now (rules .entry)) (now (classes .entry)) (now (vowels .entry)) (now (code .entry))) (text-of (now (line .entry)) n)
+        (view-of (now (classes .entry)) (now (slots .entry)) (now (room .entry)) count) tail (now (w .entry)) s e (now (starts .entry)))
+        (edge-with (r .numbers) (text (r .rom))) (now (starts .exit)) × (r .there ≡ true) × Clean (r .rom) ⌝ }
+{
+    let core = w.len();
+    let rom = rom::bytes_of(w);
+    let v = vowels::add_default_abugida_vowel(
+        rules,
+        index,
+        classes,
+        alphas,
+        vowels,
+        code,
+        line,
+        kinds,
+        n,
+        slots,
+        room,
+        count,
+        starts,
+        rom,
+        tail,
+        s,
+        e,
+    );
+    let new = v.rom;
+    let x = expand::expand_rom_with_special_chars(
+        rules,
+        index,
+        classes,
+        alphas,
+        code,
+        line,
+        kinds,
+        n,
+        slots,
+        room,
+        count,
+        starts,
+        new,
+        s,
+        e,
+    );
+    let whole = x.rom;
+    Spanned {
+        there: true,
+        numbers: as_edge(tail, core, v.grown, x.from, x.to, x.note),
+        rom: whole,
+    }
+}
+
+// The edge of a span, where full search answers a text.
+pub fn span_edge(
+    rules: &[u8],
+    index: &[u32],
+    classes: &[u8],
+    alphas: &[u8],
+    vowels: &[u8],
+    code: &[u8],
+    line: &[u32],
+    kinds: &[u32],
+    n: usize,
+    slots: &[u8],
+    room: &[u8],
+    count: usize,
+    starts: &mut [u8],
+    s: usize,
+    e: usize,
+) -> Spanned
+    requires { ⌜ Lent (now rules) (now index) (now classes) (now alphas) (now line) (now kinds) (now slots) (now room) n count
+        × FineVowels (now vowels) × (s < e) × (e ≤ n) ⌝ }
+    ensures { λ r. ⌜ Did (span-edge (tables-of (now (rules .entry)) (now (classes .entry)) (now (vowels .entry)) (now (code .entry))) (text-of (now (line .entry)) n)
+        (view-of (now (classes .entry)) (now (slots .entry)) (now (room .entry)) count) s e (now (starts .entry)))
+        (found r) (now (starts .exit)) × Clean (r .rom) ⌝ }
+{
+    let chosen = syllables::top_romanization_candidate_for_span(
+        rules,
+        index,
+        classes,
+        alphas,
+        code,
+        line,
+        kinds,
+        n,
+        slots,
+        room,
+        count,
+        starts,
+        s,
+        e,
+    );
+    if rules::is_told(chosen) {
+        let w = rules::chosen_text(rules, chosen);
+        return edge_of(
+            rules,
+            index,
+            classes,
+            alphas,
+            vowels,
+            code,
+            line,
+            kinds,
+            n,
+            slots,
+            room,
+            count,
+            starts,
+            without_plus(w),
+            is_tail(w),
+            s,
+            e,
+        );
+    }
+    Spanned {
+        there: false,
+        numbers: Numbers {
+            from: s,
+            to: e,
+            note: edge::UNTOUCHED,
+            core: 0,
+        },
+        rom: rom::new(),
+    }
+}
+
+// A fallback's plus is dropped before m, n, g or r.
+fn fallback_plus(w: &[u8]) -> bool
+    ensures { λ r. ⌜ r ≡ fallback-plus (now (w .entry)) ⌝ }
+{
+    if base::byte(w, 0) != PLUS {
+        return false;
+    }
+    rom::is_in(rom::PLUS_BEFORE, base::byte(w, 1))
+}
+
+fn plus_dropped<'a>(w: &'a [u8]) -> &'a [u8]
+    ensures { λ r. ⌜ now r ≡ plus-dropped (now (w .entry)) ⌝ }
+{
+    if fallback_plus(w) {
+        return without_first(w);
+    }
+    w
+}
+
+// The text of a fallback: a part of the rule table, or of the text the character's own bytes.
+pub fn fallback_text<'a>(
+    rules: &'a [u8],
+    text: &'a [u8],
+    chosen: Chosen,
+    at: usize,
+    len: usize,
+) -> &'a [u8]
+    requires { ⌜ Said (now rules) chosen × (at + len ≤ length (now text)) ⌝ }
+    ensures { λ r. ⌜ now r ≡ fallback-bytes (said (now (rules .entry)) chosen) (take len (drop at (now (text .entry)))) ⌝ }
+{
+    if rules::is_told(chosen) {
+        return plus_dropped(rules::chosen_text(rules, chosen));
+    }
+    room::part(text, at, len)
+}
+
+// The annotation of a category whose characters have no letters.
+pub fn category_note(category: u32) -> u8
+    ensures { λ r. ⌜ r ≡ category-note category ⌝ }
+{
+    if category == classes::NONSPACING {
+        return edge::MN;
+    }
+    if category == classes::FORMAT {
+        return edge::CF;
+    }
+    if category == classes::PRIVATE {
+        return edge::CO;
+    }
+    if category == classes::SEPARATOR {
+        return edge::ZS;
+    }
+    edge::UNTOUCHED
+}
