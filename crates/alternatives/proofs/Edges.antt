@@ -34,16 +34,13 @@ use Rattle.listing.specs.Items.{Written, put-items, put-items-append}
 use Rattle.dicts.specs.Doors.{with-source}
 use Rattle.dicts.specs.Sorted.{rules-from}
 use Rattle.words.specs.Did.{Did}
+use Rattle.definition.specs.Alternatives.{vowels-low}
 use Rattle.words.specs.Given.{part}
 use Rattle.words.specs.Spans.{spanning}
 use Rattle.words.specs.Found.{Rows, rules-in}
 use Rattle.offers.specs.Texts.{Spoken}
 
 -- A syllable's letters are ASCII
-vowels-low : (c : ℕ) → vowels c ≡ true → Low c
-unfolding vowels
-vowels-low = among-all "aeiou" Low (omega arith, (omega arith, (omega arith, (omega arith, (omega arith, tt)))))
-
 consonants-low : (c : ℕ) → consonants c ≡ true → Low c
 unfolding consonants
 consonants-low = among-all "bcdfghjklmnpqrstvwxyz" Low (search arith)

@@ -86,7 +86,7 @@ pub record Alternative (n : ℕ) (x : Edge) : Type 0 where
   pub short : bytes x ≤ most-alternative
 
 -- The vowel of an edge with a core
-vowels-low : (c : ℕ) → vowels c ≡ true → Low c
+pub vowels-low : (c : ℕ) → vowels c ≡ true → Low c
 unfolding vowels
 vowels-low = among-all "aeiou" Low (omega arith, (omega arith, (omega arith, (omega arith, (omega arith, tt)))))
 

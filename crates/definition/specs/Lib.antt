@@ -61,5 +61,6 @@ pub mod Recalled
 pub mod Offers
 -- UTF-8 there and back; a part of an accepted text is accepted; what is returned
 pub mod Roundtrip
+pub mod Rewritten
 pub mod Parts
 pub mod Returned

@@ -36,6 +36,13 @@ all-fit (x ∷ es) (suc k) r h g =
     (le-leb (bytes x) r (omega arith))
     ∙ all-fit es k (r - bytes x) (omega arith) (omega arith)
 
+-- so what is stored fits
+pub stored-fits : (slots room : List ℕ) (count used : ℕ) → Stored slots room count used
+    → misfit (length slots / slot-bytes) (length room) (edges-of room count slots) ≡ none
+stored-fits slots room count used st =
+    all-fit (edges-of room count slots) (length slots / slot-bytes) (length room)
+    (omega (arith, st .slot, edge-count slots room count)) (omega (arith, st .within, st .sum))
+
 module _ (slots room : List ℕ) (count used : ℕ) (e : Numbers) (text : List ℕ)
     (st : Stored slots room count used) (w : Writable used e text) where
   abbrev es : List Edge
@@ -52,8 +59,7 @@ module _ (slots room : List ℕ) (count used : ℕ) (e : Numbers) (text : List �
   left : (l : List Edge) → misfit (length slots / slot-bytes) (length room) (es ++ x ∷ l) ≡ misfit (length slots / slot-bytes - count) (length room - used) (x ∷ l)
   left l =
       let a = edge-count slots room count in
-      misfit-after (length slots / slot-bytes) (length room) es (x ∷ l)
-      (all-fit es (length slots / slot-bytes) (length room) (omega (arith, st .slot, a)) (omega (arith, st .within, st .sum)))
+      misfit-after (length slots / slot-bytes) (length room) es (x ∷ l) (stored-fits slots room count used st)
       ∙ ap (λ n. misfit (length slots / slot-bytes - n) (length room - all-bytes es) (x ∷ l)) a
       ∙ ap (λ n. misfit (length slots / slot-bytes - count) (length room - n) (x ∷ l)) (sym (st .sum))
 

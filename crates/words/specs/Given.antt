@@ -60,7 +60,7 @@ framed-length t =
     omega (arith, e, puts-length 0 t spaces, r)
 
 -- the text of a framed one
-framed-text : (t : Text) → length t ≤ most-characters → text-of (framed t) (length t) ≡ t
+pub framed-text : (t : Text) → length t ≤ most-characters → text-of (framed t) (length t) ≡ t
 unfolding framed
 framed-text t h =
     let spaces = replicate most-characters the-space in
