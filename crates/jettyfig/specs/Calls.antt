@@ -1,0 +1,129 @@
+-- What is left of a call, step by step: shown, built, read, checked.
+use Prim.Native.Nat.{ℕ, zero, suc, _+_, _-_, _/_, _≤_, _<_}
+use mathlib.Core.List.{List, _++_}
+use mathlib.Core.Option.{Option, none, some}
+use mathlib.Core.Path.{_≡_, sym, ap, _∙_, subst}
+use native.Mathlib.Omega.{arith}
+use lib.ListN.{length, drop, replicate}
+use borrow.Author.Tests.{lt-ltb, le-ltb}
+use Rattle.base.specs.Pick.{pick}
+use Rattle.base.specs.Lists.{or-else}
+use Rattle.base.specs.Alls.{All}
+use Rattle.definition.specs.Limits.{slot-bytes}
+use Rattle.definition.specs.Texts.{Text}
+use Rattle.definition.specs.Tables.{Tables}
+use Rattle.definition.specs.Edges.{Mem, State}
+use Rattle.definition.specs.Building.{lattice}
+use Rattle.definition.specs.Bounds.{Sound}
+use Rattle.definition.specs.Listing.{shown}
+use Rattle.definition.specs.Capacity.{Refusal, refuse, misfit}
+use Rattle.definition.specs.Call.{Inputs, Called, tables, characters, refusal, refused, written, within-room, with-lattice, accepted, unless-refused, called}
+use Rattle.utf8.specs.Read.{text-refusal}
+use Rattle.room.specs.Puts.{put-at}
+use Rattle.edge.specs.declared.Added.the-variants.{Fits}
+use Rattle.edge.specs.Slots.{edges-of}
+use Rattle.edge.specs.Stored.{edge-count}
+use Rattle.edge.specs.Fitting.{stored-fits}
+use Rattle.lattice.specs.Reached.{Reached}
+use Rattle.output.specs.Shows.{Shows}
+use Rattle.jettyfig.specs.declared.Answer.{Answer}
+use Rattle.jettyfig.specs.Verdicts.{returned, before-text, all-refusals}
+
+-- answers: done, and a refusal
+abbrev pub done : ℕ → ℕ → Answer
+done length edges = record { number = 0; place = 0; length = length; edges = edges }
+
+abbrev pub refusing : ℕ → ℕ → Answer
+refusing n p = record { number = n; place = p; length = 0; edges = 0 }
+
+-- a refusal over an output of zeros
+module _ (i : Inputs) (out : List ℕ) (h : out ≡ replicate (i .out) 0) where
+  pub as-refused : (n p : ℕ) → returned (refusing n p) out ≡ refused i (refuse n p)
+  unfolding refused
+  as-refused n p = ap (returned (refusing n p)) h
+
+-- zeros from a place on
+drop-zeros : (k n : ℕ) → drop k (replicate {A = ℕ} n 0) ≡ replicate (n - k) 0
+drop-zeros zero n = ap (λ (m : ℕ). replicate {A = ℕ} m 0) {x = n} {y = n - 0} (omega arith)
+drop-zeros (suc k) zero = ap (λ (m : ℕ). replicate {A = ℕ} m 0) {x = 0} {y = 0 - suc k} (omega arith)
+drop-zeros (suc k) (suc n) = drop-zeros k n ∙ ap (λ (m : ℕ). replicate {A = ℕ} m 0) {x = n - k} {y = suc n - suc k} (omega arith)
+
+-- What is shown: where it fits and where it doesn't
+module _ (w out out′ : List ℕ) (r : ℕ) (s : Shows w out out′ r) (h : out ≡ replicate (length out) 0) (i : Inputs) (l : i .out ≡ length out) where
+  over-zeros : length w ≤ length out → out′ ≡ w ++ replicate (i .out - length w) 0
+  unfolding put-at
+  over-zeros k =
+      s .written k
+      ∙ ap (λ (z : List ℕ). w ++ drop (0 + length w) z) h
+      ∙ ap (_++_ w) (drop-zeros (0 + length w) (length out) ∙ ap (λ (m : ℕ). replicate {A = ℕ} m 0) {x = length out - (0 + length w)} {y = i .out - length w} (omega (arith, l)))
+
+  pub shown-fits : (n : ℕ) → r ≤ length out′ → returned (done r n) out′ ≡ written i n w
+  unfolding written pick
+  shown-fits n k = rw (le-ltb (i .out) (length w) (omega (arith, k, l, s .needed, s .kept)))
+      (ap (λ (m : ℕ). returned (done m n) out′) (s .needed) ∙ ap (returned (done (length w) n)) (over-zeros (omega (arith, k, s .needed, s .kept))))
+
+  pub shown-misses : (n : ℕ) (z : List ℕ) → z ≡ replicate (length out′) 0 → length out′ < r → returned (refusing 11 r) z ≡ written i n w
+  unfolding written pick refused
+  shown-misses n z e k = rw (lt-ltb (i .out) (length w) (omega (arith, k, l, s .needed, s .kept)))
+      (ap (λ (m : ℕ). returned (refusing 11 m) z) (s .needed)
+      ∙ ap (returned (refusing 11 (length w))) (e ∙ ap (λ (m : ℕ). replicate {A = ℕ} m 0) (s .kept ∙ sym l)))
+
+-- What is built: 9 or 10, or the lattice
+module _ (i : Inputs) (D : Tables) (t : Text) where
+  abbrev built : Option Refusal
+  built = misfit (i .slots / slot-bytes) (i .room) (lattice D t .0)
+
+  pub built-refused : (x : Refusal) → built ≡ some x → refused i x ≡ accepted i D t
+  unfolding accepted with-lattice within-room
+  built-refused x e = sym (ap (within-room i D t (lattice D t)) e)
+
+  pub built-all : built ≡ none → written i (length (lattice D t .0)) (shown D t (i .mode) (lattice D t)) ≡ accepted i D t
+  unfolding accepted with-lattice within-room
+  built-all e = sym (ap (within-room i D t (lattice D t)) e)
+
+-- a lattice that is in the slots has found room
+module _ {S R S′ R′ : List ℕ} {m : Mem} {most : ℕ} {st : State} {n u : ℕ} (b : Reached S R S′ R′ m most st (Fits n u)) where
+  pub reached-fits : misfit (length S / slot-bytes) (length R) (st .0) ≡ none
+  reached-fits =
+      ap (λ (s : State). misfit (length S / slot-bytes) (length R) (s .0)) (sym (b .told .0))
+      ∙ ap (λ (k : ℕ). misfit (k / slot-bytes) (length R) (edges-of R′ n S′)) (sym (b .slots))
+      ∙ ap (λ (k : ℕ). misfit (length S′ / slot-bytes) k (edges-of R′ n S′)) (sym (b .room))
+      ∙ stored-fits S′ R′ n u (b .told .1)
+
+  pub reached-count : n ≡ length (st .0)
+  reached-count = sym (edge-count S′ R′ n) ∙ ap (λ (s : State). length (s .0)) (b .told .0)
+
+  pub reached-sound : (k : ℕ) → All (Sound k) (st .0) → All (Sound k) (edges-of R′ n S′)
+  reached-sound k h = subst (λ (s : State). All (Sound k) (s .0)) (sym (b .told .0)) h
+
+-- What is read, and what is checked before
+module _ (i : Inputs) where
+  abbrev first : Option Refusal
+  first = before-text (i .mode) (i .rules) (i .classes) (i .vowels) (i .code)
+
+  pub read-refused : (x : Refusal) → text-refusal (i .text) ≡ some x → refused i x ≡ unless-refused i (text-refusal (i .text))
+  unfolding unless-refused
+  read-refused x e = sym (ap (unless-refused i) e)
+
+  pub read-right : text-refusal (i .text) ≡ none → accepted i (tables i) (characters i) ≡ unless-refused i (text-refusal (i .text))
+  unfolding unless-refused
+  read-right e = sym (ap (unless-refused i) e)
+
+  pub check-refused : (x : Refusal) → first ≡ some x → refused i x ≡ called i
+  unfolding called unless-refused
+  check-refused x e = sym (ap (unless-refused i) (all-refusals i ∙ ap (λ o. or-else o (text-refusal (i .text))) e))
+
+  pub check-right : first ≡ none → unless-refused i (text-refusal (i .text)) ≡ called i
+  unfolding called
+  check-right e = sym (ap (unless-refused i) (all-refusals i ∙ ap (λ o. or-else o (text-refusal (i .text))) e))
+
+  -- nothing refused of either is nothing refused
+  pub nothing-refused : first ≡ none → text-refusal (i .text) ≡ none → refusal i ≡ none
+  nothing-refused e f = all-refusals i ∙ ap (λ o. or-else o (text-refusal (i .text))) e ∙ f
+
+-- Any two results that the call's contract admits coincide
+abbrev answer-of : Called → Answer
+answer-of c = record { number = c .number; place = c .place; length = c .length; edges = c .edges }
+
+pub coincide : (i : Inputs) (a b : Answer) (x y : List ℕ) → returned a x ≡ called i → returned b y ≡ called i → (a ≡ b) × (x ≡ y)
+coincide i a b x y p q = (ap answer-of (p ∙ sym q), ap (λ (c : Called). c .output) (p ∙ sym q))
