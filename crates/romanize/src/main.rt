@@ -1,0 +1,362 @@
+// romanize RULES CLASSES VOWELS CODE MODE: romanizes standard input by the tables of three files.
+//
+// CODE is a language code, or - for none. MODE is 0 for the string, 1 for the path, 2 for the path and its alternatives, 3 for
+// all edges; these are written a line for each edge: start, end, annotation, core length and text. One line end behind the text
+// is no part of it. A refusal is one line on standard error, and nothing is written.
+ghost use Prim.Native.Nat.{_+_, _<_, _≤_};
+ghost use lib.ListN.{length};
+ghost use Rattle.io.specs.Counts.{Counts};
+use jettyfig::Answer;
+use libc::STDERR_FILENO;
+use libc::STDIN_FILENO;
+use libc::STDOUT_FILENO;
+
+// What an annotation is called, eight letters each: its number is its place.
+const NAMES: [u8; 120] =
+    *b"none    rom     core    tail    expandeddeleted single  Mn      Cf      Co      Zs      orig    alt     alt2    alt3    ";
+
+// No mode.
+const NO_MODE: u8 = 255;
+
+// The rooms are returned by functions so that `main` knows their lengths alone, and no proof goes through their bytes. Slots,
+// text room and output are as large as any text can need.
+fn rules_room() -> [u8; 1048577] {
+    [0u8; 1048577]
+}
+
+fn classes_room() -> [u8; 65536] {
+    [0u8; 65536]
+}
+
+fn vowels_room() -> [u8; 4096] {
+    [0u8; 4096]
+}
+
+fn text_room() -> [u8; 65536] {
+    [0u8; 65536]
+}
+
+fn slots_room() -> [u8; 104448] {
+    [0u8; 104448]
+}
+
+fn edges_room() -> [u8; 1723392] {
+    [0u8; 1723392]
+}
+
+fn out_room() -> [u8; 1793029] {
+    [0u8; 1793029]
+}
+
+// So many bytes from a place on; none where they run past the end.
+fn part<'a>(s: &'a [u8], from: usize, len: usize) -> &'a [u8]
+    requires { ⌜ (from < 1099511627776) × (len < 4294967296) ⌝ }
+{
+    let to = from + len;
+    if s.len() < to {
+        return &s[..0];
+    }
+    &s[from..to]
+}
+
+fn usage() {
+    io::write_all(
+        STDERR_FILENO,
+        b"usage: romanize RULES CLASSES VOWELS CODE MODE < TEXT\n",
+    );
+    io::write_all(
+        STDERR_FILENO,
+        b"three table files; a language code, or - for none; 0 string, 1 path, 2 alternatives, 3 all edges\n",
+    );
+}
+
+// All that a descriptor has. A buffer that is full afterwards was too short for it, and a line says so.
+fn read_all(fd: i32, name: &[u8], buf: &mut [u8]) -> usize
+    ensures { λ r. ⌜ Counts r (now (buf .exit)) ⌝ }
+{
+    let n = io::read_full(fd, buf);
+    if n == buf.len() {
+        io::write_all(STDERR_FILENO, name);
+        io::write_all(STDERR_FILENO, b": longer than this program takes\n");
+    }
+    n
+}
+
+// All of the file that an argument names; a full buffer's length where there is none, or too much of it, and a line says so.
+fn read_table(i: usize, buf: &mut [u8]) -> usize
+    ensures { λ r. ⌜ Counts r (now (buf .exit)) ⌝ }
+{
+    let mut path = io::buffer();
+    let n = os::arg(i, &mut path);
+    let fd = os::open_read(&path[..n]);
+    if fd < 0 {
+        os::fail(&path[..n]);
+        return buf.len();
+    }
+    let got = read_all(fd, &path[..n], buf);
+    libc::close(fd);
+    got
+}
+
+// The mode of the last argument: one digit. Anything else is no mode, which the call refuses.
+fn mode_of(arg: &[u8]) -> u8 {
+    if arg.len() != 1 {
+        return NO_MODE;
+    }
+    let digit = arg[0];
+    if digit < b'0' {
+        return NO_MODE;
+    }
+    if b'9' < digit {
+        return NO_MODE;
+    }
+    digit - b'0'
+}
+
+fn is_dash(arg: &[u8]) -> bool {
+    if arg.len() != 1 {
+        return false;
+    }
+    arg[0] == b'-'
+}
+
+// The language code: none for a dash.
+fn code_of<'a>(arg: &'a [u8]) -> &'a [u8] {
+    if is_dash(arg) {
+        return &arg[..0];
+    }
+    arg
+}
+
+// The text without the line end behind it.
+fn without_line_end<'a>(text: &'a [u8]) -> &'a [u8] {
+    let n = text.len();
+    if n == 0 {
+        return text;
+    }
+    if text[n - 1] == b'\n' {
+        return &text[..n - 1];
+    }
+    text
+}
+
+// What stands at a place of a listing, as a number and a space.
+fn print_number(n: u32) {
+    io::print_decimal(STDOUT_FILENO, n as u64);
+    io::write_all(STDOUT_FILENO, b" ");
+}
+
+// One row of a listing, `len` bytes behind its two bytes of length: start, end, annotation, core length, text.
+fn print_edge(rows: &[u8], at: usize, len: usize)
+    requires { ⌜ (at < 16777216) × (len < 65536) ⌝ }
+{
+    print_number(base::two(rows, at, 2));
+    print_number(base::two(rows, at, 4));
+    io::write_all(
+        STDOUT_FILENO,
+        part(&NAMES, base::at(rows, at, 6) as usize * 8, 8),
+    );
+    io::write_all(STDOUT_FILENO, b" ");
+    print_number(base::at(rows, at, 7));
+    if 6 < len {
+        io::write_all(STDOUT_FILENO, part(rows, at + 8, len - 6));
+    }
+    io::write_all(STDOUT_FILENO, b"\n");
+}
+
+// The rows of a listing, behind its five bytes of header.
+fn print_edges(listing: &[u8])
+    requires { ⌜ length (now listing) < 16777216 ⌝ }
+{
+    let mut at: usize = 5;
+    while at < listing.len() {
+        let len = base::two(listing, at, 0) as usize;
+        print_edge(listing, at, len);
+        at += 2 + len;
+    }
+}
+
+// What a call has written. The output room is far shorter than the bound: it says so to the prover.
+fn print_output(mode: u8, written: &[u8]) {
+    if mode == 0 {
+        io::write_all(STDOUT_FILENO, written);
+        io::write_all(STDOUT_FILENO, b"\n");
+        return;
+    }
+    if written.len() < 16777216 {
+        print_edges(written);
+    }
+}
+
+// What a refusal of mode, tables or code means, and what its place is.
+fn say_given(number: u64) {
+    if number == 1 {
+        io::write_all(STDERR_FILENO, b"the mode is none of 0 to 3; place ");
+        return;
+    }
+    if number == 2 {
+        io::write_all(
+            STDERR_FILENO,
+            b"the rule table is faulty; offset of the first faulty row, 0 for the header: ",
+        );
+        return;
+    }
+    if number == 3 {
+        io::write_all(
+            STDERR_FILENO,
+            b"the class table is faulty; offset of the first faulty row, 0 for the header: ",
+        );
+        return;
+    }
+    if number == 4 {
+        io::write_all(
+            STDERR_FILENO,
+            b"the vowel table is faulty; offset of the first faulty row, 0 for the header: ",
+        );
+        return;
+    }
+    io::write_all(
+        STDERR_FILENO,
+        b"the language code is neither empty nor three letters a to z; place ",
+    );
+}
+
+// What a refusal of the text means, and what its place is.
+fn say_text(number: u64) {
+    if number == 6 {
+        io::write_all(
+            STDERR_FILENO,
+            b"the text is not UTF-8; offset of the first bad sequence: ",
+        );
+        return;
+    }
+    if number == 7 {
+        io::write_all(
+            STDERR_FILENO,
+            b"the text is longer than 512 characters; so many are taken: ",
+        );
+        return;
+    }
+    io::write_all(
+        STDERR_FILENO,
+        b"a Tibetan, Braille or Hangul character; its position in characters: ",
+    );
+}
+
+// What a refusal for want of room means, and what its place is.
+fn say_room(number: u64) {
+    if number == 9 {
+        io::write_all(STDERR_FILENO, b"an edge finds no slot; its start: ");
+        return;
+    }
+    if number == 10 {
+        io::write_all(
+            STDERR_FILENO,
+            b"an edge finds too little text room; its start: ",
+        );
+        return;
+    }
+    io::write_all(STDERR_FILENO, b"the output is too short; bytes needed: ");
+}
+
+fn say_meaning(number: u64) {
+    if number < 6 {
+        say_given(number);
+        return;
+    }
+    if number < 9 {
+        say_text(number);
+        return;
+    }
+    say_room(number);
+}
+
+// The line of a refusal: number, meaning and place.
+fn print_refusal(answer: Answer) {
+    io::write_all(STDERR_FILENO, b"romanize: refusal ");
+    io::print_decimal(STDERR_FILENO, answer.number);
+    io::write_all(STDERR_FILENO, b": ");
+    say_meaning(answer.number);
+    io::print_decimal(STDERR_FILENO, answer.place);
+    io::write_all(STDERR_FILENO, b"\n");
+}
+
+// One call, and what it answers, printed.
+fn romanize<'a>(
+    mode: u8,
+    rules: &'a [u8],
+    classes: &[u8],
+    vowels: &[u8],
+    code: &[u8],
+    text: &'a [u8],
+) {
+    let mut slots = slots_room();
+    let mut room = edges_room();
+    let mut out = out_room();
+    let answer = jettyfig::jettyfig_romanize(
+        mode,
+        rules,
+        classes,
+        vowels,
+        code,
+        text,
+        &mut slots,
+        &mut room,
+        &mut out,
+    );
+    if answer.number != 0 {
+        print_refusal(answer);
+        return;
+    }
+    if answer.length < 16777216 {
+        print_output(mode, part(&out, 0, answer.length as usize));
+    }
+}
+
+// The tables are read; code, mode and text are not yet.
+fn with_tables(rules: &[u8], classes: &[u8], vowels: &[u8]) {
+    let mut code = io::buffer();
+    let c = os::arg(4, &mut code);
+    if os::errno() != 0 {
+        os::fail(b"CODE");
+        return;
+    }
+    let mut mode = [0u8; 2];
+    let m = os::arg(5, &mut mode);
+    let mut text = text_room();
+    let t = read_all(STDIN_FILENO, b"standard input", &mut text);
+    if t == text.len() {
+        return;
+    }
+    romanize(
+        mode_of(&mode[..m]),
+        rules,
+        classes,
+        vowels,
+        code_of(&code[..c]),
+        without_line_end(&text[..t]),
+    );
+}
+
+fn main() {
+    if os::arg_count() != 6 {
+        usage();
+        return;
+    }
+    let mut rules = rules_room();
+    let r = read_table(1, &mut rules);
+    if r == rules.len() {
+        return;
+    }
+    let mut classes = classes_room();
+    let c = read_table(2, &mut classes);
+    if c == classes.len() {
+        return;
+    }
+    let mut vowels = vowels_room();
+    let v = read_table(3, &mut vowels);
+    if v == vowels.len() {
+        return;
+    }
+    with_tables(&rules[..r], &classes[..c], &vowels[..v]);
+}
