@@ -175,7 +175,7 @@ fn latin_right(classes: &[u8], row: usize) -> bool
 }
 
 // A class row that may follow the characters below `low`.
-pub fn class_right(classes: &[u8], row: usize, low: u32) -> bool
+fn class_right(classes: &[u8], row: usize, low: u32) -> bool
     ensures { λ r. ⌜ r ≡ class-right low (drop row (now (classes .entry))) ⌝ }
 {
     class_fits(classes, row, low) && (space_right(classes, row) && latin_right(classes, row))
@@ -244,7 +244,7 @@ fn letters_right(vowels: &[u8], row: usize) -> bool
 }
 
 // A vowel row that may follow the scripts below `low`.
-pub fn vowel_right(vowels: &[u8], row: usize, low: u32) -> bool
+fn vowel_right(vowels: &[u8], row: usize, low: u32) -> bool
     ensures { λ r. ⌜ r ≡ vowel-right low (drop row (now (vowels .entry))) ⌝ }
 {
     vowel_fits(vowels, row, low) && letters_right(vowels, row)
@@ -289,7 +289,7 @@ fn class_row(classes: &[u8], row: usize) -> ClassRow
 }
 
 // The row of a character, halving the rows that may be it: characters rise.
-pub fn class_of(classes: &[u8], c: u32) -> ClassOf
+fn class_of(classes: &[u8], c: u32) -> ClassOf
     requires { ⌜ Fine (now classes) ⌝ }
     ensures { λ r. ⌜ (seen c r ≡ class (classes-of (now (classes .entry))) c) × Ranged r ⌝ }
 {
@@ -360,14 +360,30 @@ pub fn class_flag(kind: u32, k: u32) -> bool
     base::bit(kind >> 10, k)
 }
 
+// The packed class of a character, where that of `known` is at hand: spaces and doubled letters are not looked for again.
+fn next_kind(classes: &[u8], c: u32, known: u32, kind: u32) -> u32
+    requires { ⌜ Fine (now classes) × (kind ≡ packed (class (classes-of (now classes)) known)) ⌝ }
+    ensures { λ r. ⌜ r ≡ packed (class (classes-of (now (classes .entry))) c) ⌝ }
+{
+    if c == known {
+        return kind;
+    }
+    kind_of(classes, c)
+}
+
 // The classes of a text's characters, one for each.
 pub fn classify(classes: &[u8], chars: &[u32], kinds: &mut [u32])
     requires { ⌜ Fine (now classes) × (length (now kinds) ≡ length (now chars)) ⌝ }
     ensures { λ r. ⌜ now (kinds .exit) ≡ kinds-of (now (classes .entry)) (now (chars .entry)) ⌝ }
 {
+    let mut known: u32 = 32;
+    let mut kind = kind_of(classes, known);
     let mut i: usize = 0;
     while i < chars.len() {
-        kinds[i] = kind_of(classes, chars[i]);
+        let c = chars[i];
+        kind = next_kind(classes, c, known, kind);
+        kinds[i] = kind;
+        known = c;
         i += 1;
     }
 }

@@ -96,7 +96,7 @@ pub fn count(rules: &[u8], row: usize) -> u32
 }
 
 // How many characters its source has.
-pub fn source_len(rules: &[u8], row: usize) -> usize
+fn source_len(rules: &[u8], row: usize) -> usize
     ensures { λ r. ⌜ (r ≡ source-count (drop row (now (rules .entry)))) × (r < 256) ⌝ }
 {
     base::at(rules, row, 5) as usize
@@ -469,7 +469,7 @@ fn end_target_at(rules: &[u8], row: usize) -> usize
     )
 }
 
-pub fn others_at(rules: &[u8], row: usize) -> usize
+fn others_at(rules: &[u8], row: usize) -> usize
     ensures { λ r. ⌜ (r ≡ others-at (drop row (now (rules .entry)))) × (r < 2512) ⌝ }
 {
     past_text(
@@ -481,7 +481,7 @@ pub fn others_at(rules: &[u8], row: usize) -> usize
 }
 
 // The text at `o` of a row, a part of the table.
-pub fn text<'a>(rules: &'a [u8], row: usize, o: usize) -> &'a [u8]
+fn text<'a>(rules: &'a [u8], row: usize, o: usize) -> &'a [u8]
     requires { ⌜ o + text-size (drop o (drop row (now rules))) ≤ length (drop row (now rules)) ⌝ }
     ensures { λ r. ⌜ now r ≡ text-of (drop o (drop row (now (rules .entry)))) ⌝ }
 {
