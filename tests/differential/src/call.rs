@@ -1,0 +1,36 @@
+//! A call, what it is lent, and an answer.
+
+/// tables, code and text: what `Call::parts` has, in this order
+pub const PARTS: [&str; 5] = ["rules", "classes", "vowels", "code", "text"];
+/// what is lent to be written
+pub const ROOMS: [&str; 3] = ["slots", "room", "output"];
+
+/// bytes of slots, text room and output
+pub type Lent = [usize; 3];
+
+#[derive(Clone, Copy)]
+pub struct Call<'a> {
+    pub mode: u8,
+    pub parts: [&'a [u8]; 5],
+    pub lent: Lent,
+}
+
+/// number, place, length and edges, as the library returns them
+pub use crate::jettyfig::Answer as Numbers;
+
+#[derive(Clone, Copy, PartialEq, Eq)]
+pub struct Answer<'a> {
+    pub numbers: Numbers,
+    /// its `length` bytes; behind them the output is zero
+    pub output: &'a [u8],
+}
+
+impl<'a> Answer<'a> {
+    pub fn refused(number: u64, place: u64) -> Self {
+        Answer { numbers: Numbers { number, place, length: 0, edges: 0 }, output: &[] }
+    }
+    pub fn done(output: &'a [u8], edges: usize) -> Self {
+        let numbers = Numbers { number: 0, place: 0, length: output.len() as u64, edges: edges as u64 };
+        Answer { numbers, output }
+    }
+}

@@ -1,0 +1,198 @@
+//! Damages a table: bytes, rows, or a row of its own with something at a border.
+
+use crate::random::Random;
+use crate::rows::{HAS_END, HAS_TARGET, Rule, block, class_row, set_length, three, vowel_row};
+use std::ops::Range;
+
+/// the borders of the fields of all rows, on both sides
+const BORDERS: [u8; 26] =
+    [0, 1, 2, 3, 4, 5, 7, 8, 9, 12, 15, 16, 17, 31, 32, 63, 64, 65, 96, 97, 122, 123, 126, 127, 128, 255];
+const BORDER_SCALARS: [u32; 9] = [0, 0xD7FF, 0xD800, 0xDBFF, 0xDFFF, 0xE000, 0x10FFFF, 0x110000, 0xFFFFFF];
+
+/// `kind` is 0 for rules, 1 for classes, 2 for vowels
+pub fn table(random: &mut Random, kind: usize, bytes: &mut Vec<u8>) {
+    if kind < 2 && random.chance(0.0005) {
+        *bytes = full(random, kind);
+        return;
+    }
+    let rows = rows(kind, bytes);
+    match random.below(12) {
+        0..4 => change(random, bytes, 5),
+        4 => change(random, bytes, 0),
+        5 => drop(bytes.split_off(bytes.len() - random.below(bytes.len().min(12)))),
+        6 => cut(random, bytes),
+        7 => add(random, bytes),
+        8 => swap(random, bytes, &rows),
+        9 => repeat(random, bytes, &rows),
+        10 => take_out(random, bytes, &rows),
+        _ => put_in(random, kind, bytes, &rows),
+    }
+    if random.chance(0.85) {
+        set_length(bytes);
+    }
+}
+
+/// where its rows lie, as far as they can be told
+fn rows(kind: usize, bytes: &[u8]) -> Vec<Range<usize>> {
+    let mut rows = Vec::new();
+    let mut at = 5;
+    while let Some(left) = bytes.get(at..).filter(|left| left.len() > 2) {
+        let n = match kind {
+            0 => 2 + left[0] as usize * 256 + left[1] as usize,
+            1 => 6,
+            _ => 3 + left[2] as usize,
+        };
+        if n > left.len() {
+            break;
+        }
+        rows.push(at..at + n);
+        at += n;
+    }
+    rows
+}
+
+/// a byte from `from` on becomes another
+fn change(random: &mut Random, bytes: &mut [u8], from: usize) {
+    if bytes.len() <= from {
+        return;
+    }
+    let at = from + random.below(if from == 0 { bytes.len().min(5) } else { bytes.len() - from });
+    bytes[at] = match random.below(4) {
+        0 => bytes[at] ^ (1 << random.below(8)),
+        1 => bytes[at].wrapping_add(random.choice(&[1, 255])),
+        2 => random.choice(&BORDERS),
+        _ => random.byte(),
+    };
+}
+
+fn cut(random: &mut Random, bytes: &mut Vec<u8>) {
+    let at = random.below(bytes.len());
+    let end = (at + random.between(1, 8)).min(bytes.len());
+    bytes.drain(at..end);
+}
+
+fn add(random: &mut Random, bytes: &mut Vec<u8>) {
+    let at = if random.chance(0.5) { bytes.len() } else { random.below(bytes.len()) };
+    let more: Vec<u8> = (0..random.between(1, 7)).map(|_| random.choice(&BORDERS)).collect();
+    bytes.splice(at..at, more);
+}
+
+fn swap(random: &mut Random, bytes: &mut Vec<u8>, rows: &[Range<usize>]) {
+    if rows.len() < 2 {
+        return;
+    }
+    let k = random.below(rows.len() - 1);
+    let (first, second) = (rows[k].clone(), rows[k + 1].clone());
+    let swapped = [&bytes[second.clone()], &bytes[first.clone()]].concat();
+    bytes.splice(first.start..second.end, swapped);
+}
+
+/// a row again, behind itself or at the end; a rule may stand twice, a class and a vowel may not
+fn repeat(random: &mut Random, bytes: &mut Vec<u8>, rows: &[Range<usize>]) {
+    if rows.is_empty() {
+        return;
+    }
+    let row = rows[random.below(rows.len())].clone();
+    let at = if random.chance(0.5) { row.end } else { bytes.len() };
+    let again = bytes[row].to_vec();
+    bytes.splice(at..at, again);
+}
+
+fn take_out(random: &mut Random, bytes: &mut Vec<u8>, rows: &[Range<usize>]) {
+    if !rows.is_empty() {
+        bytes.drain(rows[random.below(rows.len())].clone());
+    }
+}
+
+/// a row of its own, mostly with something at a border, where its order allows it
+fn put_in(random: &mut Random, kind: usize, bytes: &mut Vec<u8>, rows: &[Range<usize>]) {
+    let k = random.below(rows.len() + 1);
+    let row = match kind {
+        0 => odd_rule(random, rows.get(k).map_or(&[], |row| &bytes[row.clone()])),
+        1 => odd_class(random),
+        _ => odd_vowel(random),
+    };
+    let behind = |at: &&Range<usize>| bytes[(*at).clone()] > row[..];
+    let at = match kind {
+        0 => rows.get(k).map(|row| row.end),
+        _ => rows.iter().find(behind).map(|row| row.start),
+    };
+    let at = at.unwrap_or(bytes.len());
+    bytes.splice(at..at, row);
+}
+
+/// a rule with the source of another, and one part at or past its border
+fn odd_rule(random: &mut Random, like: &[u8]) -> Vec<u8> {
+    let count = like.get(5).map_or(0, |n| *n as usize);
+    let scalars = like.get(6..6 + 3 * count).unwrap_or(&[]).chunks(3);
+    let mut source: Vec<char> =
+        scalars.filter_map(|c| char::from_u32((c[0] as u32) << 16 | (c[1] as u32) << 8 | c[2] as u32)).collect();
+    let last = *source.last().unwrap_or(&'\u{10FFFF}');
+    source.resize(source.len().max(1), last);
+    let part = random.below(11);
+    if part == 0 {
+        source.resize(random.choice(&[15, 16, 17, 18]), last);
+    }
+    let mut rule = Rule { source: &source, target: Some(b"k".to_vec()), ..Rule::default() };
+    match part {
+        1 => rule.codes = vec!["abc"; random.choice(&[7, 8, 9, 255])],
+        2 => rule.codes = vec!["abc", random.choice(&["ABC", "ab1", "`bc", "ab{", "a c", "zzz", "aaa"])],
+        3 => rule.target = Some(odd_target(random)),
+        4 => rule.end = Some(odd_target(random)),
+        5 => rule.others = vec![b"w".to_vec(), odd_target(random)],
+        6 => rule.others = vec![b"w".to_vec(); random.choice(&[7, 8, 9, 255])],
+        7 => rule.flags = random.choice(&[0, 31, 128, 128 | 31, HAS_TARGET, HAS_END]),
+        _ => {}
+    }
+    let mut row = rule.row();
+    match part {
+        8 => row[6..9].copy_from_slice(&three(random.choice(&BORDER_SCALARS))),
+        9 => row[1] = row[1].wrapping_add(random.choice(&[1, 255])),
+        10 => {
+            row.push(0);
+            row[1] = row[1].wrapping_add(1);
+        }
+        _ => {}
+    }
+    row
+}
+
+fn odd_target(random: &mut Random) -> Vec<u8> {
+    let n = random.choice(&[0, 1, 3, 63, 64, 65, 255]);
+    let mut target = vec![b'x'; n];
+    if n > 0 && random.chance(0.5) {
+        target[random.below(n)] = random.choice(&[0, 0x1F, 0x20, 0x7E, 0x7F, 0x80, 0xFF]);
+    }
+    target
+}
+
+fn odd_class(random: &mut Random) -> Vec<u8> {
+    let c = match random.below(4) {
+        0 => 0x20,
+        1 => random.choice(b"@A[Z`a{zmM") as u32,
+        2 => random.choice(&BORDER_SCALARS),
+        _ => random.below(0x3100) as u32,
+    };
+    let category = random.choice(&[0, 1, 1, 1, 2, 3, 4, 5, 6, 7, 7, 8, 255]);
+    let script = random.choice(&[0, 0, 0, 5, 127, 128, 255]);
+    let flags = random.choice(&[0, 0, 0, 1, 64, 127, 128, 255]);
+    class_row(c, (category, script, flags)).to_vec()
+}
+
+fn odd_vowel(random: &mut Random) -> Vec<u8> {
+    let script = random.choice(&[0, 1, 4, 7, 10, 126, 127, 128, 255]);
+    let letters = random.choice(&["a", "z", "abcd", "", "abcde", "A", "a`", "{", "a b", "1"]);
+    vowel_row(script, random.choice(&[0, 0, 1, 1, 2, 255]), letters)
+}
+
+/// as many rows as are allowed, or one more
+fn full(random: &mut Random, kind: usize) -> Vec<u8> {
+    let n = random.choice(&[8192, 8193]);
+    match kind {
+        0 => {
+            let row = Rule { source: &['b'], ..Rule::default() }.row();
+            block(std::iter::repeat_n(row, n))
+        }
+        _ => block((0..n as u32).map(|k| class_row(0x4E00 + k, (0, 0, 0)))),
+    }
+}

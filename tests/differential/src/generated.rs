@@ -1,0 +1,77 @@
+//! Cases from a seed, until the time is over.
+
+use crate::call::Call;
+use crate::damage::{Parts, damage};
+use crate::judge::{Judged, judge};
+use crate::random::Random;
+use crate::rooms;
+use crate::tester::Tester;
+use crate::world::{World, world};
+use oracle::Tables;
+use std::time::{Duration, Instant};
+
+/// damaged calls of a world: some 30 % of its cases
+const DAMAGED: usize = 10;
+
+pub fn run(tester: &mut Tester, seconds: u64, seed: u64) {
+    let name = format!("seed {seed}");
+    let begun = Instant::now();
+    let mut k = 0;
+    while !tester.enough()
+        && (begun.elapsed() < Duration::from_secs(seconds) || tester.spoil.done < tester.spoil.wanted)
+    {
+        let mut random = Random::of(seed, k);
+        let world = world(&mut random);
+        let tables = Tables::read(&world.rules, &world.classes, &world.vowels);
+        for asked in &world.asked {
+            ask(tester, &name, &mut random, parts(&world, asked), tables.as_ref());
+        }
+        for _ in 0..DAMAGED {
+            ask_damaged(tester, &name, &mut random, &world, tables.as_ref());
+        }
+        k += 1;
+    }
+    let (cases, numbers) = (tester.cases, tester.by_number());
+    let speed = cases as f64 / begun.elapsed().as_secs_f64();
+    println!("{cases} cases, {} differ (seed {seed}: {numbers}), {speed:.0}/s", tester.differ());
+}
+
+fn parts<'a>(world: &'a World, (code, text): &'a (&'static str, String)) -> [&'a [u8]; 5] {
+    [&world.rules, &world.classes, &world.vowels, code.as_bytes(), text.as_bytes()]
+}
+
+/// one lattice in each mode, and some more; what is strange is strange in all of them
+fn ask(tester: &mut Tester, name: &str, random: &mut Random, parts: [&[u8]; 5], tables: Option<&Tables>) {
+    let judged = judge(0, parts, tables);
+    let modes = [0, 1, 2, 3, random.below(4) as u8, random.below(4) as u8];
+    let asked = if judged.strange().is_some() { 1 } else { modes.len() };
+    for mode in &modes[..asked] {
+        test(tester, name, random, *mode, parts, &judged);
+    }
+}
+
+/// as much as is likely to matter is lent where there is a lattice, anything where there is none
+fn test(tester: &mut Tester, name: &str, random: &mut Random, mode: u8, parts: [&[u8]; 5], judged: &Judged) {
+    let lent = match judged {
+        Judged::Shown(shown) => rooms::some(random, &shown.added, &shown.outputs[mode as usize]),
+        _ => [random.below(100), random.below(60), random.below(60)],
+    };
+    let call = Call { mode, parts, lent };
+    tester.test(name, &call, &judged.wanted(mode, lent), judged.strange(), random.next());
+}
+
+fn ask_damaged(tester: &mut Tester, name: &str, random: &mut Random, world: &World, tables: Option<&Tables>) {
+    let asked = &world.asked[random.below(world.asked.len())];
+    let whole = parts(world, asked);
+    let mut damaged: Parts = whole.map(<[u8]>::to_vec);
+    let mut mode = random.below(4) as u8;
+    damage(random, &mut mode, &mut damaged);
+    let parts = damaged.each_ref().map(|part| &part[..]);
+    let read = if parts[..3] == whole[..3] { None } else { Some(Tables::read(parts[0], parts[1], parts[2])) };
+    let tables = match &read {
+        None => tables,
+        Some(read) => read.as_ref(),
+    };
+    let judged = judge(mode, parts, tables);
+    test(tester, name, random, mode, parts, &judged);
+}

@@ -1,0 +1,48 @@
+//! What a call must answer: refusals 1 to 8 by the checker, all else by the oracle; both must agree on which it is.
+
+use crate::call::{Answer, Lent};
+use crate::refusals::refusal;
+use crate::rooms::answered;
+use oracle::{Shown, Tables, allowed_code, allowed_text};
+
+pub enum Judged {
+    Refused(u64, u64),
+    Shown(Shown),
+    /// a finding by itself: what is wrong, and the refusal that the checker wants, if any
+    Strange(&'static str, Option<(u64, u64)>),
+}
+
+/// `tables` are what the oracle read of the first three parts
+pub fn judge(mode: u8, parts: [&[u8]; 5], tables: Option<&Tables>) -> Judged {
+    let refused = refusal(mode, parts);
+    let accepted =
+        (mode <= 3).then_some(()).and_then(|()| Some((tables?, allowed_code(parts[3])?, allowed_text(parts[4])?)));
+    match (refused, accepted) {
+        (Some((number, place)), None) => Judged::Refused(number, place),
+        (None, Some((tables, code, text))) => match tables.show(code, text) {
+            Some(shown) => Judged::Shown(shown),
+            None => Judged::Strange("the oracle panicked", None),
+        },
+        (Some(_), Some(_)) => Judged::Strange("the oracle accepts what the checker refuses", refused),
+        (None, None) => Judged::Strange("the oracle refuses what the checker accepts", None),
+    }
+}
+
+impl Judged {
+    pub fn wanted(&self, mode: u8, lent: Lent) -> Answer<'_> {
+        match self {
+            Judged::Refused(number, place) | Judged::Strange(_, Some((number, place))) => {
+                Answer::refused(*number, *place)
+            }
+            Judged::Strange(_, None) => Answer::done(&[], 0),
+            Judged::Shown(shown) => answered(&shown.added, &shown.outputs[mode as usize], lent),
+        }
+    }
+
+    pub fn strange(&self) -> Option<String> {
+        match self {
+            Judged::Strange(what, _) => Some(what.to_string()),
+            _ => None,
+        }
+    }
+}

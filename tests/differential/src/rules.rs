@@ -1,0 +1,123 @@
+//! The rules of a world, made from pieces of its texts.
+
+use crate::alphabets::{CODES, EN_DASH, PRE, TARGETS, USUAL};
+use crate::rows::{Rule, block};
+use crate::world::{Maker, Text};
+
+impl Maker<'_> {
+    /// rows rise by source; equal sources keep the order in which they were made
+    pub fn rule_table(&mut self, texts: &[Text]) -> Vec<u8> {
+        let mut sources = self.sources(&texts[0]);
+        for text in &texts[1..] {
+            if self.chance(0.2) {
+                let more = self.sources(text);
+                sources.extend(more.into_iter().filter(|s| s.len() > 1));
+            }
+        }
+        if self.chance(0.003) {
+            self.add_many(&mut sources);
+        }
+        let mut made = Vec::new();
+        for source in &sources {
+            for _ in 0..self.random.choice(&[1, 1, 1, 1, 2, 2, 3]) {
+                made.push((source, self.rule(source)));
+            }
+            if self.chance(0.1) {
+                // the same target by another rule, with alternatives of its own
+                let others = vec![b"x".to_vec(), b"k".to_vec()];
+                made.push((source, Rule { source, target: Some(b"k".to_vec()), others, ..Rule::default() }.row()));
+            }
+        }
+        made.sort_by_key(|(source, _)| *source);
+        block(made.iter().map(|(_, row)| row))
+    }
+
+    /// some hundreds of strangers, which a search must pass by
+    fn add_many(&mut self, sources: &mut Vec<Text>) {
+        for _ in 0..self.random.between(100, 500) {
+            let n = self.random.between(1, 4);
+            let mut source: Text = (0..n).map(|_| self.random.choice(&self.letters)).collect();
+            if self.chance(0.5) {
+                let at = self.random.below(n);
+                source[at] = char::from_u32(self.random.between(0x4E00, 0x4E40) as u32).unwrap();
+            }
+            sources.push(source);
+        }
+    }
+
+    /// characters of the text, stretches of it, patterns around a character, and strangers
+    fn sources(&mut self, text: &Text) -> Vec<Text> {
+        let mut sources: Vec<Text> = Vec::new();
+        for (k, c) in text.iter().enumerate() {
+            if !text[..k].contains(c) && self.chance(0.85) {
+                sources.push(vec![*c]);
+            }
+        }
+        for _ in 0..self.random.choice(&[0, 0, 1, 2, 4]) {
+            if text.len() > 1 {
+                let at = self.random.below(text.len() - 1);
+                let n = self.random.choice(&[2, 2, 2, 3, 3, 4, 6, 16]);
+                sources.push(text[at..(at + n).min(text.len())].to_vec());
+            }
+        }
+        for at in 1..text.len().saturating_sub(1) {
+            if self.kind(text[at - 1]).is_some_and(|kind| kind.2 & PRE > 0) && self.chance(0.4) {
+                let n = self.random.between(1, 3);
+                let mut source = vec![text[at - 1], EN_DASH];
+                source.extend(&text[at + 1..(at + 1 + n).min(text.len())]);
+                sources.push(source);
+            }
+        }
+        if !self.kinds.is_empty() && self.chance(0.3) {
+            let kinds = &self.kinds;
+            sources.push([(); 2].map(|_| self.random.choice(kinds).0).to_vec());
+        }
+        sources
+    }
+
+    fn rule(&mut self, source: &Text) -> Vec<u8> {
+        let plain = self.chance(0.55);
+        let flags = match (plain, self.random.below(3)) {
+            (true, _) | (_, 0) => 0,
+            (_, 1) => 1 << self.random.below(5),
+            _ => self.random.below(32) as u8,
+        };
+        let count = if plain { 0 } else { self.random.choice(&[0, 1, 1, 2, 255, 256, 65535]) };
+        let target = if self.chance(0.08) { None } else { Some(self.target(source)) };
+        let end = if self.chance(0.25) { Some(self.target(&[])) } else { None };
+        let others = (0..self.random.choice(&[0, 0, 0, 1, 2, 3])).map(|_| self.target(&[])).collect();
+        Rule { source, flags, count, codes: self.rule_codes(), target, end, others }.row()
+    }
+
+    fn rule_codes(&mut self) -> Vec<&'static str> {
+        if !self.chance(0.15) {
+            return Vec::new();
+        }
+        let n = self.random.between(1, 3);
+        let mut codes = self.random.sample(&CODES, n);
+        if !self.code.is_empty() && self.chance(0.5) {
+            codes[0] = self.code;
+        }
+        codes
+    }
+
+    fn target(&mut self, source: &[char]) -> Vec<u8> {
+        if let [c] = source
+            && let Some((_, usual)) = USUAL.iter().find(|(d, _)| d == c)
+            && self.chance(0.5)
+        {
+            return usual.as_bytes().to_vec();
+        }
+        if self.chance(0.03) {
+            let n = self.random.choice(&[3, 5, 9, 64]);
+            return (0..n).map(|_| self.random.choice(b"kgnyaio+- KA1")).collect();
+        }
+        let mut chosen = self.random.choice(&TARGETS).as_bytes().to_vec();
+        if !chosen.is_empty() && self.chance(0.15) {
+            // some other letter
+            let at = self.random.below(chosen.len());
+            chosen[at] = b'a' + self.random.below(26) as u8;
+        }
+        chosen
+    }
+}

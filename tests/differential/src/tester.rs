@@ -1,0 +1,82 @@
+//! Calls the library, compares, and counts.
+
+use crate::call::{Answer, Call};
+use crate::callfile::keep;
+use crate::compare::{difference, told};
+use crate::library::Library;
+use crate::spoil::Spoil;
+use std::path::PathBuf;
+
+const MOST_DIFFERENCES: u64 = 20;
+
+pub struct Tester {
+    folder: PathBuf,
+    library: Library,
+    pub spoil: Spoil,
+    /// whether a case that differs is written to a file of its own
+    pub keeps: bool,
+    pub cases: u64,
+    /// cases by the number that was wanted
+    numbers: [u64; 12],
+    differ: u64,
+    spoilt_found: u64,
+}
+
+impl Tester {
+    pub fn new(folder: PathBuf, spoil: Spoil) -> Self {
+        let library = Library::default();
+        Tester { folder, library, spoil, keeps: true, cases: 0, numbers: [0; 12], differ: 0, spoilt_found: 0 }
+    }
+
+    /// One case, unless there were differences enough. `strange` says what is wrong with it before the library is asked.
+    pub fn test(&mut self, name: &str, call: &Call, wanted: &Answer, strange: Option<String>, rubbish: u64) {
+        if self.enough() {
+            return;
+        }
+        self.library.call(call, rubbish);
+        let spoilt = self.spoil.spoil(self.cases, &mut self.library);
+        let found = match strange {
+            Some(what) => Some(format!("{what}; the library: {}", told(&self.library.numbers))),
+            None => difference(call, wanted, &self.library),
+        };
+        match found {
+            Some(_) if spoilt => self.spoilt_found += 1,
+            Some(what) => self.report(name, call, wanted, &what),
+            None => {}
+        }
+        self.cases += 1;
+        self.numbers[wanted.numbers.number.min(11) as usize] += 1;
+    }
+
+    fn report(&mut self, name: &str, call: &Call, wanted: &Answer, what: &str) {
+        self.differ += 1;
+        println!("difference {}: {name} case {}, mode {}: {what}", self.differ, self.cases, call.mode);
+        if self.keeps {
+            println!("{}", keep(&self.folder, call, wanted).unwrap_or_else(|e| format!("not kept: {e}")));
+        }
+    }
+
+    pub fn enough(&self) -> bool {
+        self.differ >= MOST_DIFFERENCES
+    }
+
+    /// "0: 900, 1: 12, .."
+    pub fn by_number(&self) -> String {
+        let some = self.numbers.iter().enumerate().filter(|(_, n)| **n > 0);
+        some.map(|(number, n)| format!("{number}: {n}")).collect::<Vec<_>>().join(", ")
+    }
+
+    pub fn differ(&self) -> u64 {
+        self.differ
+    }
+
+    /// whether the run ends well: no difference, or, where answers were spoilt, exactly these
+    pub fn well(&self) -> bool {
+        let exactly = self.spoil.done == self.spoil.wanted && self.spoilt_found == self.spoil.done;
+        if self.spoil.wanted > 0 {
+            let said = if exactly && self.differ == 0 { "and no others" } else { "NOT exactly the spoilt ones" };
+            println!("{} answers spoilt, {} of them found, {said}", self.spoil.done, self.spoilt_found);
+        }
+        exactly && self.differ == 0
+    }
+}

@@ -1,0 +1,155 @@
+//! The published Rust as a library, whose left-out passes are switched off: `answer` for a case with all its tables,
+//! `Tables` for many texts under the same ones.
+#![allow(dead_code, clippy::all)]
+
+mod dicts;
+mod edge;
+mod lattice;
+mod listing;
+mod shim;
+mod tables;
+mod utils;
+
+pub use shim::blocks::report;
+pub use tables::Reader;
+
+use dicts::{Data, Dicts};
+use lattice::Lattice;
+use listing::listing;
+use std::panic::{AssertUnwindSafe, catch_unwind};
+
+// `decomp_rom` names these; with no decompositions it never gets that far.
+pub mod rom_format {
+    pub struct Str;
+}
+pub struct Uroman;
+impl Uroman {
+    pub fn new() -> Self {
+        Uroman
+    }
+    pub fn romanize_string<F>(&self, _s: &str, _lcode: Option<&str>) -> String {
+        unreachable!()
+    }
+}
+
+pub const DONE: u8 = 0;
+pub const PANICKED: u8 = 1;
+pub const REFUSED: u8 = 2;
+
+pub struct Answer {
+    /// `DONE`, `PANICKED`, or `REFUSED` by one of 1 to 8
+    pub status: u8,
+    pub output: Vec<u8>,
+    /// start and text length of every lattice edge, in adding order
+    pub added: Vec<(usize, usize)>,
+}
+
+/// The same lattice shown in each mode.
+pub struct Shown {
+    pub outputs: [Vec<u8>; 4],
+    /// as in `Answer`
+    pub added: Vec<(usize, usize)>,
+}
+
+/// Tables that were read once.
+pub struct Tables {
+    data: Data,
+}
+
+impl Tables {
+    /// none where one of them is faulty
+    pub fn read(rules: &[u8], classes: &[u8], vowels: &[u8]) -> Option<Self> {
+        tables::read(rules, classes, vowels).map(|data| Tables { data })
+    }
+
+    /// The output of a mode, and nothing besides. A text that `allowed_text` refuses is no text to ask.
+    pub fn romanize(&self, mode: u8, code: &str, text: &str) -> Vec<u8> {
+        self.installed(|dicts| output(&mut filled(dicts, code, text), mode, text))
+    }
+
+    /// The lattice of a text in all modes; none where the Rust panics.
+    pub fn show(&self, code: &str, text: &str) -> Option<Shown> {
+        let shown = || {
+            self.installed(|dicts| {
+                let (mut lattice, added) = filled_and_counted(dicts, code, text);
+                Shown { outputs: [0, 1, 2, 3].map(|mode| output(&mut lattice, mode, text)), added }
+            })
+        };
+        catch_unwind(AssertUnwindSafe(shown)).ok()
+    }
+
+    fn installed<T>(&self, run: impl FnOnce(Dicts) -> T) -> T {
+        let _taken_out_again = Installed;
+        // SAFETY: `run` returns outputs and numbers; none of them points into the tables.
+        run(unsafe { Dicts::install(&self.data) })
+    }
+}
+
+/// Takes the tables out again, after a panic too.
+struct Installed;
+impl Drop for Installed {
+    fn drop(&mut self) {
+        Dicts::uninstall();
+    }
+}
+
+/// As `romanize_string`, without the left-out passes.
+fn filled(dicts: Dicts, code: &str, text: &str) -> Lattice {
+    shim::forget_added();
+    let mut lattice = Lattice::new(text, dicts, if code.is_empty() { None } else { Some(code) });
+    lattice.add_romanization();
+    lattice.add_rom_fall_back_singles();
+    lattice
+}
+
+fn filled_and_counted(dicts: Dicts, code: &str, text: &str) -> (Lattice, Vec<(usize, usize)>) {
+    let lattice = filled(dicts, code, text);
+    let added = shim::added();
+    assert_eq!(lattice.all_edges(0, text.chars().count()).len(), added.len());
+    (lattice, added)
+}
+
+fn output(lattice: &mut Lattice, mode: u8, text: &str) -> Vec<u8> {
+    let n = text.chars().count();
+    match mode {
+        0 => {
+            let path = lattice.best_rom_edge_path(0, n, false);
+            path.iter().map(|edge| edge.txt()).collect::<String>().into_bytes()
+        }
+        1 => listing(&lattice.best_rom_edge_path(0, n, false)),
+        2 => {
+            let mut edges = lattice.best_rom_edge_path(0, n, false);
+            lattice.add_alternatives(&mut edges);
+            listing(&edges)
+        }
+        _ => listing(&lattice.all_edges(0, n)),
+    }
+}
+
+/// A text that no call refuses.
+pub fn allowed_text(text: &[u8]) -> Option<&str> {
+    let left_out = |c| matches!(c, '\u{F00}'..='\u{FFF}' | '\u{2800}'..='\u{28FF}' | '\u{AC00}'..='\u{D7A3}');
+    let text = std::str::from_utf8(text).ok()?;
+    (text.chars().count() <= 512 && !text.chars().any(left_out)).then_some(text)
+}
+
+/// A language code that no call refuses.
+pub fn allowed_code(code: &[u8]) -> Option<&str> {
+    let right = code.is_empty() || (code.len() == 3 && code.iter().all(u8::is_ascii_lowercase));
+    std::str::from_utf8(code).ok().filter(|_| right)
+}
+
+pub fn answer(mode: u8, [rules, classes, vowels, code, text]: [&[u8]; 5]) -> Answer {
+    let empty = |status| Answer { status, output: Vec::new(), added: Vec::new() };
+    let read = Tables::read(rules, classes, vowels);
+    let (Some(tables), Some(code), Some(text), 0..=3) = (read, allowed_code(code), allowed_text(text), mode) else {
+        return empty(REFUSED);
+    };
+    let run = || {
+        tables.installed(|dicts| {
+            let (mut lattice, added) = filled_and_counted(dicts, code, text);
+            Answer { status: DONE, output: output(&mut lattice, mode, text), added }
+        })
+    };
+    catch_unwind(AssertUnwindSafe(run)).unwrap_or_else(|_| empty(PANICKED))
+}
