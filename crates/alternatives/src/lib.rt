@@ -23,7 +23,7 @@ ghost use Rattle.edge.specs.Stored.{Slot};
 ghost use Rattle.edge.specs.Best.{edge-at, Found};
 ghost use Rattle.listing.specs.Items.{put-items};
 ghost use Rattle.words.specs.Found.{Row, Rows};
-ghost use Rattle.words.specs.Given.{text-of, view-of};
+ghost use Rattle.words.specs.Given.{text-in, view-of};
 ghost use Rattle.rules.specs.Lent.{Lent, lexicon-of};
 ghost use Rattle.offers.specs.Texts.{texts, Spoken, holding};
 ghost use Rattle.alternatives.specs.News.{earlier};
@@ -218,10 +218,10 @@ fn put_edge_alternatives(
     requires { ⌜ Lent (now rules) (now index) (now classes) (now alphas) (now line) (now kinds) (now slots) (now room) n count
         × Slot (now room) (length (now room)) (drop slot (now slots)) × Sound n (edge-of (now room) (drop slot (now slots))) × (at < 2305843009213693952) ⌝ }
     ensures { λ r. ⌜ ((r, now (out .exit)) ≡ put-items true (found-by (edge-of (now (room .entry)) (drop slot (now (slots .entry))))
-        (valid-rules (lexicon-of (now (rules .entry)) (now (classes .entry)) (now (code .entry))) (text-of (now (line .entry)) n)
+        (valid-rules (lexicon-of (now (rules .entry)) (now (classes .entry)) (now (code .entry))) (text-in (now (line .entry)) n)
         (view-of (now (classes .entry)) (now (slots .entry)) (now (room .entry)) count) (now (starts .entry))
         (edge-of (now (room .entry)) (drop slot (now (slots .entry))) .from) (edge-of (now (room .entry)) (drop slot (now (slots .entry))) .to))) (at, now (out .entry)))
-        × Recalls (lexicon-of (now (rules .entry)) (now (classes .entry)) (now (code .entry))) (text-of (now (line .entry)) n)
+        × Recalls (lexicon-of (now (rules .entry)) (now (classes .entry)) (now (code .entry))) (text-in (now (line .entry)) n)
         (view-of (now (classes .entry)) (now (slots .entry)) (now (room .entry)) count) (now (starts .exit)) (now (starts .entry))
         × (r ≤ at + 159383552) ⌝ }
 {
@@ -273,10 +273,10 @@ fn put_best_alternatives(
 ) -> usize
     requires { ⌜ Lent (now rules) (now index) (now classes) (now alphas) (now line) (now kinds) (now slots) (now room) n count
         × Found count best × Opt (Sound n) (edge-at (now room) (now slots) best) × (at < 2305843009213693952) ⌝ }
-    ensures { λ r. ⌜ ((r, now (out .exit)) ≡ put-items true (found-all (lexicon-of (now (rules .entry)) (now (classes .entry)) (now (code .entry))) (text-of (now (line .entry)) n)
+    ensures { λ r. ⌜ ((r, now (out .exit)) ≡ put-items true (found-all (lexicon-of (now (rules .entry)) (now (classes .entry)) (now (code .entry))) (text-in (now (line .entry)) n)
         (view-of (now (classes .entry)) (now (slots .entry)) (now (room .entry)) count) (now (starts .entry))
         (join (edge-at (now (room .entry)) (now (slots .entry)) best) [])) (at, now (out .entry)))
-        × Recalls (lexicon-of (now (rules .entry)) (now (classes .entry)) (now (code .entry))) (text-of (now (line .entry)) n)
+        × Recalls (lexicon-of (now (rules .entry)) (now (classes .entry)) (now (code .entry))) (text-in (now (line .entry)) n)
         (view-of (now (classes .entry)) (now (slots .entry)) (now (room .entry)) count) (now (starts .exit)) (now (starts .entry))
         × (r ≤ at + 159383552) ⌝ }
 {
@@ -321,7 +321,7 @@ pub fn put_alternatives(
 ) -> usize
     requires { ⌜ Lent (now rules) (now index) (now classes) (now alphas) (now line) (now kinds) (now slots) (now room) n count
         × All (Sound n) (edges-of (now room) count (now slots)) × (at < 4294967296) ⌝ }
-    ensures { λ r. ⌜ (r, now (out .exit)) ≡ put-items true (found-all (lexicon-of (now (rules .entry)) (now (classes .entry)) (now (code .entry))) (text-of (now (line .entry)) n)
+    ensures { λ r. ⌜ (r, now (out .exit)) ≡ put-items true (found-all (lexicon-of (now (rules .entry)) (now (classes .entry)) (now (code .entry))) (text-in (now (line .entry)) n)
         (view-of (now (classes .entry)) (now (slots .entry)) (now (room .entry)) count) (now (starts .entry))
         (path-from n 0 (edges-of (now (room .entry)) count (now (slots .entry))))) (at, now (out .entry)) ⌝ }
 {

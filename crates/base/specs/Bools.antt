@@ -16,6 +16,15 @@ pub and-right : (x y : Bool) → (x && y) ≡ true → y ≡ true
 and-right true y e = e
 and-right false y e = absurd (true≢false (sym e))
 
+-- where neither holds
+pub or-left : (x y : Bool) → (x || y) ≡ false → x ≡ false
+or-left true y e = e
+or-left false y e = refl
+
+pub or-right : (x y : Bool) → (x || y) ≡ false → y ≡ false
+or-right true y e = absurd (true≢false e)
+or-right false y e = e
+
 -- where the first holds, the second is what `not x || y` asks
 pub or-not : (x y : Bool) → x ≡ true → (not x || y) ≡ true → y ≡ true
 or-not true y p e = e

@@ -1,5 +1,5 @@
 -- UTF-8 back again: where no sequence is bad, the bytes are those of the characters.
-use mathlib.Core.Bool.{Bool, true, false, _&&_, _||_, true≢false}
+use mathlib.Core.Bool.{_&&_}
 use mathlib.Core.Path.{_≡_, refl, sym, ap, _∙_}
 use mathlib.Core.List.{List, [], _∷_, _++_}
 use mathlib.Core.Option.{none}
@@ -9,18 +9,9 @@ use lib.Dec.{leb, ltb}
 use lib.ListN.{length, getD, drop, length-drop}
 use borrow.Author.Tests.{lt-ltb, le-ltb, ltb-true, ltb-false, leb-true, leb-false}
 use Rattle.base.specs.Pick.{pick, pick-ind}
-use Rattle.base.specs.Bools.{and-left}
+use Rattle.base.specs.Bools.{and-left, or-left, or-right}
 use Rattle.definition.specs.Utf8.{Read, char, bad, six, checked, sequence, read, scalar, bad-sequence, decoded, encode, encoded}
 use Rattle.definition.specs.Utf8Turns.{bad-at, bad-sequence-is, bad-here, bad-next, decoded-none, decoded-next, char-bytes}
-
--- where not one of two tests holds, neither does
-or-left : (x y : Bool) → (x || y) ≡ false → x ≡ false
-or-left true y e = e
-or-left false y e = refl
-
-or-right : (x y : Bool) → (x || y) ≡ false → y ≡ false
-or-right true y e = absurd (true≢false e)
-or-right false y e = e
 
 -- Six bits are only a continuation byte's, and tell it
 six-back : (b : ℕ) → six b < 64 → b ≡ 128 + six b

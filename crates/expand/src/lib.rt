@@ -20,7 +20,7 @@ ghost use Rattle.rom.specs.Rom.{text, Clean};
 ghost use Rattle.edge.specs.Slots.{edges-of};
 ghost use Rattle.edge.specs.Asked.{Readable};
 ghost use Rattle.words.specs.Did.{Did};
-ghost use Rattle.words.specs.Given.{text-of, view-of, Lined};
+ghost use Rattle.words.specs.Given.{text-in, view-of, Lined};
 ghost use Rattle.rules.specs.Lent.{Lent, lexicon-of};
 ghost use Rattle.rules.specs.Chosen.{said, Said, or-nothing};
 ghost use Rattle.steps.specs.Works.{work-of};
@@ -54,7 +54,7 @@ const KATAKANA_YO: u32 = 0x30E7;
 fn has_grave(line: &[u32], kinds: &[u32], w: Work) -> bool
     requires { ⌜ w .to ≤ most-characters ⌝ }
     ensures { λ r. ⌜ ((rules classes code : List ℕ) (n : ℕ) (v : View) → Lined classes (now (line .entry)) (now (kinds .entry)) n → w .to ≤ n
-        → r ≡ has-grave (lexicon-of rules classes code) (text-of (now (line .entry)) n) v (work-of w)) ⌝ }
+        → r ≡ has-grave (lexicon-of rules classes code) (text-in (now (line .entry)) n) v (work-of w)) ⌝ }
 {
     if words::number_at(line, w.to + 1) == GRAVE {
         return classes::script(words::number_at(kinds, w.to)) == classes::COPTIC;
@@ -97,7 +97,7 @@ fn grave(
 ) -> Work
     requires { ⌜ Lent (now rules) (now index) (now classes) (now alphas) (now line) (now kinds) (now slots) (now room) n count
         × Clean (w .rom) × (w .rom .len < most-bytes) × (o ≤ w .to) × (w .to ≤ n) ⌝ }
-    ensures { λ r. ⌜ Did (grave (lexicon-of (now (rules .entry)) (now (classes .entry)) (now (code .entry))) (text-of (now (line .entry)) n)
+    ensures { λ r. ⌜ Did (grave (lexicon-of (now (rules .entry)) (now (classes .entry)) (now (code .entry))) (text-in (now (line .entry)) n)
         (view-of (now (classes .entry)) (now (slots .entry)) (now (room .entry)) count) o (work-of w) (now (starts .entry))) (work-of r) (now (starts .exit))
         × Clean (r .rom) × (r .rom .len ≤ w .rom .len + 1) × (r .from ≡ w .from) × (w .to ≤ r .to) × (r .to ≤ n) ⌝ }
 {
@@ -152,7 +152,7 @@ fn is_small_ya(c: u32) -> bool
 fn is_small_next(line: &[u32], kinds: &[u32], w: Work) -> bool
     requires { ⌜ w .to ≤ most-characters ⌝ }
     ensures { λ r. ⌜ ((classes : List ℕ) (n : ℕ) → Lined classes (now (line .entry)) (now (kinds .entry)) n → w .to ≤ n
-        → r ≡ small-here (classes-of classes) (text-of (now (line .entry)) n) (w .to)) ⌝ }
+        → r ≡ small-here (classes-of classes) (text-in (now (line .entry)) n) (w .to)) ⌝ }
 {
     if is_small_ya(words::number_at(line, w.to + 1)) {
         let script = classes::script(words::number_at(kinds, w.to));
@@ -188,7 +188,7 @@ fn small_target(
 ) -> Chosen
     requires { ⌜ Ready (now rules) (now index) × Clean (w .rom) × (w .to ≤ n) × (n ≤ most-characters) ⌝ }
     ensures { λ r. ⌜ ((classes : List ℕ) → Lined classes (now (line .entry)) (now (kinds .entry)) n
-        → said (now (rules .entry)) r ≡ small-target (rules-of (now (rules .entry))) (classes-of classes) (text-of (now (line .entry)) n) (work-of w))
+        → said (now (rules .entry)) r ≡ small-target (rules-of (now (rules .entry))) (classes-of classes) (text-in (now (line .entry)) n) (work-of w))
         × Said (now (rules .entry)) r ⌝ }
 {
     if is_small_next(line, kinds, w) {
@@ -237,7 +237,7 @@ fn small_y(
 ) -> Work
     requires { ⌜ Lent (now rules) (now index) (now classes) (now alphas) (now line) (now kinds) (now slots) (now room) n count
         × Clean (w .rom) × (w .rom .len + most-target ≤ most-bytes) × (o ≤ w .to) × (w .from ≤ w .to) × (w .to ≤ n) ⌝ }
-    ensures { λ r. ⌜ Did (small-y (lexicon-of (now (rules .entry)) (now (classes .entry)) (now (code .entry))) (text-of (now (line .entry)) n)
+    ensures { λ r. ⌜ Did (small-y (lexicon-of (now (rules .entry)) (now (classes .entry)) (now (code .entry))) (text-in (now (line .entry)) n)
         (view-of (now (classes .entry)) (now (slots .entry)) (now (room .entry)) count) o (work-of w) (now (starts .entry))) (work-of r) (now (starts .exit))
         × Clean (r .rom) × (r .rom .len < most-bytes) × (r .from ≡ w .from) × (r .to ≤ n) ⌝ }
 {
@@ -305,7 +305,7 @@ fn rest(
 ) -> Work
     requires { ⌜ Lent (now rules) (now index) (now classes) (now alphas) (now line) (now kinds) (now slots) (now room) n count
         × Clean (w .rom) × (w .rom .len + most-target < most-bytes) × (o ≤ w .to) × (w .from ≤ w .to) × (w .to ≤ n) ⌝ }
-    ensures { λ r. ⌜ Did (rest (lexicon-of (now (rules .entry)) (now (classes .entry)) (now (code .entry))) (text-of (now (line .entry)) n)
+    ensures { λ r. ⌜ Did (rest (lexicon-of (now (rules .entry)) (now (classes .entry)) (now (code .entry))) (text-in (now (line .entry)) n)
         (view-of (now (classes .entry)) (now (slots .entry)) (now (room .entry)) count) o (work-of w) (now (starts .entry))) (work-of r) (now (starts .exit)) × Clean (r .rom) ⌝ }
 {
     let u = grave(
@@ -377,8 +377,8 @@ fn starts_beside(rules: &[u8], index: &[u32], c: u32) -> bool
 fn is_in_thai(kinds: &[u32], w: Work) -> bool
     requires { ⌜ (w .from ≤ most-characters) × (w .to ≤ most-characters) ⌝ }
     ensures { λ r. ⌜ ((classes line : List ℕ) (n : ℕ) → Lined classes line (now (kinds .entry)) n → w .from ≤ n → w .to ≤ n
-        → r ≡ (eqb (script (classes-of classes) (prev (text-of line n) (w .from))) script-thai
-        && eqb (script (classes-of classes) (at (text-of line n) (w .to))) script-thai)) ⌝ }
+        → r ≡ (eqb (script (classes-of classes) (prev (text-in line n) (w .from))) script-thai
+        && eqb (script (classes-of classes) (at (text-in line n) (w .to))) script-thai)) ⌝ }
 {
     if classes::script(words::number_at(kinds, w.from)) == classes::THAI {
         return classes::script(words::number_at(kinds, w.to + 1)) == classes::THAI;
@@ -400,7 +400,7 @@ fn is_between(
 ) -> bool
     requires { ⌜ Ready (now rules) (now index) × Readable (now slots) (now room) count × (w .from ≤ n) × (w .to ≤ n) × (n ≤ most-characters) ⌝ }
     ensures { λ r. ⌜ ((classes : List ℕ) → Lined classes (now (line .entry)) (now (kinds .entry)) n
-        → r ≡ between (rules-of (now (rules .entry))) (classes-of classes) (text-of (now (line .entry)) n)
+        → r ≡ between (rules-of (now (rules .entry))) (classes-of classes) (text-in (now (line .entry)) n)
         (view-of classes (now (slots .entry)) (now (room .entry)) count) (work-of w)) ⌝ }
 {
     if is_in_thai(kinds, w) {
@@ -427,7 +427,7 @@ fn is_silent(
 ) -> bool
     requires { ⌜ Ready (now rules) (now index) × Readable (now slots) (now room) count × (w .from ≤ n) × (w .to ≤ n) × (n ≤ most-characters) × (o ≤ n) ⌝ }
     ensures { λ r. ⌜ ((classes : List ℕ) → Lined classes (now (line .entry)) (now (kinds .entry)) n
-        → r ≡ silent (rules-of (now (rules .entry))) (classes-of classes) (text-of (now (line .entry)) n)
+        → r ≡ silent (rules-of (now (rules .entry))) (classes-of classes) (text-in (now (line .entry)) n)
         (view-of classes (now (slots .entry)) (now (room .entry)) count) o (work-of w)) ⌝ }
 {
     if words::number_at(line, o + 1) == O_ANG {
@@ -461,7 +461,7 @@ fn o_ang_step(
 ) -> Work
     requires { ⌜ Lent (now rules) (now index) (now classes) (now alphas) (now line) (now kinds) (now slots) (now room) n count
         × Clean (w .rom) × (w .rom .len + most-target < most-bytes) × (o ≤ w .to) × (w .from ≤ w .to) × (w .to ≤ n) ⌝ }
-    ensures { λ r. ⌜ Did (o-ang-step (lexicon-of (now (rules .entry)) (now (classes .entry)) (now (code .entry))) (text-of (now (line .entry)) n)
+    ensures { λ r. ⌜ Did (o-ang-step (lexicon-of (now (rules .entry)) (now (classes .entry)) (now (code .entry))) (text-in (now (line .entry)) n)
         (view-of (now (classes .entry)) (now (slots .entry)) (now (room .entry)) count) o (work-of w) (now (starts .entry))) (work-of r) (now (starts .exit)) × Clean (r .rom) ⌝ }
 {
     if is_silent(rules, index, line, kinds, n, slots, room, count, o, w) {
@@ -509,7 +509,7 @@ fn thai(
 ) -> Work
     requires { ⌜ Lent (now rules) (now index) (now classes) (now alphas) (now line) (now kinds) (now slots) (now room) n count
         × Clean (w .rom) × (w .rom .len + most-target + most-target < most-bytes) × (o ≤ w .to) × (w .from ≤ w .to) × (w .to ≤ n) ⌝ }
-    ensures { λ r. ⌜ Did (thai (lexicon-of (now (rules .entry)) (now (classes .entry)) (now (code .entry))) (text-of (now (line .entry)) n)
+    ensures { λ r. ⌜ Did (thai (lexicon-of (now (rules .entry)) (now (classes .entry)) (now (code .entry))) (text-in (now (line .entry)) n)
         (view-of (now (classes .entry)) (now (slots .entry)) (now (room .entry)) count) o (work-of w) (now (starts .entry))) (work-of r) (now (starts .exit)) × Clean (r .rom) ⌝ }
 {
     let tried = steps::around(rules, index, line, kinds, n, w);
@@ -554,7 +554,7 @@ fn by_script(
 ) -> Work
     requires { ⌜ Lent (now rules) (now index) (now classes) (now alphas) (now line) (now kinds) (now slots) (now room) n count
         × Clean (w .rom) × (w .rom .len + most-target + most-target < most-bytes) × (o ≤ w .to) × (w .from ≤ w .to) × (w .to ≤ n) ⌝ }
-    ensures { λ r. ⌜ Did (by-script (lexicon-of (now (rules .entry)) (now (classes .entry)) (now (code .entry))) (text-of (now (line .entry)) n)
+    ensures { λ r. ⌜ Did (by-script (lexicon-of (now (rules .entry)) (now (classes .entry)) (now (code .entry))) (text-in (now (line .entry)) n)
         (view-of (now (classes .entry)) (now (slots .entry)) (now (room .entry)) count) o (work-of w) (now (starts .entry))) (work-of r) (now (starts .exit)) × Clean (r .rom) ⌝ }
 {
     if classes::script(words::number_at(kinds, o + 1)) == classes::THAI {
@@ -613,7 +613,7 @@ pub fn expand_rom_with_special_chars(
 ) -> Work
     requires { ⌜ Lent (now rules) (now index) (now classes) (now alphas) (now line) (now kinds) (now slots) (now room) n count
         × Clean r × (r .len ≤ most-target + most-vowel) × (s < e) × (e ≤ n) ⌝ }
-    ensures { λ w. ⌜ Did (expand (lexicon-of (now (rules .entry)) (now (classes .entry)) (now (code .entry))) (text-of (now (line .entry)) n)
+    ensures { λ w. ⌜ Did (expand (lexicon-of (now (rules .entry)) (now (classes .entry)) (now (code .entry))) (text-in (now (line .entry)) n)
         (view-of (now (classes .entry)) (now (slots .entry)) (now (room .entry)) count) (text r) s e (now (starts .entry))) (work-of w) (now (starts .exit)) × Clean (w .rom) ⌝ }
 {
     let w = Work {

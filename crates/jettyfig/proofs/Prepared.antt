@@ -13,7 +13,7 @@ use Rattle.definition.specs.Parts.{scalars}
 use Rattle.utf8.specs.Lines.{framed}
 use Rattle.classes.specs.Told.{kinds-of, alphas-of}
 use Rattle.dicts.specs.Index.{index-entries, row-offsets, indexed, index-of}
-use Rattle.words.specs.Given.{Lined, text-of, framed-text, line-length}
+use Rattle.words.specs.Given.{Lined, text-in, framed-text, line-length}
 use Rattle.rules.specs.Lent.{Read}
 use Rattle.lattice.specs.Fallback.{Own}
 use Rattle.definition.specs.Rewritten.{encoded-decoded}
@@ -30,8 +30,8 @@ module _ (i : Inputs) (e : refusal i ≡ none) (line : List ℕ) (n : ℕ) (l : 
   few = subst (λ k. k ≤ most-characters) (sym m) short
 
   -- the line's characters are the text's
-  pub line-text : text-of line n ≡ decoded (i .text)
-  line-text = ap (λ (s : List ℕ). text-of s n) l ∙ ap (text-of (framed (decoded (i .text)))) m ∙ framed-text (decoded (i .text)) short
+  pub line-text : text-in line n ≡ decoded (i .text)
+  line-text = ap (λ (s : List ℕ). text-in s n) l ∙ ap (text-in (framed (decoded (i .text)))) m ∙ framed-text (decoded (i .text)) short
 
   lined : (kinds : List ℕ) → kinds ≡ kinds-of (i .classes) line → Lined (i .classes) line kinds n
   lined kinds k = record {
@@ -55,7 +55,7 @@ module _ (i : Inputs) (e : refusal i ≡ none) (line : List ℕ) (n : ℕ) (l : 
   }
 
   -- the text's bytes are those of the line's characters
-  pub own : Own (i .text) (text-of line n)
+  pub own : Own (i .text) (text-in line n)
   unfolding characters
   own = subst (Own (i .text)) (sym line-text) (record { bytes = sym (encoded-decoded (i .text) (passed .text)); scalars = scalars i })
 

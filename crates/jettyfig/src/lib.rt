@@ -15,7 +15,7 @@ ghost use Rattle.utf8.specs.Read.{text-refusal};
 ghost use Rattle.utf8.specs.Lines.{framed};
 ghost use Rattle.classes.specs.Told.{FineVowels};
 ghost use Rattle.edge.specs.Slots.{edges-of};
-ghost use Rattle.words.specs.Given.{text-of};
+ghost use Rattle.words.specs.Given.{text-in};
 ghost use Rattle.rules.specs.Lent.{Read, Lent};
 ghost use Rattle.lattice.specs.Fallback.{Own};
 ghost use Rattle.jettyfig.specs.Verdicts.{refusal-of, given, returned, by-code, by-vowels, by-classes, by-tables, before-text};
@@ -127,7 +127,7 @@ fn show(
         × All (Sound n) (edges-of (now room) count (now slots)) × (count ≤ most-edges * most-characters) × (mode ≤ 3)
         × (now out ≡ replicate (length (now out)) 0) ⌝ }
     ensures { λ r. ⌜ ((vowels : List ℕ) (i : Inputs) → i .out ≡ length (now (out .entry)) → returned r (now (out .exit)) ≡ written i count
-        (shown (tables-of (now (rules .entry)) (now (classes .entry)) vowels (now (code .entry))) (text-of (now (line .entry)) n) mode
+        (shown (tables-of (now (rules .entry)) (now (classes .entry)) vowels (now (code .entry))) (text-in (now (line .entry)) n) mode
         (edges-of (now (room .entry)) count (now (slots .entry)), now (starts .entry)))) ⌝ }
 {
     let needed = output::put_shown(
@@ -177,10 +177,10 @@ fn romanize<'a>(
     out: &mut [u8],
 ) -> Answer
     requires { ⌜ Read (now rules) (now index) (now classes) (now alphas) (now line) (now kinds) n × FineVowels (now vowels)
-        × Own (now text) (text-of (now line) n) × (now starts ≡ replicate n 0) × (mode ≤ 3) × (now out ≡ replicate (length (now out)) 0) ⌝ }
+        × Own (now text) (text-in (now line) n) × (now starts ≡ replicate n 0) × (mode ≤ 3) × (now out ≡ replicate (length (now out)) 0) ⌝ }
     ensures { λ r. ⌜ returned r (now (out .exit)) ≡ accepted (given mode (now (rules .entry)) (now (classes .entry)) (now (vowels .entry)) (now (code .entry)) (now (text .entry))
         (length (now (slots .entry))) (length (now (room .entry))) (length (now (out .entry))))
-        (tables-of (now (rules .entry)) (now (classes .entry)) (now (vowels .entry)) (now (code .entry))) (text-of (now (line .entry)) n) ⌝ }
+        (tables-of (now (rules .entry)) (now (classes .entry)) (now (vowels .entry)) (now (code .entry))) (text-in (now (line .entry)) n) ⌝ }
 {
     match lattice::build_lattice(
         rules,

@@ -26,7 +26,7 @@ use Rattle.edge.specs.Slots.{edge-by, edges-of}
 use Rattle.edge.specs.Stored.{Stored}
 use Rattle.edge.specs.Adding.{added, slots-after, room-after, Writable}
 use Rattle.words.specs.Did.{Did}
-use Rattle.words.specs.Given.{text-of, Lined, kind-at}
+use Rattle.words.specs.Given.{text-in, Lined, kind-at}
 use Rattle.spans.specs.Spans.{fallback-bytes, category-note}
 use Rattle.lattice.specs.Reached.{Reached, reached-add, reached-wide, reached-as}
 use Rattle.lattice.specs.Turns.{put-in-did, put-fallback}
@@ -35,7 +35,7 @@ use Rattle.lattice.specs.Fallback.{single-numbers, category-text, search
 -- the annotation that is asked of a packed class
 pub note-at : {classes line kinds : List ℕ} {n : ℕ} → Lined classes line kinds n → (p kind k c : ℕ) → p < n
     → kind ≡ getD kinds (p + 1) 0 → k ≡ kind % 8 → c ≡ category-note k
-    → c ≡ category-note (class (classes-of classes) (at (text-of line n) p) .category)
+    → c ≡ category-note (class (classes-of classes) (at (text-in line n) p) .category)
 note-at g p kind k c h a b e = e ∙ ap category-note (b ∙ ap (λ x. x % 8) a ∙ kind-at g p (omega arith) .category)
 
 category-short : (c : ℕ) → length (category-text c) ≤ 1

@@ -15,7 +15,7 @@ ghost use Rattle.classes.specs.Told.{FineVowels};
 ghost use Rattle.dicts.specs.Index.{Ready};
 ghost use Rattle.edge.specs.Slots.{edges-of};
 ghost use Rattle.edge.specs.Stored.{Stored};
-ghost use Rattle.words.specs.Given.{text-of, Lined};
+ghost use Rattle.words.specs.Given.{text-in, Lined};
 ghost use Rattle.rules.specs.Lent.{Read};
 ghost use Rattle.rules.specs.Chosen.{said};
 ghost use Rattle.lattice.specs.Reached.{Reached};
@@ -29,7 +29,7 @@ use rules::Chosen;
 fn is_prefix(rules: &[u8], index: &[u32], line: &[u32], n: usize, s: usize, e: usize) -> bool
     requires { ⌜ Ready (now rules) (now index) × (n < length (now line)) × (s < e) × (s ≤ n) ⌝ }
     ensures { λ r. ⌜ ((classes kinds : List ℕ) → Lined classes (now (line .entry)) kinds n
-        → r ≡ is-prefix (rules-of (now (rules .entry))) (text-of (now (line .entry)) n) s e) ⌝ }
+        → r ≡ is-prefix (rules-of (now (rules .entry))) (text-in (now (line .entry)) n) s e) ⌝ }
 {
     if n < e {
         return false;
@@ -59,7 +59,7 @@ fn add_span(
     requires { ⌜ Read (now rules) (now index) (now classes) (now alphas) (now line) (now kinds) n × FineVowels (now vowels)
         × Stored (now slots) (now room) count used × (used < 4294967296) × (s < e) × (e ≤ n) ⌝ }
     ensures { λ r. ⌜ Reached (now (slots .entry)) (now (room .entry)) (now (slots .exit)) (now (room .exit)) (now (starts .exit)) (used + 198)
-        (put-span (tables-of (now (rules .entry)) (now (classes .entry)) (now (vowels .entry)) (now (code .entry))) (text-of (now (line .entry)) n) s e
+        (put-span (tables-of (now (rules .entry)) (now (classes .entry)) (now (vowels .entry)) (now (code .entry))) (text-in (now (line .entry)) n) s e
         (edges-of (now (room .entry)) count (now (slots .entry)), now (starts .entry))) r ⌝ }
 {
     let found = spans::span_edge(
@@ -115,7 +115,7 @@ fn add_from(
     requires { ⌜ Read (now rules) (now index) (now classes) (now alphas) (now line) (now kinds) n × FineVowels (now vowels)
         × Stored (now slots) (now room) count used × (used < 4294960000) × (s < n) ⌝ }
     ensures { λ r. ⌜ Reached (now (slots .entry)) (now (room .entry)) (now (slots .exit)) (now (room .exit)) (now (starts .exit)) (used + 3168)
-        (build (tables-of (now (rules .entry)) (now (classes .entry)) (now (vowels .entry)) (now (code .entry))) (text-of (now (line .entry)) n) s
+        (build (tables-of (now (rules .entry)) (now (classes .entry)) (now (vowels .entry)) (now (code .entry))) (text-in (now (line .entry)) n) s
         (edges-of (now (room .entry)) count (now (slots .entry)), now (starts .entry))) r ⌝ }
 {
     let mut edges = count;
@@ -186,7 +186,7 @@ fn add_romanization(
 ) -> Added
     requires { ⌜ Read (now rules) (now index) (now classes) (now alphas) (now line) (now kinds) n × FineVowels (now vowels) ⌝ }
     ensures { λ r. ⌜ Reached (now (slots .entry)) (now (room .entry)) (now (slots .exit)) (now (room .exit)) (now (starts .exit)) (n * 3168)
-        (each (build (tables-of (now (rules .entry)) (now (classes .entry)) (now (vowels .entry)) (now (code .entry))) (text-of (now (line .entry)) n)) n 0
+        (each (build (tables-of (now (rules .entry)) (now (classes .entry)) (now (vowels .entry)) (now (code .entry))) (text-in (now (line .entry)) n)) n 0
         ([], now (starts .entry))) r ⌝ }
 {
     let mut edges: usize = 0;
@@ -275,10 +275,10 @@ fn add_fallback<'a>(
     at: usize,
 ) -> Added
     requires { ⌜ Read (now rules) (now index) (now classes) (now alphas) (now line) (now kinds) n × FineVowels (now vowels)
-        × Stored (now slots) (now room) count used × (used < 4294967296) × Own (now text) (text-of (now line) n) × (p < n)
-        × (drop at (now text) ≡ encoded (drop p (text-of (now line) n))) ⌝ }
+        × Stored (now slots) (now room) count used × (used < 4294967296) × Own (now text) (text-in (now line) n) × (p < n)
+        × (drop at (now text) ≡ encoded (drop p (text-in (now line) n))) ⌝ }
     ensures { λ r. ⌜ Reached (now (slots .entry)) (now (room .entry)) (now (slots .exit)) (now (room .exit)) (now (starts .exit)) (used + 198)
-        (put-fallback (tables-of (now (rules .entry)) (now (classes .entry)) (now (vowels .entry)) (now (code .entry))) (text-of (now (line .entry)) n) p
+        (put-fallback (tables-of (now (rules .entry)) (now (classes .entry)) (now (vowels .entry)) (now (code .entry))) (text-in (now (line .entry)) n) p
         (edges-of (now (room .entry)) count (now (slots .entry)), now (starts .entry))) r ⌝ }
 {
     let note = spans::category_note(classes::category(words::number_at(kinds, p + 1)));
@@ -337,10 +337,10 @@ fn fall_back_at<'a>(
     at: usize,
 ) -> Added
     requires { ⌜ Read (now rules) (now index) (now classes) (now alphas) (now line) (now kinds) n × FineVowels (now vowels)
-        × Stored (now slots) (now room) count used × (used < 4294967296) × Own (now text) (text-of (now line) n) × (p < n)
-        × (drop at (now text) ≡ encoded (drop p (text-of (now line) n))) ⌝ }
+        × Stored (now slots) (now room) count used × (used < 4294967296) × Own (now text) (text-in (now line) n) × (p < n)
+        × (drop at (now text) ≡ encoded (drop p (text-in (now line) n))) ⌝ }
     ensures { λ r. ⌜ Reached (now (slots .entry)) (now (room .entry)) (now (slots .exit)) (now (room .exit)) (now (starts .exit)) (used + 198)
-        (fall (tables-of (now (rules .entry)) (now (classes .entry)) (now (vowels .entry)) (now (code .entry))) (text-of (now (line .entry)) n) p
+        (fall (tables-of (now (rules .entry)) (now (classes .entry)) (now (vowels .entry)) (now (code .entry))) (text-in (now (line .entry)) n) p
         (edges-of (now (room .entry)) count (now (slots .entry)), now (starts .entry))) r ⌝ }
 {
     if edge::is_covered(slots, count, p) {
@@ -386,9 +386,9 @@ fn add_rom_fall_back_singles<'a>(
     starts: &mut [u8],
 ) -> Added
     requires { ⌜ Read (now rules) (now index) (now classes) (now alphas) (now line) (now kinds) n × FineVowels (now vowels)
-        × Stored (now slots) (now room) count used × (used < 4294800000) × Own (now text) (text-of (now line) n) ⌝ }
+        × Stored (now slots) (now room) count used × (used < 4294800000) × Own (now text) (text-in (now line) n) ⌝ }
     ensures { λ r. ⌜ Reached (now (slots .entry)) (now (room .entry)) (now (slots .exit)) (now (room .exit)) (now (starts .exit)) (used + n * 198)
-        (each (fall (tables-of (now (rules .entry)) (now (classes .entry)) (now (vowels .entry)) (now (code .entry))) (text-of (now (line .entry)) n)) n 0
+        (each (fall (tables-of (now (rules .entry)) (now (classes .entry)) (now (vowels .entry)) (now (code .entry))) (text-in (now (line .entry)) n)) n 0
         (edges-of (now (room .entry)) count (now (slots .entry)), now (starts .entry))) r ⌝ }
 {
     let mut edges = count;
@@ -454,9 +454,9 @@ pub fn build_lattice<'a>(
     starts: &mut [u8],
 ) -> Added
     requires { ⌜ Read (now rules) (now index) (now classes) (now alphas) (now line) (now kinds) n × FineVowels (now vowels)
-        × Own (now text) (text-of (now line) n) × (now starts ≡ replicate n 0) ⌝ }
+        × Own (now text) (text-in (now line) n) × (now starts ≡ replicate n 0) ⌝ }
     ensures { λ r. ⌜ Reached (now (slots .entry)) (now (room .entry)) (now (slots .exit)) (now (room .exit)) (now (starts .exit)) 1723392
-        (lattice (tables-of (now (rules .entry)) (now (classes .entry)) (now (vowels .entry)) (now (code .entry))) (text-of (now (line .entry)) n)) r ⌝ }
+        (lattice (tables-of (now (rules .entry)) (now (classes .entry)) (now (vowels .entry)) (now (code .entry))) (text-in (now (line .entry)) n)) r ⌝ }
 {
     let done = add_romanization(
         rules,

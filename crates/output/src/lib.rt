@@ -16,7 +16,7 @@ ghost use Rattle.definition.specs.Call.{tables-of};
 ghost use Rattle.room.specs.Puts.{put-at};
 ghost use Rattle.edge.specs.Slots.{edges-of};
 ghost use Rattle.listing.specs.Items.{put-items};
-ghost use Rattle.words.specs.Given.{text-of};
+ghost use Rattle.words.specs.Given.{text-in};
 ghost use Rattle.rules.specs.Lent.{Lent};
 ghost use Rattle.output.specs.Shows.{Shows, listed};
 
@@ -40,7 +40,7 @@ fn put_rows(
     requires { ⌜ Lent (now rules) (now index) (now classes) (now alphas) (now line) (now kinds) (now slots) (now room) n count
         × All (Sound n) (edges-of (now room) count (now slots)) × (count ≤ most-edges * most-characters) × (mode ≤ 3) ⌝ }
     ensures { λ r. ⌜ ((vowels : List ℕ) → (r, now (out .exit)) ≡ put-items true (listed (tables-of (now (rules .entry)) (now (classes .entry)) vowels (now (code .entry)))
-        (text-of (now (line .entry)) n) mode (edges-of (now (room .entry)) count (now (slots .entry)), now (starts .entry))) (5, now (out .entry))) ⌝ }
+        (text-in (now (line .entry)) n) mode (edges-of (now (room .entry)) count (now (slots .entry)), now (starts .entry))) (5, now (out .entry))) ⌝ }
 {
     if mode == 3 {
         return paths::put_all_edges(out, 5, slots, room, count, n);
@@ -98,7 +98,7 @@ pub fn put_shown(
     requires { ⌜ Lent (now rules) (now index) (now classes) (now alphas) (now line) (now kinds) (now slots) (now room) n count
         × All (Sound n) (edges-of (now room) count (now slots)) × (count ≤ most-edges * most-characters) × (mode ≤ 3) ⌝ }
     ensures { λ r. ⌜ ((vowels : List ℕ) → Shows (shown (tables-of (now (rules .entry)) (now (classes .entry)) vowels (now (code .entry)))
-        (text-of (now (line .entry)) n) mode (edges-of (now (room .entry)) count (now (slots .entry)), now (starts .entry))) (now (out .entry)) (now (out .exit)) r) ⌝ }
+        (text-in (now (line .entry)) n) mode (edges-of (now (room .entry)) count (now (slots .entry)), now (starts .entry))) (now (out .entry)) (now (out .exit)) r) ⌝ }
 {
     if mode == 0 {
         return paths::put_path(out, 0, slots, room, count, n, false);

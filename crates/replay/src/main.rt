@@ -26,22 +26,11 @@ fn number(input: &[u8], at: usize) -> usize
     base::four(input, at, 0) as usize
 }
 
-// So many bytes from a place on; none where they run past the end.
-fn part<'a>(input: &'a [u8], from: usize, len: usize) -> &'a [u8]
-    requires { ⌜ (from < 1099511627776) × (len < 4294967296) ⌝ }
-{
-    let to = from + len;
-    if input.len() < to {
-        return &input[..0];
-    }
-    &input[from..to]
-}
-
 // A length and so many bytes behind it.
 fn field<'a>(input: &'a [u8], at: usize) -> &'a [u8]
     requires { ⌜ at < 1000000000000 ⌝ }
 {
-    part(input, at + 4, number(input, at))
+    room::part_or_none(input, at + 4, number(input, at))
 }
 
 // All of some bytes set to one value.
@@ -84,7 +73,10 @@ fn is_right(input: &[u8], at: usize, answer: Answer, slots: &[u8], room: &[u8], 
         return false;
     }
     are_numbers(input, at, answer)
-        && room::same(part(input, at + 13, len), part(out, 0, len))
+        && room::same(
+            room::part_or_none(input, at + 13, len),
+            room::part_or_none(out, 0, len),
+        )
         && are_zero(out, len)
         && are_zero(slots, 0)
         && are_zero(room, 0)

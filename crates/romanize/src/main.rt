@@ -48,17 +48,6 @@ fn out_room() -> [u8; 1793029] {
     [0u8; 1793029]
 }
 
-// So many bytes from a place on; none where they run past the end.
-fn part<'a>(s: &'a [u8], from: usize, len: usize) -> &'a [u8]
-    requires { ⌜ (from < 1099511627776) × (len < 4294967296) ⌝ }
-{
-    let to = from + len;
-    if s.len() < to {
-        return &s[..0];
-    }
-    &s[from..to]
-}
-
 fn usage() {
     io::write_all(
         STDERR_FILENO,
@@ -154,12 +143,12 @@ fn print_edge(rows: &[u8], at: usize, len: usize)
     print_number(base::two(rows, at, 4));
     io::write_all(
         STDOUT_FILENO,
-        part(&NAMES, base::at(rows, at, 6) as usize * 8, 8),
+        room::part_or_none(&NAMES, base::at(rows, at, 6) as usize * 8, 8),
     );
     io::write_all(STDOUT_FILENO, b" ");
     print_number(base::at(rows, at, 7));
     if 6 < len {
-        io::write_all(STDOUT_FILENO, part(rows, at + 8, len - 6));
+        io::write_all(STDOUT_FILENO, room::part_or_none(rows, at + 8, len - 6));
     }
     io::write_all(STDOUT_FILENO, b"\n");
 }
@@ -309,7 +298,7 @@ fn romanize<'a>(
         return;
     }
     if answer.length < 16777216 {
-        print_output(mode, part(&out, 0, answer.length as usize));
+        print_output(mode, room::part_or_none(&out, 0, answer.length as usize));
     }
 }
 

@@ -5,6 +5,7 @@ ghost use Prim.Native.Nat.{_+_, _-_, _≤_};
 ghost use lib.ListN.{length, take, drop, replicate};
 ghost use Rattle.base.specs.Lists.{same};
 ghost use Rattle.room.specs.Puts.{put-at};
+ghost use Rattle.room.specs.Parts.{part-or-none};
 
 // Copies a text to the front of what is lent.
 pub fn put_text(room: &mut [u8], text: &[u8])
@@ -32,6 +33,19 @@ pub fn part(s: &[u8], at: usize, len: usize) -> &[u8]
     ensures { λ r. ⌜ now r ≡ take len (drop at (now (s .entry))) ⌝ }
 {
     &s[at..at + len]
+}
+
+// The `len` bytes from a place on; none where they run past the end.
+pub fn part_or_none(s: &[u8], at: usize, len: usize) -> &[u8]
+    ensures { λ r. ⌜ now r ≡ part-or-none (now (s .entry)) at len ⌝ }
+{
+    if s.len() < at {
+        return &s[..0];
+    }
+    if s.len() - at < len {
+        return &s[..0];
+    }
+    part(s, at, len)
 }
 
 // Are two texts equal?

@@ -13,7 +13,7 @@ ghost use Rattle.definition.specs.Boundaries.{word-end};
 ghost use Rattle.definition.specs.Rules.{higher, first-rule, lang, asks-start, holds-at, valid, choose, simple};
 ghost use Rattle.dicts.specs.Index.{Ready};
 ghost use Rattle.words.specs.Did.{Did};
-ghost use Rattle.words.specs.Given.{text-of, view-of};
+ghost use Rattle.words.specs.Given.{text-in, view-of};
 ghost use Rattle.words.specs.Found.{Row};
 ghost use Rattle.rules.specs.Lent.{Read, Lent, lexicon-of};
 ghost use Rattle.rules.specs.Fold.{beats, improve};
@@ -130,7 +130,7 @@ fn holds_at(
 ) -> bool
     requires { ⌜ Read (now rules) (now index) (now classes) (now alphas) (now line) (now kinds) n × (e ≤ n) ⌝ }
     ensures { λ r. ⌜ ((code : Text) → spoken ≡ lang code (rule-of (drop row (now (rules .entry)))) → r ≡ holds-at code start
-        (word-end (rules-of (now (rules .entry))) (classes-of (now (classes .entry))) (text-of (now (line .entry)) n) e)
+        (word-end (rules-of (now (rules .entry))) (classes-of (now (classes .entry))) (text-in (now (line .entry)) n) e)
         (rule-of (drop row (now (rules .entry))))) ⌝ }
 {
     if spoken {
@@ -184,7 +184,7 @@ pub fn cand_is_valid(
 ) -> bool
     requires { ⌜ Lent (now rules) (now index) (now classes) (now alphas) (now line) (now kinds) (now slots) (now room) n count
         × Row (drop row (now rules)) × (s ≤ n) × (e ≤ n) ⌝ }
-    ensures { λ r. ⌜ Did (valid (lexicon-of (now (rules .entry)) (now (classes .entry)) (now (code .entry))) (text-of (now (line .entry)) n)
+    ensures { λ r. ⌜ Did (valid (lexicon-of (now (rules .entry)) (now (classes .entry)) (now (code .entry))) (text-in (now (line .entry)) n)
         (view-of (now (classes .entry)) (now (slots .entry)) (now (room .entry)) count) s e (rule-of (drop row (now (rules .entry)))) (now (starts .entry)))
         r (now (starts .exit)) ⌝ }
 {
@@ -286,7 +286,7 @@ pub fn top_rule(
 ) -> Choice
     requires { ⌜ Lent (now rules) (now index) (now classes) (now alphas) (now line) (now kinds) (now slots) (now room) n count
         × (s < e) ⌝ }
-    ensures { λ r. ⌜ Did (choose (lexicon-of (now (rules .entry)) (now (classes .entry)) (now (code .entry))) (text-of (now (line .entry)) n)
+    ensures { λ r. ⌜ Did (choose (lexicon-of (now (rules .entry)) (now (classes .entry)) (now (code .entry))) (text-in (now (line .entry)) n)
         (view-of (now (classes .entry)) (now (slots .entry)) (now (room .entry)) count) s e (now (starts .entry)))
         (chosen (now (rules .entry)) r) (now (starts .exit)) × Rowed (now (rules .entry)) r ⌝ }
 {
@@ -355,7 +355,7 @@ pub fn simple_top_romanization_candidate_for_span(
 ) -> Chosen
     requires { ⌜ Lent (now rules) (now index) (now classes) (now alphas) (now line) (now kinds) (now slots) (now room) n count
         × (s < e) ⌝ }
-    ensures { λ r. ⌜ Did (simple (lexicon-of (now (rules .entry)) (now (classes .entry)) (now (code .entry))) (text-of (now (line .entry)) n)
+    ensures { λ r. ⌜ Did (simple (lexicon-of (now (rules .entry)) (now (classes .entry)) (now (code .entry))) (text-in (now (line .entry)) n)
         (view-of (now (classes .entry)) (now (slots .entry)) (now (room .entry)) count) s e (now (starts .entry)))
         (said (now (rules .entry)) r) (now (starts .exit)) × Said (now (rules .entry)) r ⌝ }
 {

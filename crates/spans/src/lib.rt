@@ -12,7 +12,7 @@ ghost use Rattle.definition.specs.Call.{tables-of};
 ghost use Rattle.classes.specs.Told.{FineVowels};
 ghost use Rattle.rom.specs.Rom.{text, Clean};
 ghost use Rattle.words.specs.Did.{Did};
-ghost use Rattle.words.specs.Given.{text-of, view-of};
+ghost use Rattle.words.specs.Given.{text-in, view-of};
 ghost use Rattle.rules.specs.Lent.{Lent};
 ghost use Rattle.rules.specs.Chosen.{said, Said};
 ghost use Rattle.spans.specs.Spans.{edge-with, found, plus-dropped, fallback-bytes, category-note};
@@ -127,7 +127,7 @@ fn edge_of(
 ) -> Spanned
     requires { ⌜ Lent (now rules) (now index) (now classes) (now alphas) (now line) (now kinds) (now slots) (now room) n count
         × FineVowels (now vowels) × (length (now w) ≤ most-target) × (s < e) × (e ≤ n) ⌝ }
-    ensures { λ r. ⌜ Did (edge-of (tables-of (now (rules .entry)) (now (classes .entry)) (now (vowels .entry)) (now (code .entry))) (text-of (now (line .entry)) n)
+    ensures { λ r. ⌜ Did (edge-of (tables-of (now (rules .entry)) (now (classes .entry)) (now (vowels .entry)) (now (code .entry))) (text-in (now (line .entry)) n)
         (view-of (now (classes .entry)) (now (slots .entry)) (now (room .entry)) count) tail (now (w .entry)) s e (now (starts .entry)))
         (edge-with (r .numbers) (text (r .rom))) (now (starts .exit)) × (r .there ≡ true) × Clean (r .rom) ⌝ }
 {
@@ -198,7 +198,7 @@ pub fn span_edge(
 ) -> Spanned
     requires { ⌜ Lent (now rules) (now index) (now classes) (now alphas) (now line) (now kinds) (now slots) (now room) n count
         × FineVowels (now vowels) × (s < e) × (e ≤ n) ⌝ }
-    ensures { λ r. ⌜ Did (span-edge (tables-of (now (rules .entry)) (now (classes .entry)) (now (vowels .entry)) (now (code .entry))) (text-of (now (line .entry)) n)
+    ensures { λ r. ⌜ Did (span-edge (tables-of (now (rules .entry)) (now (classes .entry)) (now (vowels .entry)) (now (code .entry))) (text-in (now (line .entry)) n)
         (view-of (now (classes .entry)) (now (slots .entry)) (now (room .entry)) count) s e (now (starts .entry)))
         (found r) (now (starts .exit)) × Clean (r .rom) ⌝ }
 {

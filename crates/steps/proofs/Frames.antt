@@ -18,7 +18,7 @@ use Rattle.definition.specs.Expansion.{framed, widen, around-by}
 use Rattle.definition.specs.Expansion as expansion
 use Rattle.definition.specs.ExpandBounds.{framed-bound}
 use Rattle.rom.proofs.Walks.{left-cons}
-use Rattle.words.specs.Given.{text-of, part, Lined, line-length, char-before, part-at}
+use Rattle.words.specs.Given.{text-in, part, Lined, line-length, char-before, part-at}
 use Rattle.words.specs.Spans.{spans-is}
 
 -- a rule with a source
@@ -98,7 +98,7 @@ from-line line a b d p q h =
 
 source-is : {classes line kinds : List ℕ} {n : ℕ} (g : Lined classes line kinds n) (v k e : ℕ) → 1 ≤ k → k ≤ 3 → e + k ≤ n
     → take (k + 2) (v ∷ en-dash ∷ getD line (e + 1) 0 ∷ getD line (e + 2) 0 ∷ getD line (e + 3) 0 ∷ [])
-    ≡ v ∷ en-dash ∷ part (text-of line n) e (e + k)
+    ≡ v ∷ en-dash ∷ part (text-in line n) e (e + k)
 source-is {classes} {line} {kinds} {n} g v k e h j l =
     let m : k + 2 ≡ suc (suc k) = omega arith in
     let x = getD line (e + 1) 0 in
@@ -114,7 +114,7 @@ source-is {classes} {line} {kinds} {n} g v k e h j l =
 -- What the pattern says of the `k` characters after the span
 module _ {classes line kinds : List ℕ} {n : ℕ} (g : Lined classes line kinds n) (rs : List Rule) (k : ℕ) (w : expansion.Work) where
   abbrev t : Text
-  t = text-of line n
+  t = text-in line n
 
   pub frame-past : w .to ≤ n → n < w .to + k → around-by rs t k w ≡ none
   unfolding around-by widen

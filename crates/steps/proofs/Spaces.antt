@@ -9,11 +9,11 @@ use lib.ListN.{length, getD}
 use borrow.Author.Tests.{lt-ltb, le-ltb}
 use Rattle.base.specs.Bools.{eqb-alike}
 use Rattle.definition.specs.Texts.{Text, the-space, at, stands}
-use Rattle.words.specs.Given.{text-of, Lined, char-at}
+use Rattle.words.specs.Given.{text-in, Lined, char-at}
 
 module _ {classes line kinds : List ℕ} {n : ℕ} (g : Lined classes line kinds n) (p : ℕ) where
   abbrev t : Text
-  t = text-of line n
+  t = text-in line n
 
   -- does a space stand there?
   pub space-told : p < n → {c : ℕ} → c ≡ getD line (p + 1) 0 → eqb c the-space ≡ stands t p the-space

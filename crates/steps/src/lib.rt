@@ -14,7 +14,7 @@ ghost use Rattle.definition.specs.ClassRows.{classes-of};
 ghost use Rattle.definition.specs.Expansion.{work, small-tsu, doubled, double, widen, around-by, around, before, trim, finish};
 ghost use Rattle.dicts.specs.Index.{Ready};
 ghost use Rattle.rom.specs.Rom.{text, rom, Clean};
-ghost use Rattle.words.specs.Given.{text-of, Lined};
+ghost use Rattle.words.specs.Given.{text-in, Lined};
 ghost use Rattle.rules.specs.Chosen.{said, Said};
 ghost use Rattle.steps.specs.Works.{work-of, Tries, first-of, last-of, letter-of, framed-by, before-by, kana, long-by, front-of, back-of};
 use rom::Rom;
@@ -126,7 +126,7 @@ fn put_front(w: Work, letter: u8) -> Work
 pub fn double(line: &[u32], kinds: &[u32], n: usize, o: usize, w: Work) -> Work
     requires { ⌜ Clean (w .rom) × (w .rom .len < most-bytes) × (w .from ≡ o) × (o ≤ n) × (n ≤ most-characters) ⌝ }
     ensures { λ r. ⌜ ((classes : List ℕ) → Lined classes (now (line .entry)) (now (kinds .entry)) n
-        → work-of r ≡ double (classes-of classes) (text-of (now (line .entry)) n) o (work-of w))
+        → work-of r ≡ double (classes-of classes) (text-in (now (line .entry)) n) o (work-of w))
         × Clean (r .rom) × (r .rom .len ≤ w .rom .len + 1) ⌝ }
 {
     if o == 0 {
@@ -194,7 +194,7 @@ fn around_by(rules: &[u8], index: &[u32], line: &[u32], n: usize, w: Work, k: us
     requires { ⌜ Ready (now rules) (now index) × Clean (w .rom) × (w .rom .len + most-target ≤ most-bytes)
         × (0 < w .from) × (w .from ≤ n) × (w .to ≤ n) × (n ≤ most-characters) × (1 ≤ k) × (k ≤ 3) ⌝ }
     ensures { λ r. ⌜ ((classes kinds : List ℕ) → Lined classes (now (line .entry)) kinds n
-        → Tries w (around-by (rules-of (now (rules .entry))) (text-of (now (line .entry)) n) k (work-of w)) r)
+        → Tries w (around-by (rules-of (now (rules .entry))) (text-in (now (line .entry)) n) k (work-of w)) r)
         × Clean (r .work .rom) × (r .work .rom .len ≤ w .rom .len + most-target) ⌝ }
 {
     let to = w.to;
@@ -219,7 +219,7 @@ pub fn around(rules: &[u8], index: &[u32], line: &[u32], kinds: &[u32], n: usize
     requires { ⌜ Ready (now rules) (now index) × Clean (w .rom) × (w .rom .len + most-target ≤ most-bytes)
         × (w .from ≤ n) × (w .to ≤ n) × (n ≤ most-characters) ⌝ }
     ensures { λ r. ⌜ ((classes : List ℕ) → Lined classes (now (line .entry)) (now (kinds .entry)) n
-        → Tries w (around (rules-of (now (rules .entry))) (classes-of classes) (text-of (now (line .entry)) n) (work-of w)) r)
+        → Tries w (around (rules-of (now (rules .entry))) (classes-of classes) (text-in (now (line .entry)) n) (work-of w)) r)
         × Clean (r .work .rom) × (r .work .rom .len ≤ w .rom .len + most-target) ⌝ }
 {
     let from = w.from;
@@ -265,7 +265,7 @@ pub fn before(rules: &[u8], index: &[u32], line: &[u32], kinds: &[u32], n: usize
     requires { ⌜ Ready (now rules) (now index) × Clean (w .rom) × (w .rom .len + most-target ≤ most-bytes)
         × (w .from ≤ n) × (w .to ≤ n) × (n ≤ most-characters) ⌝ }
     ensures { λ r. ⌜ ((classes : List ℕ) → Lined classes (now (line .entry)) (now (kinds .entry)) n
-        → work-of r ≡ before (rules-of (now (rules .entry))) (classes-of classes) (text-of (now (line .entry)) n) (work-of w))
+        → work-of r ≡ before (rules-of (now (rules .entry))) (classes-of classes) (text-in (now (line .entry)) n) (work-of w))
         × Clean (r .rom) × (r .rom .len ≤ w .rom .len + most-target) ⌝ }
 {
     let from = w.from;
@@ -338,7 +338,7 @@ fn trim_back(r: Rom, there: bool) -> Rom
 fn is_space_at(line: &[u32], n: usize, p: usize) -> bool
     requires { ⌜ (p ≤ n) × (n ≤ most-characters) ⌝ }
     ensures { λ r. ⌜ ((classes kinds : List ℕ) → Lined classes (now (line .entry)) kinds n
-        → r ≡ stands (text-of (now (line .entry)) n) p the-space) ⌝ }
+        → r ≡ stands (text-in (now (line .entry)) n) p the-space) ⌝ }
 {
     if p < n {
         return words::number_at(line, p + 1) == SPACE;
@@ -350,7 +350,7 @@ fn is_space_at(line: &[u32], n: usize, p: usize) -> bool
 fn trim(line: &[u32], n: usize, w: Work) -> Work
     requires { ⌜ Clean (w .rom) × (w .from ≤ n) × (w .to ≤ n) × (n ≤ most-characters) ⌝ }
     ensures { λ r. ⌜ ((classes kinds : List ℕ) → Lined classes (now (line .entry)) kinds n
-        → work-of r ≡ trim (text-of (now (line .entry)) n) (work-of w))
+        → work-of r ≡ trim (text-in (now (line .entry)) n) (work-of w))
         × Clean (r .rom) × (r .rom .len ≤ w .rom .len) ⌝ }
 {
     let old = w.rom;
@@ -384,7 +384,7 @@ fn lengthen(w: Work) -> Work
 pub fn finish(line: &[u32], kinds: &[u32], n: usize, w: Work) -> Work
     requires { ⌜ Clean (w .rom) × (w .rom .len < most-bytes) × (w .from ≤ n) × (w .to ≤ n) × (n ≤ most-characters) ⌝ }
     ensures { λ r. ⌜ ((classes : List ℕ) → Lined classes (now (line .entry)) (now (kinds .entry)) n
-        → work-of r ≡ finish (classes-of classes) (text-of (now (line .entry)) n) (work-of w))
+        → work-of r ≡ finish (classes-of classes) (text-in (now (line .entry)) n) (work-of w))
         × Clean (r .rom) × (r .rom .len ≤ w .rom .len + 1) ⌝ }
 {
     let to = w.to;

@@ -10,11 +10,11 @@ use Rattle.base.specs.Bits.{flagged}
 use Rattle.definition.specs.Texts.{Text}
 use Rattle.definition.specs.ClassRows.{classes-of}
 use Rattle.definition.specs.Syllables.{past-tone}
-use Rattle.words.specs.Given.{text-of, Lined, kind-at}
+use Rattle.words.specs.Given.{text-in, Lined, kind-at}
 
 module _ {classes line kinds : List ℕ} {n : ℕ} (g : Lined classes line kinds n) (p : ℕ) where
   abbrev t : Text
-  t = text-of line n
+  t = text-in line n
 
   -- past a tone mark
   module _ (q : ℕ) (e : q ≡ pick (flagged (getD kinds (p + 1) 0 / 1024) 5) (p + 1) p) where

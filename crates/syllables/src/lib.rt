@@ -13,7 +13,7 @@ ghost use Rattle.definition.specs.Syllables.{opens, next-rom, o-ang-test, vowel
 ghost use Rattle.edge.specs.Slots.{edges-of};
 ghost use Rattle.edge.specs.Asked.{Readable};
 ghost use Rattle.words.specs.Did.{Did};
-ghost use Rattle.words.specs.Given.{text-of, view-of};
+ghost use Rattle.words.specs.Given.{text-in, view-of};
 ghost use Rattle.rules.specs.Lent.{Lent, lexicon-of};
 ghost use Rattle.rules.specs.Chosen.{said, Said};
 use edge::BestEdge;
@@ -92,7 +92,7 @@ fn next_rom(
 ) -> Chosen
     requires { ⌜ Lent (now rules) (now index) (now classes) (now alphas) (now line) (now kinds) (now slots) (now room) n count
         × (q ≤ n + 1) ⌝ }
-    ensures { λ r. ⌜ Did (next-rom (lexicon-of (now (rules .entry)) (now (classes .entry)) (now (code .entry))) (text-of (now (line .entry)) n)
+    ensures { λ r. ⌜ Did (next-rom (lexicon-of (now (rules .entry)) (now (classes .entry)) (now (code .entry))) (text-in (now (line .entry)) n)
         (view-of (now (classes .entry)) (now (slots .entry)) (now (room .entry)) count) q (now (starts .entry)))
         (said (now (rules .entry)) r) (now (starts .exit)) × Said (now (rules .entry)) r ⌝ }
 {
@@ -151,7 +151,7 @@ fn o_ang_test(
 ) -> bool
     requires { ⌜ Lent (now rules) (now index) (now classes) (now alphas) (now line) (now kinds) (now slots) (now room) n count
         × (q ≤ n + 1) ⌝ }
-    ensures { λ r. ⌜ Did (o-ang-test (lexicon-of (now (rules .entry)) (now (classes .entry)) (now (code .entry))) (text-of (now (line .entry)) n)
+    ensures { λ r. ⌜ Did (o-ang-test (lexicon-of (now (rules .entry)) (now (classes .entry)) (now (code .entry))) (text-in (now (line .entry)) n)
         (view-of (now (classes .entry)) (now (slots .entry)) (now (room .entry)) count) q (now (starts .entry)))
         r (now (starts .exit)) ⌝ }
 {
@@ -195,7 +195,7 @@ fn vowel_test(
 ) -> bool
     requires { ⌜ Lent (now rules) (now index) (now classes) (now alphas) (now line) (now kinds) (now slots) (now room) n count
         × (q ≤ n + 1) ⌝ }
-    ensures { λ r. ⌜ Did (vowel-test (lexicon-of (now (rules .entry)) (now (classes .entry)) (now (code .entry))) (text-of (now (line .entry)) n)
+    ensures { λ r. ⌜ Did (vowel-test (lexicon-of (now (rules .entry)) (now (classes .entry)) (now (code .entry))) (text-in (now (line .entry)) n)
         (view-of (now (classes .entry)) (now (slots .entry)) (now (room .entry)) count) q (now (starts .entry)))
         r (now (starts .exit)) ⌝ }
 {
@@ -252,7 +252,7 @@ pub fn is_at_end_of_syllable(
 ) -> bool
     requires { ⌜ Lent (now rules) (now index) (now classes) (now alphas) (now line) (now kinds) (now slots) (now room) n count
         × (1 ≤ p) × (p ≤ n) ⌝ }
-    ensures { λ r. ⌜ Did (syllable-end (lexicon-of (now (rules .entry)) (now (classes .entry)) (now (code .entry))) (text-of (now (line .entry)) n)
+    ensures { λ r. ⌜ Did (syllable-end (lexicon-of (now (rules .entry)) (now (classes .entry)) (now (code .entry))) (text-in (now (line .entry)) n)
         (view-of (now (classes .entry)) (now (slots .entry)) (now (room .entry)) count) p (now (starts .entry)))
         r (now (starts .exit)) ⌝ }
 {
@@ -312,7 +312,7 @@ pub fn top_romanization_candidate_for_span(
 ) -> Chosen
     requires { ⌜ Lent (now rules) (now index) (now classes) (now alphas) (now line) (now kinds) (now slots) (now room) n count
         × (s < e) × (e ≤ n) ⌝ }
-    ensures { λ r. ⌜ Did (full (lexicon-of (now (rules .entry)) (now (classes .entry)) (now (code .entry))) (text-of (now (line .entry)) n)
+    ensures { λ r. ⌜ Did (full (lexicon-of (now (rules .entry)) (now (classes .entry)) (now (code .entry))) (text-in (now (line .entry)) n)
         (view-of (now (classes .entry)) (now (slots .entry)) (now (room .entry)) count) s e (now (starts .entry)))
         (said (now (rules .entry)) r) (now (starts .exit)) × Said (now (rules .entry)) r ⌝ }
 {

@@ -12,7 +12,7 @@ use Rattle.definition.specs.ClassRows.{classes-of}
 use Rattle.definition.specs.Classes.{class, mark}
 use Rattle.definition.specs.Vowels.{before-yo, bare}
 use Rattle.classes.specs.Packing.{Says}
-use Rattle.words.specs.Given.{text-of, Lined, char-at, kind-at}
+use Rattle.words.specs.Given.{text-in, Lined, char-at, kind-at}
 use Rattle.vowels.specs.Ways.{silent}
 
 module _ {classes line kinds : List ℕ} {n : ℕ} (g : Lined classes line kinds n) (p : ℕ) where
@@ -20,7 +20,7 @@ module _ {classes line kinds : List ℕ} {n : ℕ} (g : Lined classes line kinds
   ks = classes-of classes
 
   abbrev t : Text
-  t = text-of line n
+  t = text-in line n
 
   -- a base is bare before the Khmer yo, or before what the classes tell
   regroup : (y a b c d e f : Bool) → (y || (a || (b || (c || (d || (e || f)))))) ≡ (y || a || b || c || d || e || f)

@@ -23,7 +23,7 @@ ghost use Rattle.rom.specs.Rom.{text, Clean};
 ghost use Rattle.ends.specs.Shown.{Within, shown, chosen};
 ghost use Rattle.ends.specs.Grew.{grew};
 ghost use Rattle.words.specs.Did.{Did};
-ghost use Rattle.words.specs.Given.{text-of, view-of, Lined};
+ghost use Rattle.words.specs.Given.{text-in, view-of, Lined};
 ghost use Rattle.rules.specs.Lent.{Read, Lent, lexicon-of};
 ghost use Rattle.vowels.specs.Ways.{keeping, silent, inside, settled};
 
@@ -110,7 +110,7 @@ fn is_before_yo(line: &[u32], bytes: &[u8], from: usize, to: usize, e: usize) ->
 fn is_bare(line: &[u32], kinds: &[u32], bytes: &[u8], from: usize, to: usize, e: usize) -> bool
     requires { ⌜ (from ≤ to) × (to ≤ length (now bytes)) × (e < 65536) ⌝ }
     ensures { λ r. ⌜ ((classes : List ℕ) (n : ℕ) → Lined classes (now (line .entry)) (now (kinds .entry)) n → e ≤ n
-        → r ≡ bare (classes-of classes) (text-of (now (line .entry)) n) (slice from to (now (bytes .entry))) e) ⌝ }
+        → r ≡ bare (classes-of classes) (text-in (now (line .entry)) n) (slice from to (now (bytes .entry))) e) ⌝ }
 {
     if is_before_yo(line, bytes, from, to, e) {
         return true;
@@ -132,7 +132,7 @@ fn script_at(kinds: &[u32], i: usize) -> u32
 fn form_inside(kinds: &[u32], s: usize, e: usize) -> Which
     requires { ⌜ (s < 65536) × (e < 65536) ⌝ }
     ensures { λ r. ⌜ ((classes line : List ℕ) (n : ℕ) → Lined classes line (now (kinds .entry)) n → s ≤ n → e ≤ n
-        → r ≡ inside (classes-of classes) (text-of line n) s e) ⌝ }
+        → r ≡ inside (classes-of classes) (text-in line n) s e) ⌝ }
 {
     let next = e + 1;
     let script = script_at(kinds, s + 1);
@@ -162,7 +162,7 @@ fn form_settled(
     e: usize,
 ) -> Which
     requires { ⌜ Read (now rules) (now index) (now classes) (now alphas) (now line) (now kinds) n × (s < e) × (e ≤ n) ⌝ }
-    ensures { λ r. ⌜ r ≡ settled (lexicon-of (now (rules .entry)) (now (classes .entry)) (now (code .entry))) (text-of (now (line .entry)) n) s e ⌝ }
+    ensures { λ r. ⌜ r ≡ settled (lexicon-of (now (rules .entry)) (now (classes .entry)) (now (code .entry))) (text-in (now (line .entry)) n) s e ⌝ }
 {
     if words::is_at_end_of_word(rules, index, alphas, line, kinds, n, e) {
         if keeps_end(code, script_at(kinds, s + 1)) {
@@ -217,7 +217,7 @@ fn form(
 ) -> Which
     requires { ⌜ Lent (now rules) (now index) (now classes) (now alphas) (now line) (now kinds) (now slots) (now room) n count
         × Within (length (now bytes)) f × (s < e) × (e ≤ n) ⌝ }
-    ensures { λ r. ⌜ ((vowel : Text) → Did (vowel-by (lexicon-of (now (rules .entry)) (now (classes .entry)) (now (code .entry))) (text-of (now (line .entry)) n)
+    ensures { λ r. ⌜ ((vowel : Text) → Did (vowel-by (lexicon-of (now (rules .entry)) (now (classes .entry)) (now (code .entry))) (text-in (now (line .entry)) n)
         (view-of (now (classes .entry)) (now (slots .entry)) (now (room .entry)) count) tail (shown (now (bytes .entry)) vowel f) s e (now (starts .entry)))
         (chosen r (shown (now (bytes .entry)) vowel f)) (now (starts .exit))) ⌝ }
 {
@@ -280,7 +280,7 @@ fn vowel_by(
 ) -> Voiced
     requires { ⌜ Lent (now rules) (now index) (now classes) (now alphas) (now line) (now kinds) (now slots) (now room) n count
         × Clean r × (0 < length (now letters)) × (r .len + length (now letters) ≤ most-bytes) × (s < e) × (e ≤ n) ⌝ }
-    ensures { λ v. ⌜ Did (vowel-by (lexicon-of (now (rules .entry)) (now (classes .entry)) (now (code .entry))) (text-of (now (line .entry)) n)
+    ensures { λ v. ⌜ Did (vowel-by (lexicon-of (now (rules .entry)) (now (classes .entry)) (now (code .entry))) (text-in (now (line .entry)) n)
         (view-of (now (classes .entry)) (now (slots .entry)) (now (room .entry)) count) tail
         (bases ao (now (letters .entry)) (text r) (eqb (s + 1) e)) s e (now (starts .entry))) (text (v .rom)) (now (starts .exit))
         × Clean (v .rom) × (v .rom .len ≤ r .len + length (now (letters .entry))) × (v .grown ≡ grown (text r) (text (v .rom))) ⌝ }
@@ -335,7 +335,7 @@ pub fn add_default_abugida_vowel(
 ) -> Voiced
     requires { ⌜ Lent (now rules) (now index) (now classes) (now alphas) (now line) (now kinds) (now slots) (now room) n count
         × FineVowels (now vowels) × Clean r × (r .len ≤ most-target) × (s < e) × (e ≤ n) ⌝ }
-    ensures { λ v. ⌜ Did (vowel-step (lexicon-of (now (rules .entry)) (now (classes .entry)) (now (code .entry))) (text-of (now (line .entry)) n)
+    ensures { λ v. ⌜ Did (vowel-step (lexicon-of (now (rules .entry)) (now (classes .entry)) (now (code .entry))) (text-in (now (line .entry)) n)
         (view-of (now (classes .entry)) (now (slots .entry)) (now (room .entry)) count) (vowels-of (now (vowels .entry))) tail (text r) s e (now (starts .entry)))
         (text (v .rom)) (now (starts .exit))
         × Clean (v .rom) × (v .rom .len ≤ r .len + most-vowel) × (v .grown ≡ grown (text r) (text (v .rom))) ⌝ }

@@ -16,7 +16,7 @@ use Rattle.definition.specs.Limits.{most-target}
 use Rattle.definition.specs.Texts.{Text, at}
 use Rattle.definition.specs.Tables.{Rule, Class}
 use Rattle.definition.specs.ClassRows.{classes-of}
-use Rattle.definition.specs.RuleRows.{rule-size, rule-flag, rule-of, rule-fault, rules-of, start-only-bit, target-bit, target-at, text-where, text-of as bytes-of}
+use Rattle.definition.specs.RuleRows.{rule-size, rule-flag, rule-of, rule-fault, rules-of, start-only-bit, target-bit, target-at, text-where, text-of}
 use Rattle.definition.specs.Classes.{alpha}
 use Rattle.definition.specs.Boundaries.{goes-on, word-end}
 use Rattle.definition.specs.ExpandBounds.{Spoken}
@@ -25,7 +25,7 @@ use Rattle.classes.specs.Packing.{alphas-at}
 use Rattle.classes.specs.Told.{alphas-of}
 use Rattle.dicts.specs.Doors.{with-source, is-start}
 use Rattle.dicts.specs.Seek.{first-at, equal-rows}
-use Rattle.words.specs.Given.{text-of, part, Lined, part-at}
+use Rattle.words.specs.Given.{text-in, part, Lined, part-at}
 use Rattle.words.specs.Spans.{prefix-is, spanning}
 use Rattle.words.specs.Found.{Rows, rules-in, none-in, one-in, next-rows, found-rows, found-are}
 use Rattle.words.specs.Goes.{brings, letter-byte, goes-from, goes-over, goes-stops, goes-next}
@@ -50,7 +50,7 @@ letters-told classes alphas e w h = any-cong (letter-byte alphas) (alpha (classe
 -- does the rule in a row bring a letter? By its flags
 module _ (s : List ℕ) where
   abbrev target-of : Text
-  target-of = bytes-of (drop (target-at s) s)
+  target-of = text-of (drop (target-at s) s)
 
   pub target-low : Spoken (rule-of s) → rule-flag s target-bit ≡ true → All Low target-of
   unfolding rule-of text-where pick
@@ -110,7 +110,7 @@ module _ {classes line kinds : List ℕ} {n : ℕ} (g : Lined classes line kinds
   ks = classes-of classes
 
   abbrev t : Text
-  t = text-of line n
+  t = text-in line n
 
   pub ends-over : n < e → p ≤ n → goes-from ks t p rs e ≡ false
   ends-over k l = let z = g .long in goes-over ks t p rs (omega arith) e (omega arith)

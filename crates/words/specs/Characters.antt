@@ -11,7 +11,7 @@ use Rattle.definition.specs.Tables.{Class}
 use Rattle.definition.specs.ClassRows.{classes-of}
 use Rattle.definition.specs.Classes.{class, alpha, script}
 use Rattle.classes.specs.Packing.{Says, says-script}
-use Rattle.words.specs.Given.{text-of, Lined, alpha-kind, alpha-before, alpha-at, kind-before, kind-at}
+use Rattle.words.specs.Given.{text-in, Lined, alpha-kind, alpha-before, alpha-at, kind-before, kind-at}
 
 -- A flag by its number and its name
 abbrev pub Named : ℕ → (Class → Bool) → Type 0
@@ -22,7 +22,7 @@ module _ {classes line kinds : List ℕ} {n : ℕ} (g : Lined classes line kinds
   ks = classes-of classes
 
   abbrev t : Text
-  t = text-of line n
+  t = text-in line n
 
   -- of the character before a position
   module _ (h : p ≤ n + 2) {k : ℕ} (e : k ≡ getD kinds p 0) where

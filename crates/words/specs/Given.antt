@@ -21,8 +21,8 @@ use Rattle.classes.specs.Packing.{Says, says, says-alpha, kinds-at}
 use Rattle.edge.specs.Slots.{edges-of}
 
 -- the text's `n` characters, and what is asked of the edges in the slots
-abbrev pub text-of : List ℕ → ℕ → Text
-text-of line n = take n (drop 1 line)
+abbrev pub text-in : List ℕ → ℕ → Text
+text-in line n = take n (drop 1 line)
 
 -- what stands from `s` to `e`
 abbrev pub part : Text → ℕ → ℕ → Text
@@ -41,9 +41,9 @@ Before classes kinds t p = alpha-kind (getD kinds p 0) ≡ alpha (classes-of cla
 pub record Lined (classes line kinds : List ℕ) (n : ℕ) : Type 0 where
   pub fine : Fine classes
   pub few : n ≤ most-characters
-  pub spaced : line ≡ framed (text-of line n)
+  pub spaced : line ≡ framed (text-in line n)
   pub told : kinds ≡ kinds-of classes line
-  pub long : length (text-of line n) ≡ n
+  pub long : length (text-in line n) ≡ n
 
 -- a list read with another default within its length
 pub getD-any : (l : List ℕ) (i a b : ℕ) → i < length l → getD l i a ≡ getD l i b
@@ -60,7 +60,7 @@ framed-length t =
     omega (arith, e, puts-length 0 t spaces, r)
 
 -- the text of a framed one
-pub framed-text : (t : Text) → length t ≤ most-characters → text-of (framed t) (length t) ≡ t
+pub framed-text : (t : Text) → length t ≤ most-characters → text-in (framed t) (length t) ≡ t
 unfolding framed
 framed-text t h =
     let spaces = replicate most-characters the-space in
@@ -82,7 +82,7 @@ framed-lined classes t f h = record {
 
 module _ {classes line kinds : List ℕ} {n : ℕ} (g : Lined classes line kinds n) where
   abbrev t : Text
-  t = text-of line n
+  t = text-in line n
 
   pub line-length : length line ≡ most-characters + 3
   line-length = ap length (g .spaced) ∙ framed-length t

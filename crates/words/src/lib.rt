@@ -15,7 +15,7 @@ ghost use Rattle.dicts.specs.Doors.{with-source};
 ghost use Rattle.classes.specs.Told.{Alphas, alphas-of};
 ghost use Rattle.edge.specs.Asked.{Readable};
 ghost use Rattle.words.specs.Did.{Did};
-ghost use Rattle.words.specs.Given.{text-of, view-of, Lined, alpha-kind, Before};
+ghost use Rattle.words.specs.Given.{text-in, view-of, Lined, alpha-kind, Before};
 ghost use Rattle.words.specs.Found.{Row};
 ghost use Rattle.words.specs.Goes.{brings, letter-byte};
 
@@ -165,7 +165,7 @@ pub fn is_at_end_of_word(
 ) -> bool
     requires { ⌜ Ready (now rules) (now index) × (n < length (now line)) × (p ≤ n) ⌝ }
     ensures { λ r. ⌜ ((classes : List ℕ) → now (alphas .entry) ≡ alphas-of classes → Lined classes (now (line .entry)) (now (kinds .entry)) n
-        → r ≡ word-end (rules-of (now (rules .entry))) (classes-of classes) (text-of (now (line .entry)) n) p) ⌝ }
+        → r ≡ word-end (rules-of (now (rules .entry))) (classes-of classes) (text-in (now (line .entry)) n) p) ⌝ }
 {
     if is_alpha_at(kinds, p + 1) {
         return false;

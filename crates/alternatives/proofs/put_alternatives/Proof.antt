@@ -16,7 +16,7 @@ use Rattle.edge.specs.Slots.{edges-of}
 use Rattle.edge.specs.Asked.{readable-slots}
 use Rattle.edge.specs.Best.{edge-at}
 use Rattle.listing.specs.Items.{put-items}
-use Rattle.words.specs.Given.{text-of, view-of}
+use Rattle.words.specs.Given.{text-in, view-of}
 use Rattle.rules.specs.Lent.{lexicon-of}
 use Rattle.alternatives.proofs.Edges.{found-on, best-sound}
 use borrow.Author.Needs.{needs}
@@ -26,7 +26,7 @@ use Rattle.alternatives.proofs.put_alternatives.Tie as tie
 abbrev Inv-loop : tie.InvT-loop
 Inv-loop out₀ at rules index classes alphas code line kinds n slots room count starts₀ to₀ p₀ left₀ out starts to p left =
     let L = lexicon-of rules classes code in
-    let t = text-of line n in
+    let t = text-in line n in
     let v = view-of classes slots room count in
     let es = edges-of room count slots in
     (put-items true (found-all L t v starts₀ (path-from left p es)) (to, out) ≡ put-items true (found-all L t v starts₀ (path-from n 0 es)) (at, out₀))
@@ -44,7 +44,7 @@ abbrev L : At → Lexicon
 L l = let a = l .before .before .before .before .before .before .before .before .before .before .before .before .args in lexicon-of (now (a .rules)) (now (a .classes)) (now (a .code))
 
 abbrev T : At → Text
-T l = let a = l .before .before .before .before .before .before .before .before .before .before .before .before .args in text-of (now (a .line)) (a .n)
+T l = let a = l .before .before .before .before .before .before .before .before .before .before .before .before .args in text-in (now (a .line)) (a .n)
 
 abbrev Seen : At → View
 Seen l = let a = l .before .before .before .before .before .before .before .before .before .before .before .before .args in view-of (now (a .classes)) (now (a .slots)) (now (a .room)) (a .count)

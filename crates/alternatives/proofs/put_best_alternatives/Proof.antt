@@ -12,7 +12,7 @@ use Rattle.definition.specs.Offers.{found-all}
 use Rattle.edge.specs.Slots.{edge-of}
 use Rattle.edge.specs.Best.{edge-at, Found, found-slot}
 use Rattle.listing.specs.Items.{put-items}
-use Rattle.words.specs.Given.{text-of, view-of}
+use Rattle.words.specs.Given.{text-in, view-of}
 use Rattle.rules.specs.Lent.{lexicon-of}
 use Rattle.alternatives.proofs.Edges.{found-one, found-nothing}
 use borrow.Author.Needs.{needs}
@@ -48,7 +48,7 @@ returns c =
     let b = c .before .before .before .before .before .before .before .before .best .given in
     let p = c .before .before .before .before .put-edge-alternatives in
     let L = lexicon-of (now (a .rules)) (now (a .classes)) (now (a .code)) in
-    let T = text-of (now (a .line)) (a .n) in
+    let T = text-in (now (a .line)) (a .n) in
     let W = view-of (now (a .classes)) (now (a .slots)) (now (a .room)) (a .count) in (
       p .ensures .0 ∙ ap (λ l. put-items true l (a .at, now (a .out))) (found-one L T W (now (a .starts)) (edge-of (now (a .room)) (drop (b .0 .0) (now (a .slots))))
           ∙ ap (λ b. found-all L T W (now (a .starts)) (join (edge-at (now (a .room)) (now (a .slots)) b) [])) (sym (b .1))),
@@ -61,7 +61,7 @@ unfolding put-items
 returns-2 c =
     let a = c .before .before .before .before .before .before .before .before .before .before .before .before .before .args in
     let L = lexicon-of (now (a .rules)) (now (a .classes)) (now (a .code)) in
-    let T = text-of (now (a .line)) (a .n) in
+    let T = text-in (now (a .line)) (a .n) in
     let W = view-of (now (a .classes)) (now (a .slots)) (now (a .room)) (a .count) in (
       ap (λ l. put-items true l (a .at, now (a .out))) (found-nothing L T W (now (a .starts))
           ∙ ap (λ b. found-all L T W (now (a .starts)) (join (edge-at (now (a .room)) (now (a .slots)) b) [])) (sym (c .enum-told .given .1))),

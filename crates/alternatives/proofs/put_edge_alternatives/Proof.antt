@@ -8,7 +8,7 @@ use denote.Ref.{now}
 use Rattle.definition.specs.Limits.{most-characters}
 use Rattle.edge.specs.Slots.{edge-of}
 use Rattle.listing.specs.Items.{put-items}
-use Rattle.words.specs.Given.{text-of, view-of, line-length, alpha-before, part-at}
+use Rattle.words.specs.Given.{text-in, view-of, line-length, alpha-before, part-at}
 use Rattle.words.specs.Found.{rules-in}
 use Rattle.words.proofs.Ends.{found-at}
 use Rattle.rules.specs.Lent.{lexicon-of}
@@ -103,7 +103,7 @@ returns c =
     let g = q .pre .0 .read .text in
     let i = span (c .before .before .before .before .before .before .before .before .before .before .before .before .before .before) in
     let L = lexicon-of (now (a .rules)) (now (a .classes)) (now (a .code)) in
-    let T = text-of (now (a .line)) (a .n) in
+    let T = text-in (now (a .line)) (a .n) in
     let W = view-of (now (a .classes)) (now (a .slots)) (now (a .room)) (a .count) in
     let w = take (e .to + 1 - (e .from + 1)) (drop (e .from + 1) (now (a .line))) in
     let d = start .ensures T (alpha-before g (e .from) (omega (arith, i .0, i .1))) in

@@ -5,7 +5,7 @@ use denote.Ref.{now}
 use Rattle.definition.specs.Texts.{at}
 use Rattle.definition.specs.Tables.{script-thai}
 use Rattle.definition.specs.Classes.{script}
-use Rattle.words.specs.Given.{text-of, view-of}
+use Rattle.words.specs.Given.{text-in, view-of}
 use Rattle.words.specs.Characters.{script-here}
 use Rattle.rules.specs.Lent.{lexicon-of}
 use Rattle.steps.specs.Works.{work-of}
@@ -35,7 +35,7 @@ returns c =
     let a = s .args in
     let p = s .pre in
     let L = lexicon-of (now (a .rules)) (now (a .classes)) (now (a .code)) in
-    let t = text-of (now (a .line)) (a .n) in
+    let t = text-in (now (a .line)) (a .n) in
     let v = view-of (now (a .classes)) (now (a .slots)) (now (a .room)) (a .count) in
     let m = now (a .starts) in
     let k = script-here (p .0 .read .text) (a .o) (omega (arith, p .3, p .5)) (c .before .before .before .before .before .before .number-at .ensures) (c .before .before .before .before .before .script .ensures) in
@@ -54,7 +54,7 @@ returns-2 c =
     let a = s .args in
     let p = s .pre in
     let L = lexicon-of (now (a .rules)) (now (a .classes)) (now (a .code)) in
-    let t = text-of (now (a .line)) (a .n) in
+    let t = text-in (now (a .line)) (a .n) in
     let v = view-of (now (a .classes)) (now (a .slots)) (now (a .room)) (a .count) in
     let m = now (a .starts) in
     let k = script-here (p .0 .read .text) (a .o) (omega (arith, p .3, p .5)) (c .before .before .before .before .before .before .number-at .ensures) (c .before .before .before .before .before .script .ensures) in

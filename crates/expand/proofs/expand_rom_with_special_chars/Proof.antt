@@ -7,7 +7,7 @@ use Rattle.definition.specs.Notes.{note-none}
 use Rattle.definition.specs.Expansion.{work}
 use Rattle.definition.specs.Expansion as expansion
 use Rattle.rom.specs.Rom.{text, text-length}
-use Rattle.words.specs.Given.{text-of, view-of}
+use Rattle.words.specs.Given.{text-in, view-of}
 use Rattle.rules.specs.Lent.{lexicon-of}
 use Rattle.expand.specs.Tests.{nothing-to-expand, expanded}
 use Rattle.expand.proofs.Ways.{no-text, doubled-there}
@@ -21,7 +21,7 @@ returns c =
     let a = s .args in
     let p = s .pre in
     let L = lexicon-of (now (a .rules)) (now (a .classes)) (now (a .code)) in
-    let t = text-of (now (a .line)) (a .n) in
+    let t = text-in (now (a .line)) (a .n) in
     let v = view-of (now (a .classes)) (now (a .slots)) (now (a .room)) (a .count) in
     let m = now (a .starts) in
     (nothing-to-expand L t v (text (a .r)) (a .s) (a .e) m (no-text (text (a .r)) (omega (arith, text-length (p .1)))), p .1)
@@ -35,7 +35,7 @@ by-script-requires c κs =
     let a = s .args in
     let p = s .pre in
     let L = lexicon-of (now (a .rules)) (now (a .classes)) (now (a .code)) in
-    let t = text-of (now (a .line)) (a .n) in
+    let t = text-in (now (a .line)) (a .n) in
     let x = c .before .double .ensures in
     let e = x .0 (now (a .classes)) (p .0 .read .text) in
     let k = doubled-there (L .rules) (L .classes) t (work (text (a .r)) (a .s) (a .e) note-none) (a .s) in
@@ -52,7 +52,7 @@ returns-2 c =
     let a = s .args in
     let p = s .pre in
     let L = lexicon-of (now (a .rules)) (now (a .classes)) (now (a .code)) in
-    let t = text-of (now (a .line)) (a .n) in
+    let t = text-in (now (a .line)) (a .n) in
     let v = view-of (now (a .classes)) (now (a .slots)) (now (a .room)) (a .count) in
     let m = now (a .starts) in
     let e = c .before .before .before .before .double .ensures .0 (now (a .classes)) (p .0 .read .text) in

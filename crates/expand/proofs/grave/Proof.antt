@@ -2,7 +2,7 @@
 use mathlib.Core.Path.{refl, sym, _∙_}
 use native.Mathlib.Omega.{arith}
 use denote.Ref.{now}
-use Rattle.words.specs.Given.{text-of, view-of}
+use Rattle.words.specs.Given.{text-in, view-of}
 use Rattle.words.specs.Did.{did-by}
 use Rattle.rules.specs.Lent.{lexicon-of}
 use Rattle.steps.specs.Works.{work-of}
@@ -35,7 +35,7 @@ returns c =
     let a = s .args in
     let p = s .pre in
     let L = lexicon-of (now (a .rules)) (now (a .classes)) (now (a .code)) in
-    let t = text-of (now (a .line)) (a .n) in
+    let t = text-in (now (a .line)) (a .n) in
     let v = view-of (now (a .classes)) (now (a .slots)) (now (a .room)) (a .count) in
     let m = now (a .starts) in
     let g = p .0 .read .text in
@@ -57,7 +57,7 @@ returns-2 c =
     let a = s .args in
     let p = s .pre in
     let L = lexicon-of (now (a .rules)) (now (a .classes)) (now (a .code)) in
-    let t = text-of (now (a .line)) (a .n) in
+    let t = text-in (now (a .line)) (a .n) in
     let v = view-of (now (a .classes)) (now (a .slots)) (now (a .room)) (a .count) in
     let m = now (a .starts) in
     let g = p .0 .read .text in
@@ -77,7 +77,7 @@ returns-3 c =
     let a = s .args in
     let p = s .pre in
     let L = lexicon-of (now (a .rules)) (now (a .classes)) (now (a .code)) in
-    let t = text-of (now (a .line)) (a .n) in
+    let t = text-in (now (a .line)) (a .n) in
     let v = view-of (now (a .classes)) (now (a .slots)) (now (a .room)) (a .count) in
     let m = now (a .starts) in
     let g = p .0 .read .text in

@@ -7,7 +7,7 @@ use borrow.Author.Tests.{eq-eqb, ne-eqb}
 use denote.Ref.{now}
 use Rattle.definition.specs.Texts.{at, coptic-grave}
 use Rattle.definition.specs.Tables.{script-coptic}
-use Rattle.words.specs.Given.{text-of, char-at}
+use Rattle.words.specs.Given.{text-in, char-at}
 use Rattle.words.specs.Characters.{script-prev}
 use Rattle.expand.specs.Tests.{has-grave}
 use borrow.Author.Needs.{needs}
@@ -30,7 +30,7 @@ returns : tie.Need-returns
 unfolding has-grave
 returns c =
     let a = c .before .before .before .before .before .before .before .args in λ rules classes code n v g h.
-    let t = text-of (now (a .line)) n in
+    let t = text-in (now (a .line)) n in
     let here : at t (a .w .to) ≡ coptic-grave = omega (arith, char-at g (a .w .to) (omega (arith, h)), c .before .before .before .number-at .ensures) in
     ap (λ (k : ℕ). eqb k script-coptic) (script-prev g (a .w .to) (omega (arith, h)) (c .before .number-at2 .ensures) (c .script .ensures))
     ∙ sym (rw (eq-eqb (at t (a .w .to)) coptic-grave here))
@@ -39,7 +39,7 @@ returns-2 : tie.Need-returns-2
 unfolding has-grave
 returns-2 c =
     let a = c .before .before .before .before .before .args in λ rules classes code n v g h.
-    let t = text-of (now (a .line)) n in
+    let t = text-in (now (a .line)) n in
     sym (rw (ne-eqb (at t (a .w .to)) coptic-grave (λ e. omega (arith, e, char-at g (a .w .to) (omega (arith, h)), c .before .number-at .ensures))))
 
 pub has-grave-spec : {M : Type 1} → statement M

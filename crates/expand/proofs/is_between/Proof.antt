@@ -8,7 +8,7 @@ use Rattle.base.specs.Lists.{is}
 use Rattle.definition.specs.RuleRows.{rules-of}
 use Rattle.definition.specs.ClassRows.{classes-of}
 use Rattle.definition.specs.Rules.{first-rule}
-use Rattle.words.specs.Given.{text-of, view-of, char-at}
+use Rattle.words.specs.Given.{text-in, view-of, char-at}
 use Rattle.steps.specs.Works.{work-of}
 use Rattle.expand.specs.Sides.{beside}
 use Rattle.expand.proofs.Ways.{not-in-thai, not-behind, by-next}
@@ -38,7 +38,7 @@ returns c =
     let p = s .pre in λ classes g.
     let R = rules-of (now (a .rules)) in
     let k = classes-of classes in
-    let t = text-of (now (a .line)) (a .n) in
+    let t = text-in (now (a .line)) (a .n) in
     let v = view-of classes (now (a .slots)) (now (a .room)) (a .count) in
     c .starts-beside .ensures ∙ ap (λ (x : ℕ). is beside (first-rule R (x ∷ []))) (c .before .number-at .ensures ∙ char-at g (a .w .to) (omega (arith, p .3)))
     ∙ by-next R k t (work-of (a .w)) v (sym (c .before .before .before .before .before .before .is-in-thai .ensures classes (now (a .line)) (a .n) g (p .2) (p .3)) ∙ c .before .before .before .before .before .if1 .taken) (sym (c .before .before .before .before .ends-beside .ensures k) ∙ c .before .before .before .if2 .taken)
@@ -50,7 +50,7 @@ returns-2 c =
     let p = s .pre in λ classes g.
     let R = rules-of (now (a .rules)) in
     let k = classes-of classes in
-    let t = text-of (now (a .line)) (a .n) in
+    let t = text-in (now (a .line)) (a .n) in
     let v = view-of classes (now (a .slots)) (now (a .room)) (a .count) in
     not-behind R k t (work-of (a .w)) v (sym (c .before .before .before .is-in-thai .ensures classes (now (a .line)) (a .n) g (p .2) (p .3)) ∙ c .before .before .if1 .taken) (sym (c .before .ends-beside .ensures k) ∙ c .if2 .left)
 
@@ -61,7 +61,7 @@ returns-3 c =
     let p = s .pre in λ classes g.
     let R = rules-of (now (a .rules)) in
     let k = classes-of classes in
-    let t = text-of (now (a .line)) (a .n) in
+    let t = text-in (now (a .line)) (a .n) in
     let v = view-of classes (now (a .slots)) (now (a .room)) (a .count) in
     not-in-thai R k t (work-of (a .w)) v (sym (c .before .is-in-thai .ensures classes (now (a .line)) (a .n) g (p .2) (p .3)) ∙ c .if1 .left)
 

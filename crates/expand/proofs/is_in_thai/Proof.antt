@@ -8,7 +8,7 @@ use Rattle.definition.specs.Texts.{prev}
 use Rattle.definition.specs.Tables.{script-thai}
 use Rattle.definition.specs.ClassRows.{classes-of}
 use Rattle.definition.specs.Classes.{script}
-use Rattle.words.specs.Given.{text-of}
+use Rattle.words.specs.Given.{text-in}
 use Rattle.words.specs.Characters.{script-prev, script-here}
 use borrow.Author.Needs.{needs}
 use Rattle.expand.proofs.is_in_thai.Statement.{statement}
@@ -32,7 +32,7 @@ script-requires-2 c κs = search needs
 returns : tie.Need-returns
 returns c =
     let a = c .before .before .before .before .before .before .before .args in λ classes line n g h k.
-    let t = text-of line n in
+    let t = text-in line n in
     let d = script-prev g (a .w .from) (omega (arith, h)) (c .before .before .before .before .before .number-at .ensures) (c .before .before .before .before .script .ensures) in
     let before : script (classes-of classes) (prev t (a .w .from)) ≡ script-thai = omega (arith, d) in
     ap (λ (k : ℕ). eqb k script-thai) (script-here g (a .w .to) (omega (arith, k)) (c .before .number-at2 .ensures) (c .script2 .ensures))
@@ -41,7 +41,7 @@ returns c =
 returns-2 : tie.Need-returns-2
 returns-2 c =
     let a = c .before .before .before .before .args in λ classes line n g h k.
-    let t = text-of line n in
+    let t = text-in line n in
     let d = script-prev g (a .w .from) (omega (arith, h)) (c .before .before .number-at .ensures) (c .before .script .ensures) in
     sym (rw (ne-eqb (script (classes-of classes) (prev t (a .w .from))) script-thai (λ e. omega (arith, e, d))))
 

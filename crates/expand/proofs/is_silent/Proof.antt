@@ -5,7 +5,7 @@ use denote.Ref.{now}
 use Rattle.definition.specs.RuleRows.{rules-of}
 use Rattle.definition.specs.ClassRows.{classes-of}
 use Rattle.definition.specs.Texts.{at, o-ang}
-use Rattle.words.specs.Given.{text-of, view-of, char-at}
+use Rattle.words.specs.Given.{text-in, view-of, char-at}
 use Rattle.steps.specs.Works.{work-of}
 use Rattle.expand.proofs.Ways.{no-o-ang, not-alone, alone}
 use borrow.Author.Needs.{needs}
@@ -31,7 +31,7 @@ returns c =
     let p = s .pre in λ classes g.
     let R = rules-of (now (a .rules)) in
     let k = classes-of classes in
-    let t = text-of (now (a .line)) (a .n) in
+    let t = text-in (now (a .line)) (a .n) in
     let v = view-of classes (now (a .slots)) (now (a .room)) (a .count) in
     let here : at t (a .o) ≡ o-ang = omega (arith, char-at g (a .o) (omega (arith, p .5)), c .before .before .before .before .before .before .number-at .ensures) in
     alone R k t (work-of (a .w)) v (a .o) here (omega arith) (sym (c .before .is-between .ensures classes g) ∙ c .if3 .taken)
@@ -43,7 +43,7 @@ returns-2 c =
     let p = s .pre in λ classes g.
     let R = rules-of (now (a .rules)) in
     let k = classes-of classes in
-    let t = text-of (now (a .line)) (a .n) in
+    let t = text-in (now (a .line)) (a .n) in
     let v = view-of classes (now (a .slots)) (now (a .room)) (a .count) in
     let here : at t (a .o) ≡ o-ang = omega (arith, char-at g (a .o) (omega (arith, p .5)), c .before .before .before .before .before .before .number-at .ensures) in
     alone R k t (work-of (a .w)) v (a .o) here (omega arith) (sym (c .before .is-between .ensures classes g) ∙ c .if3 .left)
@@ -55,7 +55,7 @@ returns-3 c =
     let p = s .pre in λ classes g.
     let R = rules-of (now (a .rules)) in
     let k = classes-of classes in
-    let t = text-of (now (a .line)) (a .n) in
+    let t = text-in (now (a .line)) (a .n) in
     let v = view-of classes (now (a .slots)) (now (a .room)) (a .count) in
     let here : at t (a .o) ≡ o-ang = omega (arith, char-at g (a .o) (omega (arith, p .5)), c .before .before .before .before .number-at .ensures) in
     not-alone R k t (work-of (a .w)) v (a .o) here (λ e. omega (arith, e))
@@ -67,7 +67,7 @@ returns-4 c =
     let p = s .pre in λ classes g.
     let R = rules-of (now (a .rules)) in
     let k = classes-of classes in
-    let t = text-of (now (a .line)) (a .n) in
+    let t = text-in (now (a .line)) (a .n) in
     let v = view-of classes (now (a .slots)) (now (a .room)) (a .count) in
     no-o-ang R k t (work-of (a .w)) v (a .o) (λ e. omega (arith, e, char-at g (a .o) (omega (arith, p .5)), c .before .number-at .ensures))
 

@@ -7,7 +7,7 @@ use denote.Ref.{now}
 use Rattle.definition.specs.ClassRows.{classes-of}
 use Rattle.definition.specs.Classes.{script}
 use Rattle.definition.specs.Expansion.{small-ya}
-use Rattle.words.specs.Given.{text-of, char-at}
+use Rattle.words.specs.Given.{text-in, char-at}
 use Rattle.words.specs.Characters.{script-prev, script-here}
 use Rattle.expand.specs.Sides.{small-here}
 use borrow.Author.Needs.{needs}
@@ -42,7 +42,7 @@ returns : tie.Need-returns
 unfolding small-here
 returns c =
     let a = c .before .before .before .before .before .before .before .before .before .before .before .args in λ classes n g h.
-    let t = text-of (now (a .line)) n in
+    let t = text-in (now (a .line)) n in
     let d = script-prev g (a .w .to) (omega (arith, h)) (c .before .before .before .before .number-at2 .ensures) (c .before .before .before .script .ensures) in
     let e = script-here g (a .w .to) (omega (arith, h)) (c .before .number-at3 .ensures) (c .script2 .ensures) in
     let k = sym (c .before .before .before .before .before .before .is-small-ya .ensures ∙ ap small-ya (c .before .before .before .before .before .before .before .number-at .ensures ∙ char-at g (a .w .to) (omega (arith, h)))) ∙ c .before .before .before .before .before .if1 .taken in

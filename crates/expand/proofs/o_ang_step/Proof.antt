@@ -7,7 +7,7 @@ use Rattle.definition.specs.Texts.{Text}
 use Rattle.definition.specs.Notes.{note-del}
 use Rattle.definition.specs.Expansion.{work}
 use Rattle.rom.specs.Rom.{text-by, clean-by}
-use Rattle.words.specs.Given.{text-of, view-of}
+use Rattle.words.specs.Given.{text-in, view-of}
 use Rattle.words.specs.Did.{did-by}
 use Rattle.rules.specs.Lent.{lexicon-of}
 use Rattle.steps.specs.Works.{work-of}
@@ -28,7 +28,7 @@ returns c =
     let a = s .args in
     let p = s .pre in
     let L = lexicon-of (now (a .rules)) (now (a .classes)) (now (a .code)) in
-    let t = text-of (now (a .line)) (a .n) in
+    let t = text-in (now (a .line)) (a .n) in
     let v = view-of (now (a .classes)) (now (a .slots)) (now (a .room)) (a .count) in
     let m = now (a .starts) in
     let e = c .new .ensures in
@@ -47,7 +47,7 @@ returns-2 c =
     let a = s .args in
     let p = s .pre in
     let L = lexicon-of (now (a .rules)) (now (a .classes)) (now (a .code)) in
-    let t = text-of (now (a .line)) (a .n) in
+    let t = text-in (now (a .line)) (a .n) in
     let v = view-of (now (a .classes)) (now (a .slots)) (now (a .room)) (a .count) in
     let m = now (a .starts) in
     let h = sym (c .before .before .before .before .before .is-silent .ensures (now (a .classes)) (p .0 .read .text)) ∙ c .before .before .before .before .if1 .left in

@@ -1,7 +1,7 @@
 -- `expand::rest`
 use native.Mathlib.Omega.{arith}
 use denote.Ref.{now}
-use Rattle.words.specs.Given.{text-of, view-of}
+use Rattle.words.specs.Given.{text-in, view-of}
 use Rattle.words.specs.Did.{did-by}
 use Rattle.rules.specs.Lent.{lexicon-of}
 use Rattle.steps.specs.Works.{work-of}
@@ -32,7 +32,7 @@ returns c =
     let a = s .args in
     let p = s .pre in
     let L = lexicon-of (now (a .rules)) (now (a .classes)) (now (a .code)) in
-    let t = text-of (now (a .line)) (a .n) in
+    let t = text-in (now (a .line)) (a .n) in
     let v = view-of (now (a .classes)) (now (a .slots)) (now (a .room)) (a .count) in
     let m = now (a .starts) in
     let u = c .before .before .before .before .before .before .before .grave .ensures in

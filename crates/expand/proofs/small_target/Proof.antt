@@ -7,7 +7,7 @@ use denote.Ref.{now}
 use Rattle.definition.specs.RuleRows.{rules-of}
 use Rattle.definition.specs.ClassRows.{classes-of}
 use Rattle.definition.specs.Rules.{first-rule}
-use Rattle.words.specs.Given.{text-of, char-at}
+use Rattle.words.specs.Given.{text-in, char-at}
 use Rattle.steps.specs.Works.{work-of}
 use Rattle.expand.proofs.Ways.{not-next, no-i, small-ruled-by}
 use borrow.Author.Needs.{needs}
@@ -40,7 +40,7 @@ returns c =
     let R = rules-of (now (a .rules)) in
     let x = c .romanization-by-first-rule in (
       (λ classes g.
-          let t = text-of (now (a .line)) (a .n) in
+          let t = text-in (now (a .line)) (a .n) in
           let e = sym (c .before .before .before .before .before .before .before .is-small-next .ensures classes (a .n) g (p .2)) ∙ c .before .before .before .before .before .before .if1 .taken in
           x .ensures .0 ∙ ap (λ (k : ℕ). first-rule R (k ∷ [])) (c .before .before .number-at .ensures ∙ char-at g (a .w .to) (omega (arith, p .2)))
           ∙ small-ruled-by R (classes-of classes) t (work-of (a .w)) e (sym (c .before .before .before .before .before .ends-in-i .ensures) ∙ c .before .before .before .before .if2 .taken)),
@@ -54,7 +54,7 @@ returns-2 c =
     let p = s .pre in (
       (λ classes g.
           let e = sym (c .before .before .before .is-small-next .ensures classes (a .n) g (p .2)) ∙ c .before .before .if1 .taken in
-          no-i (rules-of (now (a .rules))) (classes-of classes) (text-of (now (a .line)) (a .n)) (work-of (a .w)) e (sym (c .before .ends-in-i .ensures) ∙ c .if2 .left)),
+          no-i (rules-of (now (a .rules))) (classes-of classes) (text-in (now (a .line)) (a .n)) (work-of (a .w)) e (sym (c .before .ends-in-i .ensures) ∙ c .if2 .left)),
       tt,
     )
 
@@ -65,7 +65,7 @@ returns-3 c =
     let p = s .pre in (
       (λ classes g.
           let e = sym (c .before .is-small-next .ensures classes (a .n) g (p .2)) ∙ c .if1 .left in
-          not-next (rules-of (now (a .rules))) (classes-of classes) (text-of (now (a .line)) (a .n)) (work-of (a .w)) e),
+          not-next (rules-of (now (a .rules))) (classes-of classes) (text-in (now (a .line)) (a .n)) (work-of (a .w)) e),
       tt,
     )
 

@@ -4,7 +4,7 @@ use native.Mathlib.Omega.{arith}
 use denote.Ref.{now}
 use Rattle.definition.specs.Expansion.{around}
 use Rattle.definition.specs.Expansion as expansion
-use Rattle.words.specs.Given.{text-of, view-of}
+use Rattle.words.specs.Given.{text-in, view-of}
 use Rattle.words.specs.Did.{did-by}
 use Rattle.rules.specs.Lent.{lexicon-of}
 use Rattle.steps.specs.Works.{work-of}
@@ -23,7 +23,7 @@ returns c =
     let a = s .args in
     let p = s .pre in
     let L = lexicon-of (now (a .rules)) (now (a .classes)) (now (a .code)) in
-    let t = text-of (now (a .line)) (a .n) in
+    let t = text-in (now (a .line)) (a .n) in
     let v = view-of (now (a .classes)) (now (a .slots)) (now (a .room)) (a .count) in
     let m = now (a .starts) in
     let x = c .before .before .around in
@@ -40,7 +40,7 @@ o-ang-step-requires c κs =
     let a = s .args in
     let p = s .pre in
     let L = lexicon-of (now (a .rules)) (now (a .classes)) (now (a .code)) in
-    let t = text-of (now (a .line)) (a .n) in
+    let t = text-in (now (a .line)) (a .n) in
     let x = c .before .before2 .ensures in
     let e = x .0 (now (a .classes)) (p .0 .read .text) in
     let k = before-there (L .rules) (L .classes) t (work-of (a .w)) in
@@ -57,7 +57,7 @@ returns-2 c =
     let a = s .args in
     let p = s .pre in
     let L = lexicon-of (now (a .rules)) (now (a .classes)) (now (a .code)) in
-    let t = text-of (now (a .line)) (a .n) in
+    let t = text-in (now (a .line)) (a .n) in
     let v = view-of (now (a .classes)) (now (a .slots)) (now (a .room)) (a .count) in
     let m = now (a .starts) in
     let d = c .before .before .before .before .before .before .around .ensures .0 (now (a .classes)) (p .0 .read .text) in

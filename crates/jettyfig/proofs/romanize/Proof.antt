@@ -13,7 +13,7 @@ use Rattle.definition.specs.Capacity.{refuse}
 use Rattle.definition.specs.Listing.{shown}
 use Rattle.definition.specs.Call.{tables-of, written}
 use Rattle.edge.specs.Asked.{stored-readable}
-use Rattle.words.specs.Given.{text-of}
+use Rattle.words.specs.Given.{text-in}
 use Rattle.lattice.specs.Reached.{Reached}
 use Rattle.jettyfig.specs.Verdicts.{given, returned}
 use Rattle.jettyfig.specs.Calls.{as-refused, built-refused, built-all, reached-fits, reached-count, reached-sound}
@@ -32,7 +32,7 @@ show-requires c κs =
     let a = c .before .before .before .before .before .before .before .before .before .before .before .before .before .before .before .before .before .before .before .before .before .before .before .before .before .before .before .before .before .before .args in
     let p = c .before .before .before .before .before .before .before .before .before .before .before .before .before .before .before .before .before .before .before .before .before .before .before .before .before .before .before .before .before .before .pre in
     let D = tables-of (now (a .rules)) (now (a .classes)) (now (a .vowels)) (now (a .code)) in
-    let t = text-of (now (a .line)) (a .n) in
+    let t = text-in (now (a .line)) (a .n) in
     let w = c .before .before .before .before .before .count .given in
     let b = subst (Reached (now (a .slots)) (now (a .room)) _ _ _ 1723392 (lattice D t)) (w .1) (c .before .before .before .before .before .before .before .before .before .before .before .before .before .build-lattice .ensures) in
     let ok = tables-bounded (now (a .rules)) (now (a .classes)) (now (a .vowels)) (now (a .code)) (p .0 .table .accepted) (p .0 .text .fine) (p .1) in
@@ -74,7 +74,7 @@ returns c =
     let a = c .before .before .before .before .before .before .before .before .before .before .before .before .before .before .before .before .before .before .before .before .before .before .before .before .before .before .before .before .before .before .before .before .before .before .before .args in
     let p = c .before .before .before .before .before .before .before .before .before .before .before .before .before .before .before .before .before .before .before .before .before .before .before .before .before .before .before .before .before .before .before .before .before .before .before .pre in
     let D = tables-of (now (a .rules)) (now (a .classes)) (now (a .vowels)) (now (a .code)) in
-    let t = text-of (now (a .line)) (a .n) in
+    let t = text-in (now (a .line)) (a .n) in
     let w = c .before .before .before .before .before .before .before .before .before .before .count .given in
     let b = subst (Reached (now (a .slots)) (now (a .room)) _ _ _ 1723392 (lattice D t)) (w .1) (c .before .before .before .before .before .before .before .before .before .before .before .before .before .before .before .before .before .before .build-lattice .ensures) in
     let i = given (a .mode) (now (a .rules)) (now (a .classes)) (now (a .vowels)) (now (a .code)) (now (a .text))
@@ -97,7 +97,7 @@ returns-2 c =
     let a = c .before .before .before .before .before .before .before .before .before .before .before .before .before .before .before .before .before .before .before .before .before .before .before .before .before .before .before .args in
     let p = c .before .before .before .before .before .before .before .before .before .before .before .before .before .before .before .before .before .before .before .before .before .before .before .before .before .before .before .pre in
     let D = tables-of (now (a .rules)) (now (a .classes)) (now (a .vowels)) (now (a .code)) in
-    let t = text-of (now (a .line)) (a .n) in
+    let t = text-in (now (a .line)) (a .n) in
     let w = c .before .before .p .given in
     let b = subst (Reached (now (a .slots)) (now (a .room)) _ _ _ 1723392 (lattice D t)) (w .1) (c .before .before .before .before .before .before .before .before .before .before .build-lattice .ensures) in
     let i = given (a .mode) (now (a .rules)) (now (a .classes)) (now (a .vowels)) (now (a .code)) (now (a .text))
@@ -118,7 +118,7 @@ returns-3 c =
     let a = c .before .before .before .before .before .before .before .before .before .before .before .before .before .before .before .before .before .before .before .before .before .before .before .before .before .before .before .args in
     let p = c .before .before .before .before .before .before .before .before .before .before .before .before .before .before .before .before .before .before .before .before .before .before .before .before .before .before .before .pre in
     let D = tables-of (now (a .rules)) (now (a .classes)) (now (a .vowels)) (now (a .code)) in
-    let t = text-of (now (a .line)) (a .n) in
+    let t = text-in (now (a .line)) (a .n) in
     let w = c .before .before .p2 .given in
     let b = subst (Reached (now (a .slots)) (now (a .room)) _ _ _ 1723392 (lattice D t)) (w .1) (c .before .before .before .before .before .before .before .before .before .before .build-lattice .ensures) in
     let i = given (a .mode) (now (a .rules)) (now (a .classes)) (now (a .vowels)) (now (a .code)) (now (a .text))

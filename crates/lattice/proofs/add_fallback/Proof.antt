@@ -10,7 +10,7 @@ use Rattle.definition.specs.Utf8.{encode}
 use Rattle.definition.specs.Call.{tables-of}
 use Rattle.definition.specs.Promises.{tables-bounded}
 use Rattle.edge.specs.Asked.{stored-readable}
-use Rattle.words.specs.Given.{text-of, char-at}
+use Rattle.words.specs.Given.{text-in, char-at}
 use Rattle.rules.specs.Chosen.{said}
 use Rattle.lattice.specs.Fallback.{single-numbers, spaced, unspaced, own-inside}
 use Rattle.lattice.proofs.Falls.{note-at, category-fits, category-puts, search-fits, search-puts}
@@ -60,7 +60,7 @@ returns c =
     let S = now (a .slots) in
     let R = now (a .room) in
     let D = tables-of (now (a .rules)) (now (a .classes)) (now (a .vowels)) (now (a .code)) in
-    let t = text-of (now (a .line)) (a .n) in
+    let t = text-in (now (a .line)) (a .n) in
     let number = c .before .before .before .before .before .before .before .before .before .before .before .before .number-at in
     let kind = c .before .before .before .before .before .before .before .before .before .before .before .category in
     let note = c .before .before .before .before .before .before .before .before .before .before .category-note in
@@ -101,7 +101,7 @@ returns-2 c =
     let S = now (a .slots) in
     let R = now (a .room) in
     let D = tables-of (now (a .rules)) (now (a .classes)) (now (a .vowels)) (now (a .code)) in
-    let t = text-of (now (a .line)) (a .n) in
+    let t = text-in (now (a .line)) (a .n) in
     let number = c .before .before .before .before .before .before .before .before .before .before .before .before .before .number-at in
     let kind = c .before .before .before .before .before .before .before .before .before .before .before .before .category in
     let note = c .before .before .before .before .before .before .before .before .before .before .before .category-note in
@@ -137,7 +137,7 @@ fallback-text-requires : tie.Need-fallback-text-requires
 fallback-text-requires c κs =
     let a = c .before .before .before .before .before .before .before .before .before .before .before .before .before .before .before .before .before .before .before .before .before .before .before .before .before .args in
     let p = c .before .before .before .before .before .before .before .before .before .before .before .before .before .before .before .before .before .before .before .before .before .before .before .before .before .pre in
-    let t = text-of (now (a .line)) (a .n) in
+    let t = text-in (now (a .line)) (a .n) in
     let long = p .0 .text .long in
     let len = c .encoded-len in
     let q = len .ensures .0 ∙ ap (λ x. length (encode x)) (c .before .number-at2 .ensures ∙ char-at (p .0 .text) (a .p) (omega arith)) in
@@ -162,7 +162,7 @@ add-edge-requires-3 c κs =
     let S = now (a .slots) in
     let R = now (a .room) in
     let D = tables-of (now (a .rules)) (now (a .classes)) (now (a .vowels)) (now (a .code)) in
-    let t = text-of (now (a .line)) (a .n) in
+    let t = text-in (now (a .line)) (a .n) in
     let long = p .0 .text .long in
     let len = c .before .before .before .before .before .encoded-len in
     let q = len .ensures .0 ∙ ap (λ x. length (encode x)) (c .before .before .before .before .before .before .number-at2 .ensures ∙ char-at (p .0 .text) (a .p) (omega arith)) in
@@ -193,7 +193,7 @@ returns-3 c =
     let S = now (a .slots) in
     let R = now (a .room) in
     let D = tables-of (now (a .rules)) (now (a .classes)) (now (a .vowels)) (now (a .code)) in
-    let t = text-of (now (a .line)) (a .n) in
+    let t = text-in (now (a .line)) (a .n) in
     let long = p .0 .text .long in
     let len = c .before .before .before .before .before .before .before .before .before .before .encoded-len in
     let q = len .ensures .0 ∙ ap (λ x. length (encode x)) (c .before .before .before .before .before .before .before .before .before .before .before .number-at2 .ensures ∙ char-at (p .0 .text) (a .p) (omega arith)) in

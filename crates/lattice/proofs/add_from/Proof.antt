@@ -12,7 +12,7 @@ use Rattle.definition.specs.Call.{tables-of}
 use Rattle.definition.specs.Growth.{rise-grown}
 use Rattle.definition.specs.Within.{prefix-bound}
 use Rattle.edge.specs.Slots.{edges-of}
-use Rattle.words.specs.Given.{text-of, line-length}
+use Rattle.words.specs.Given.{text-in, line-length}
 use Rattle.lattice.specs.Reached.{Reached, Holds, Refused, ends-here, ends-refused, goes-on}
 use Rattle.lattice.specs.Turns.{put-span, rises, rise-over, rise-stops, rise-turn}
 use borrow.Author.Needs.{needs}
@@ -21,8 +21,8 @@ use Rattle.lattice.proofs.add_from.Tie as tie
 
 abbrev Inv-loop : tie.InvT-loop
 Inv-loop rules index classes alphas vowels code line kinds n slots₀ room₀ count used starts₀ s edges₀ bytes₀ e₀ left₀ slots room starts edges bytes e left =
-    (rises (tables-of rules classes vowels code) (text-of line n) s e (edges-of room edges slots, starts) left
-    ≡ build (tables-of rules classes vowels code) (text-of line n) s (edges-of room₀ count slots₀, starts₀))
+    (rises (tables-of rules classes vowels code) (text-in line n) s e (edges-of room edges slots, starts) left
+    ≡ build (tables-of rules classes vowels code) (text-in line n) s (edges-of room₀ count slots₀, starts₀))
     × Holds slots₀ room₀ slots room edges bytes × (bytes + left * 198 ≤ used + 3168) × (e + left ≡ s + 17) × (left ≤ 16)
     × (length starts ≡ length starts₀)
 
@@ -54,7 +54,7 @@ add-span-requires c κs =
     let a = c .before .before .before .before .before .before .before .before .before .before .before .before .before .before .before .before .before .before .args in
     let p = c .before .before .before .before .before .before .before .before .before .before .before .before .before .before .before .before .before .before .pre in
     let D = tables-of (now (a .rules)) (now (a .classes)) (now (a .vowels)) (now (a .code)) in
-    let t = text-of (now (a .line)) (a .n) in
+    let t = text-in (now (a .line)) (a .n) in
     let st : State = (edges-of (l .room) (l .edges) (l .slots), l .starts) in
     let prefix = sym (c .before .before .before .before .is-prefix .ensures (now (a .classes)) (now (a .kinds)) (p .0 .text)) ∙ c .before .before .before .if1 .taken in
     let long = p .0 .text .long in
@@ -83,7 +83,7 @@ returns c =
     let a = c .before .before .before .before .before .before .before .before .before .before .before .before .before .before .before .before .before .before .before .before .before .before .before .before .before .before .before .args in
     let p = c .before .before .before .before .before .before .before .before .before .before .before .before .before .before .before .before .before .before .before .before .before .before .before .before .before .before .before .pre in
     let D = tables-of (now (a .rules)) (now (a .classes)) (now (a .vowels)) (now (a .code)) in
-    let t = text-of (now (a .line)) (a .n) in
+    let t = text-in (now (a .line)) (a .n) in
     let st : State = (edges-of (l .room) (l .edges) (l .slots), l .starts) in
     let prefix = sym (c .before .before .before .before .before .before .before .before .before .before .before .before .before .is-prefix .ensures (now (a .classes)) (now (a .kinds)) (p .0 .text)) ∙ c .before .before .before .before .before .before .before .before .before .before .before .before .if1 .taken in
     let x = c .before .before .before .before .before .before .before .before .add-span in
@@ -112,7 +112,7 @@ returns-2 c =
     let a = c .before .before .before .before .before .before .before .before .before .before .before .before .before .before .before .before .before .before .before .before .before .before .before .before .before .before .before .args in
     let p = c .before .before .before .before .before .before .before .before .before .before .before .before .before .before .before .before .before .before .before .before .before .before .before .before .before .before .before .pre in
     let D = tables-of (now (a .rules)) (now (a .classes)) (now (a .vowels)) (now (a .code)) in
-    let t = text-of (now (a .line)) (a .n) in
+    let t = text-in (now (a .line)) (a .n) in
     let st : State = (edges-of (l .room) (l .edges) (l .slots), l .starts) in
     let prefix = sym (c .before .before .before .before .before .before .before .before .before .before .before .before .before .is-prefix .ensures (now (a .classes)) (now (a .kinds)) (p .0 .text)) ∙ c .before .before .before .before .before .before .before .before .before .before .before .before .if1 .taken in
     let x = c .before .before .before .before .before .before .before .before .add-span in
@@ -143,7 +143,7 @@ loop-again c =
     let a = c .before .before .before .before .before .before .before .before .before .before .before .before .before .before .before .before .before .before .before .before .before .before .before .before .before .before .before .before .args in
     let p = c .before .before .before .before .before .before .before .before .before .before .before .before .before .before .before .before .before .before .before .before .before .before .before .before .before .before .before .before .pre in
     let D = tables-of (now (a .rules)) (now (a .classes)) (now (a .vowels)) (now (a .code)) in
-    let t = text-of (now (a .line)) (a .n) in
+    let t = text-in (now (a .line)) (a .n) in
     let st : State = (edges-of (l .room) (l .edges) (l .slots), l .starts) in
     let prefix = sym (c .before .before .before .before .before .before .before .before .before .before .before .before .before .before .is-prefix .ensures (now (a .classes)) (now (a .kinds)) (p .0 .text)) ∙ c .before .before .before .before .before .before .before .before .before .before .before .before .before .if1 .taken in
     let x = c .before .before .before .before .before .before .before .before .before .add-span in
@@ -174,7 +174,7 @@ returns-3 c =
     let a = c .before .before .before .before .before .before .before .before .before .before .before .before .before .before .before .args in
     let p = c .before .before .before .before .before .before .before .before .before .before .before .before .before .before .before .pre in
     let D = tables-of (now (a .rules)) (now (a .classes)) (now (a .vowels)) (now (a .code)) in
-    let t = text-of (now (a .line)) (a .n) in
+    let t = text-in (now (a .line)) (a .n) in
     let st : State = (edges-of (l .room) (l .edges) (l .slots), l .starts) in
     let prefix = sym (c .before .is-prefix .ensures (now (a .classes)) (now (a .kinds)) (p .0 .text)) ∙ c .if1 .left in
     ends-here (l .inv .1) (l .starts) (a .used + 3168) _ (omega (arith, l .inv .2)) (sym (rise-stops D t (a .s) (l .e) st (l .left) prefix) ∙ l .inv .0)
@@ -195,7 +195,7 @@ returns-4 c =
     let a = c .before .before .before .before .before .before .before .before .before .before .before .before .before .args in
     let p = c .before .before .before .before .before .before .before .before .before .before .before .before .before .pre in
     let D = tables-of (now (a .rules)) (now (a .classes)) (now (a .vowels)) (now (a .code)) in
-    let t = text-of (now (a .line)) (a .n) in
+    let t = text-in (now (a .line)) (a .n) in
     let st : State = (edges-of (l .room) (l .edges) (l .slots), l .starts) in
     ends-here (l .inv .1) (l .starts) (a .used + 3168) _ (omega (arith, l .inv .2)) (sym (rise-over D t (a .s) (l .e) st (l .left) (omega arith)) ∙ l .inv .0)
 

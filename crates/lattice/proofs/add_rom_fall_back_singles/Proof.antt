@@ -11,7 +11,7 @@ use Rattle.definition.specs.Building.{each, fall}
 use Rattle.definition.specs.Call.{tables-of}
 use Rattle.definition.specs.Growth.{each-grown, fall-grown}
 use Rattle.edge.specs.Slots.{edges-of}
-use Rattle.words.specs.Given.{text-of, char-at}
+use Rattle.words.specs.Given.{text-in, char-at}
 use Rattle.lattice.specs.Reached.{Reached, Holds, Refused, ends-here, ends-refused, goes-on}
 use Rattle.lattice.specs.Turns.{each-over, each-turn}
 use Rattle.lattice.specs.Fallback.{own-next}
@@ -21,10 +21,10 @@ use Rattle.lattice.proofs.add_rom_fall_back_singles.Tie as tie
 
 abbrev Inv-loop : tie.InvT-loop
 Inv-loop rules index classes alphas vowels code text line kinds n slots₀ room₀ count used starts₀ edges₀ bytes₀ p₀ at₀ slots room starts edges bytes p at =
-    (each (fall (tables-of rules classes vowels code) (text-of line n)) (n - p) p (edges-of room edges slots, starts)
-    ≡ each (fall (tables-of rules classes vowels code) (text-of line n)) n 0 (edges-of room₀ count slots₀, starts₀))
+    (each (fall (tables-of rules classes vowels code) (text-in line n)) (n - p) p (edges-of room edges slots, starts)
+    ≡ each (fall (tables-of rules classes vowels code) (text-in line n)) n 0 (edges-of room₀ count slots₀, starts₀))
     × Holds slots₀ room₀ slots room edges bytes × (bytes ≤ used + p * 198) × (p ≤ n) × (length starts ≡ length starts₀)
-    × (drop at text ≡ encoded (drop p (text-of line n))) × (at ≤ p * 4)
+    × (drop at text ≡ encoded (drop p (text-in line n))) × (at ≤ p * 4)
 
 abbrev μ-loop : tie.MeasureT-loop
 μ-loop rules index classes alphas vowels code text line kinds n slots₀ room₀ count used starts₀ edges₀ bytes₀ p₀ at₀ slots room starts edges bytes p at =
@@ -35,7 +35,7 @@ loop-holds c =
     let a = c .before .before .before .before .before .before .before .before .before .before .before .before .args in
     let g = c .before .before .before .before .before .before .before .before .before .before .before .before .pre in
     let D = tables-of (now (a .rules)) (now (a .classes)) (now (a .vowels)) (now (a .code)) in
-    let t = text-of (now (a .line)) (a .n) in
+    let t = text-in (now (a .line)) (a .n) in
     let st : State = (edges-of (now (a .room)) (a .count) (now (a .slots)), now (a .starts)) in (
       ap (λ k. each (fall D t) k 0 st) {x = a .n - 0} {y = a .n} (omega arith),
       record { stored = g .2; slots = refl; room = refl },
@@ -76,7 +76,7 @@ returns c =
     let a = c .before .before .before .before .before .before .before .before .before .before .before .before .before .before .before .before .before .before .before .before .before .before .before .before .before .before .args in
     let g = c .before .before .before .before .before .before .before .before .before .before .before .before .before .before .before .before .before .before .before .before .before .before .before .before .before .before .pre in
     let D = tables-of (now (a .rules)) (now (a .classes)) (now (a .vowels)) (now (a .code)) in
-    let t = text-of (now (a .line)) (a .n) in
+    let t = text-in (now (a .line)) (a .n) in
     let st : State = (edges-of (l .room) (l .edges) (l .slots), l .starts) in
     let x = c .before .before .before .before .before .before .before .before .fall-back-at in
     let test = c .before .before .before .before .before .before .before .before .before .before .before .before .loop-test in
@@ -104,7 +104,7 @@ returns-2 c =
     let a = c .before .before .before .before .before .before .before .before .before .before .before .before .before .before .before .before .before .before .before .before .before .before .before .before .before .before .args in
     let g = c .before .before .before .before .before .before .before .before .before .before .before .before .before .before .before .before .before .before .before .before .before .before .before .before .before .before .pre in
     let D = tables-of (now (a .rules)) (now (a .classes)) (now (a .vowels)) (now (a .code)) in
-    let t = text-of (now (a .line)) (a .n) in
+    let t = text-in (now (a .line)) (a .n) in
     let st : State = (edges-of (l .room) (l .edges) (l .slots), l .starts) in
     let x = c .before .before .before .before .before .before .before .before .fall-back-at in
     let test = c .before .before .before .before .before .before .before .before .before .before .before .before .loop-test in
@@ -140,7 +140,7 @@ loop-again c =
     let a = c .before .before .before .before .before .before .before .before .before .before .before .before .before .before .before .before .before .before .before .before .before .before .before .before .before .before .before .before .before .args in
     let g = c .before .before .before .before .before .before .before .before .before .before .before .before .before .before .before .before .before .before .before .before .before .before .before .before .before .before .before .before .before .pre in
     let D = tables-of (now (a .rules)) (now (a .classes)) (now (a .vowels)) (now (a .code)) in
-    let t = text-of (now (a .line)) (a .n) in
+    let t = text-in (now (a .line)) (a .n) in
     let st : State = (edges-of (l .room) (l .edges) (l .slots), l .starts) in
     let x = c .before .before .before .before .before .before .before .before .before .before .before .fall-back-at in
     let test = c .before .before .before .before .before .before .before .before .before .before .before .before .before .before .before .loop-test in
@@ -177,7 +177,7 @@ returns-3 c =
     let a = c .before .before .before .before .before .before .before .before .before .before .before .before .before .before .args in
     let g = c .before .before .before .before .before .before .before .before .before .before .before .before .before .before .pre in
     let D = tables-of (now (a .rules)) (now (a .classes)) (now (a .vowels)) (now (a .code)) in
-    let t = text-of (now (a .line)) (a .n) in
+    let t = text-in (now (a .line)) (a .n) in
     let st : State = (edges-of (l .room) (l .edges) (l .slots), l .starts) in
     ends-here (l .inv .1) (l .starts) (a .used + a .n * 198) _ (omega (arith, l .inv .2, l .inv .3)) (sym (each-over (fall D t) (a .n - l .p) (l .p) st (omega arith)) ∙ l .inv .0)
 

@@ -13,7 +13,7 @@ use Rattle.definition.specs.Call.{tables-of}
 use Rattle.definition.specs.Growth.{each-grown, build-grown}
 use Rattle.edge.specs.Slots.{edges-of}
 use Rattle.edge.specs.Stored.{none-stored}
-use Rattle.words.specs.Given.{text-of}
+use Rattle.words.specs.Given.{text-in}
 use Rattle.lattice.specs.Reached.{Reached, Holds, Refused, ends-here, ends-refused, goes-on}
 use Rattle.lattice.specs.Turns.{each-over, each-turn}
 use borrow.Author.Needs.{needs}
@@ -22,8 +22,8 @@ use Rattle.lattice.proofs.add_romanization.Tie as tie
 
 abbrev Inv-loop : tie.InvT-loop
 Inv-loop rules index classes alphas vowels code line kinds n slots₀ room₀ starts₀ edges₀ bytes₀ s₀ slots room starts edges bytes s =
-    (each (build (tables-of rules classes vowels code) (text-of line n)) (n - s) s (edges-of room edges slots, starts)
-    ≡ each (build (tables-of rules classes vowels code) (text-of line n)) n 0 ([], starts₀))
+    (each (build (tables-of rules classes vowels code) (text-in line n)) (n - s) s (edges-of room edges slots, starts)
+    ≡ each (build (tables-of rules classes vowels code) (text-in line n)) n 0 ([], starts₀))
     × Holds slots₀ room₀ slots room edges bytes × (bytes ≤ s * 3168) × (s ≤ n) × (length starts ≡ length starts₀)
 
 abbrev μ-loop : tie.MeasureT-loop
@@ -35,7 +35,7 @@ unfolding counted
 loop-holds c =
     let a = c .before .before .before .before .before .before .before .before .before .before .before .args in
     let D = tables-of (now (a .rules)) (now (a .classes)) (now (a .vowels)) (now (a .code)) in
-    let t = text-of (now (a .line)) (a .n) in (
+    let t = text-in (now (a .line)) (a .n) in (
       ap (λ k. each (build D t) k 0 ([], now (a .starts))) {x = a .n - 0} {y = a .n} (omega arith),
       record { stored = none-stored (now (a .slots)) (now (a .room)); slots = refl; room = refl },
       omega arith,
@@ -73,7 +73,7 @@ returns c =
     let a = c .before .before .before .before .before .before .before .before .before .before .before .before .before .before .before .before .before .before .before .before .before .before .before .before .before .args in
     let p = c .before .before .before .before .before .before .before .before .before .before .before .before .before .before .before .before .before .before .before .before .before .before .before .before .before .pre in
     let D = tables-of (now (a .rules)) (now (a .classes)) (now (a .vowels)) (now (a .code)) in
-    let t = text-of (now (a .line)) (a .n) in
+    let t = text-in (now (a .line)) (a .n) in
     let st : State = (edges-of (l .room) (l .edges) (l .slots), l .starts) in
     let x = c .before .before .before .before .before .before .before .before .add-from in
     let test = c .before .before .before .before .before .before .before .before .before .before .before .before .loop-test in
@@ -101,7 +101,7 @@ returns-2 c =
     let a = c .before .before .before .before .before .before .before .before .before .before .before .before .before .before .before .before .before .before .before .before .before .before .before .before .before .args in
     let p = c .before .before .before .before .before .before .before .before .before .before .before .before .before .before .before .before .before .before .before .before .before .before .before .before .before .pre in
     let D = tables-of (now (a .rules)) (now (a .classes)) (now (a .vowels)) (now (a .code)) in
-    let t = text-of (now (a .line)) (a .n) in
+    let t = text-in (now (a .line)) (a .n) in
     let st : State = (edges-of (l .room) (l .edges) (l .slots), l .starts) in
     let x = c .before .before .before .before .before .before .before .before .add-from in
     let test = c .before .before .before .before .before .before .before .before .before .before .before .before .loop-test in
@@ -123,7 +123,7 @@ loop-again c =
     let a = c .before .before .before .before .before .before .before .before .before .before .before .before .before .before .before .before .before .before .before .before .before .before .before .before .before .before .args in
     let p = c .before .before .before .before .before .before .before .before .before .before .before .before .before .before .before .before .before .before .before .before .before .before .before .before .before .before .pre in
     let D = tables-of (now (a .rules)) (now (a .classes)) (now (a .vowels)) (now (a .code)) in
-    let t = text-of (now (a .line)) (a .n) in
+    let t = text-in (now (a .line)) (a .n) in
     let st : State = (edges-of (l .room) (l .edges) (l .slots), l .starts) in
     let x = c .before .before .before .before .before .before .before .before .before .add-from in
     let test = c .before .before .before .before .before .before .before .before .before .before .before .before .before .loop-test in
@@ -153,7 +153,7 @@ returns-3 c =
     let a = c .before .before .before .before .before .before .before .before .before .before .before .before .before .args in
     let p = c .before .before .before .before .before .before .before .before .before .before .before .before .before .pre in
     let D = tables-of (now (a .rules)) (now (a .classes)) (now (a .vowels)) (now (a .code)) in
-    let t = text-of (now (a .line)) (a .n) in
+    let t = text-in (now (a .line)) (a .n) in
     let st : State = (edges-of (l .room) (l .edges) (l .slots), l .starts) in
     ends-here (l .inv .1) (l .starts) (a .n * 3168) _ (omega (arith, l .inv .2, l .inv .3)) (sym (each-over (build D t) (a .n - l .s) (l .s) st (omega arith)) ∙ l .inv .0)
 

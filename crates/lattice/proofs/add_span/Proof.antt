@@ -12,7 +12,7 @@ use Rattle.definition.specs.Promises.{tables-bounded}
 use Rattle.rom.specs.Rom.{text, text-length, bytes-length}
 use Rattle.edge.specs.Slots.{edges-of}
 use Rattle.edge.specs.Asked.{stored-readable}
-use Rattle.words.specs.Given.{text-of, view-of}
+use Rattle.words.specs.Given.{text-in, view-of}
 use Rattle.words.specs.Did.{did-by}
 use Rattle.lattice.specs.Reached.{reached-here, reached-add, reached-wide, reached-as}
 use Rattle.lattice.specs.Turns.{put-in-did}
@@ -41,7 +41,7 @@ add-edge-requires c κs =
     let p = c .before .before .before .before .before .before .before .before .before .before .before .before .before .before .before .before .before .before .before .before .before .before .pre in
     let f = c .before .before .before .before .before .before .before .span-edge in
     let D = tables-of (now (a .rules)) (now (a .classes)) (now (a .vowels)) (now (a .code)) in
-    let t = text-of (now (a .line)) (a .n) in
+    let t = text-in (now (a .line)) (a .n) in
     let v = view-of (now (a .classes)) (now (a .slots)) (now (a .room)) (a .count) in
     let l = p .0 .text .long in
     let few = p .0 .text .few in
@@ -69,7 +69,7 @@ returns c =
     let R = now (a .room) in
     let es = edges-of R (a .count) S in
     let D = tables-of (now (a .rules)) (now (a .classes)) (now (a .vowels)) (now (a .code)) in
-    let t = text-of (now (a .line)) (a .n) in
+    let t = text-in (now (a .line)) (a .n) in
     let v = view-of (now (a .classes)) S R (a .count) in
     let l = p .0 .text .long in
     let few = p .0 .text .few in
@@ -107,7 +107,7 @@ returns-2 c =
     let R = now (a .room) in
     let es = edges-of R (a .count) S in
     let D = tables-of (now (a .rules)) (now (a .classes)) (now (a .vowels)) (now (a .code)) in
-    let t = text-of (now (a .line)) (a .n) in
+    let t = text-in (now (a .line)) (a .n) in
     let m = f .last .1 .1 .1 .1 .1 .1 .1 .1 .1 .1 .1 .1 .0 in
     reached-as _
     (put-in-did (λ es. span-edge D t (view (D .classes) es) (a .s) (a .e)) es (now (a .starts)) (did-by (sym (found-not (f .result) (c .if1 .left))) (f .ensures .0)))

@@ -8,7 +8,7 @@ use Rattle.definition.specs.Edges.{State}
 use Rattle.definition.specs.Building.{each, build, fall}
 use Rattle.definition.specs.Call.{tables-of}
 use Rattle.definition.specs.Growth.{each-grown, fall-grown}
-use Rattle.words.specs.Given.{text-of}
+use Rattle.words.specs.Given.{text-in}
 use Rattle.lattice.specs.Reached.{Reached, Refused, reached-then, reached-wide, reached-refused, reached-as}
 use Rattle.lattice.specs.Turns.{both-passes}
 use borrow.Author.Needs.{needs}
@@ -26,7 +26,7 @@ add-rom-fall-back-singles-requires c κs =
     let a = c .before .before .before .before .before .before .before .before .before .before .before .before .before .before .before .before .before .before .before .before .before .before .before .before .before .before .before .before .args in
     let p = c .before .before .before .before .before .before .before .before .before .before .before .before .before .before .before .before .before .before .before .before .before .before .before .before .before .before .before .before .pre in
     let D = tables-of (now (a .rules)) (now (a .classes)) (now (a .vowels)) (now (a .code)) in
-    let t = text-of (now (a .line)) (a .n) in
+    let t = text-in (now (a .line)) (a .n) in
     let first : State = each (build D t) (a .n) 0 ([], now (a .starts)) in
     let w = c .before .before .before .before .done .given in
     let few = p .0 .text .few in
@@ -53,7 +53,7 @@ returns c =
     let a = c .before .before .before .before .before .before .before .before .before .before .before .before .before .before .before .before .before .before .before .before .before .before .before .before .before .before .before .before .before .before .before .before .before .before .before .args in
     let p = c .before .before .before .before .before .before .before .before .before .before .before .before .before .before .before .before .before .before .before .before .before .before .before .before .before .before .before .before .before .before .before .before .before .before .before .pre in
     let D = tables-of (now (a .rules)) (now (a .classes)) (now (a .vowels)) (now (a .code)) in
-    let t = text-of (now (a .line)) (a .n) in
+    let t = text-in (now (a .line)) (a .n) in
     let first : State = each (build D t) (a .n) 0 ([], now (a .starts)) in
     let w = c .before .before .before .before .before .before .before .before .before .before .before .done .given in
     let few = p .0 .text .few in
@@ -77,7 +77,7 @@ returns-2 c =
     let a = c .before .before .before .before .before .before .before .before .before .before .before .before .before .before .before .before .before .before .before .before .before .before .before .before .args in
     let p = c .before .before .before .before .before .before .before .before .before .before .before .before .before .before .before .before .before .before .before .before .before .before .before .before .pre in
     let D = tables-of (now (a .rules)) (now (a .classes)) (now (a .vowels)) (now (a .code)) in
-    let t = text-of (now (a .line)) (a .n) in
+    let t = text-in (now (a .line)) (a .n) in
     let first : State = each (build D t) (a .n) 0 ([], now (a .starts)) in
     let x = c .before .before .before .before .before .before .before .before .add-romanization in
     reached-as _ (both-passes D t (a .n) (now (a .starts)) (p .0 .text .long) (p .3)) (x .result)
@@ -98,7 +98,7 @@ returns-3 c =
     let a = c .before .before .before .before .before .before .before .before .before .before .before .before .before .before .before .before .before .before .before .before .before .before .before .before .args in
     let p = c .before .before .before .before .before .before .before .before .before .before .before .before .before .before .before .before .before .before .before .before .before .before .before .before .pre in
     let D = tables-of (now (a .rules)) (now (a .classes)) (now (a .vowels)) (now (a .code)) in
-    let t = text-of (now (a .line)) (a .n) in
+    let t = text-in (now (a .line)) (a .n) in
     let first : State = each (build D t) (a .n) 0 ([], now (a .starts)) in
     let x = c .before .before .before .before .before .before .before .before .add-romanization in
     reached-as _ (both-passes D t (a .n) (now (a .starts)) (p .0 .text .long) (p .3)) (x .result)

@@ -5,7 +5,7 @@ use native.Mathlib.Omega.{arith}
 use denote.Ref.{now}
 use Rattle.definition.specs.Call.{tables-of}
 use Rattle.edge.specs.Slots.{edges-of}
-use Rattle.words.specs.Given.{text-of}
+use Rattle.words.specs.Given.{text-in}
 use Rattle.lattice.specs.Reached.{reached-here, reached-as}
 use Rattle.lattice.specs.Turns.{fall-covered, fall-bare}
 use borrow.Author.Needs.{needs}
@@ -25,7 +25,7 @@ returns c =
     let S = now (a .slots) in
     let R = now (a .room) in
     let D = tables-of (now (a .rules)) (now (a .classes)) (now (a .vowels)) (now (a .code)) in
-    let t = text-of (now (a .line)) (a .n) in
+    let t = text-in (now (a .line)) (a .n) in
     let m = now (a .starts) in
     let es = edges-of R (a .count) S in
     reached-as _ (sym (fall-covered D t (a .p) (es, m) (sym (c .before .is-covered .ensures R) ∙ c .if1 .taken)))
@@ -49,7 +49,7 @@ returns-2 c =
     let S = now (a .slots) in
     let R = now (a .room) in
     let D = tables-of (now (a .rules)) (now (a .classes)) (now (a .vowels)) (now (a .code)) in
-    let t = text-of (now (a .line)) (a .n) in
+    let t = text-in (now (a .line)) (a .n) in
     let m = now (a .starts) in
     let es = edges-of R (a .count) S in
     let g = c .before .before .before .before .before .before .add-fallback in

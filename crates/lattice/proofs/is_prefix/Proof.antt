@@ -5,7 +5,7 @@ use Prim.Native.Nat.{_+_, _-_}
 use denote.Ref.{now}
 use Rattle.definition.specs.RuleRows.{rules-of}
 use Rattle.dicts.specs.Doors.{is-start}
-use Rattle.words.specs.Given.{text-of, part-at}
+use Rattle.words.specs.Given.{text-in, part-at}
 use Rattle.words.specs.Spans.{prefix-is}
 use Rattle.lattice.specs.Turns.{prefix-past}
 use borrow.Author.Needs.{needs}
@@ -17,7 +17,7 @@ returns c =
     let a = c .before .before .before .before .args in
     λ classes kinds g.
     let l = g .long in
-    prefix-past (rules-of (now (a .rules))) (text-of (now (a .line)) (a .n)) (a .s) (a .e) (omega arith) (omega arith) (omega arith)
+    prefix-past (rules-of (now (a .rules))) (text-in (now (a .line)) (a .n)) (a .s) (a .e) (omega arith) (omega arith) (omega arith)
 
 add-is-prefix : tie.Need-add-is-prefix
 add-is-prefix c = search needs
@@ -47,7 +47,7 @@ returns-2 c =
     let l = g .long in
     c .is-prefix .ensures
     ∙ ap (λ w. is-start w (rules-of (now (a .rules)))) (part-at g (a .s) (a .e) (a .s + 1) (a .e + 1 - (a .s + 1)) (omega arith) (omega arith) (omega arith) (omega arith))
-    ∙ sym (prefix-is (rules-of (now (a .rules))) (text-of (now (a .line)) (a .n)) (a .s) (a .e) (omega arith) (omega arith))
+    ∙ sym (prefix-is (rules-of (now (a .rules))) (text-in (now (a .line)) (a .n)) (a .s) (a .e) (omega arith) (omega arith))
 
 pub is-prefix-spec : {M : Type 1} → statement M
 is-prefix-spec =

@@ -10,7 +10,7 @@ use Rattle.definition.specs.Offers.{found-all}
 use Rattle.definition.specs.Call.{tables-of}
 use Rattle.edge.specs.Slots.{edges-of}
 use Rattle.listing.specs.Items.{put-items, put-items-append}
-use Rattle.words.specs.Given.{text-of}
+use Rattle.words.specs.Given.{text-in}
 use Rattle.output.specs.Shows.{lists-all, lists-alternatives, lists-path}
 use borrow.Author.Needs.{needs}
 use Rattle.output.proofs.put_rows.Statement.{statement}
@@ -27,7 +27,7 @@ returns c vowels =
     let q = c .before .before .before .before .before .before .before .before .before .before .before .before .before .before .before .before in
     let a = q .args in
     let D = tables-of (now (a .rules)) (now (a .classes)) vowels (now (a .code)) in
-    let t = text-of (now (a .line)) (a .n) in
+    let t = text-in (now (a .line)) (a .n) in
     let es = edges-of (now (a .room)) (a .count) (now (a .slots)) in
     let l = q .pre .0 .read .text .long in
     c .before .before .put-all-edges .ensures
@@ -51,7 +51,7 @@ returns-2 c vowels =
     let q = c .before .before .before .before .before .before .before .before .before .before .before .before .before .before .before .before .before .before .before .before .before .before .before .before in
     let a = q .args in
     let D = tables-of (now (a .rules)) (now (a .classes)) vowels (now (a .code)) in
-    let t = text-of (now (a .line)) (a .n) in
+    let t = text-in (now (a .line)) (a .n) in
     let es = edges-of (now (a .room)) (a .count) (now (a .slots)) in
     let l = q .pre .0 .read .text .long in
     let ps = path-from (a .n) 0 es in
@@ -69,7 +69,7 @@ returns-3 c vowels =
     let q = c .before .before .before .before .before .before .before .before .before .before .before .before .before .before .before .before .before in
     let a = q .args in
     let D = tables-of (now (a .rules)) (now (a .classes)) vowels (now (a .code)) in
-    let t = text-of (now (a .line)) (a .n) in
+    let t = text-in (now (a .line)) (a .n) in
     let es = edges-of (now (a .room)) (a .count) (now (a .slots)) in
     let l = q .pre .0 .read .text .long in
     c .before .before .before .put-path .ensures .0

@@ -8,7 +8,7 @@ use Rattle.definition.specs.Edges.{State}
 use Rattle.definition.specs.Paths.{joined, path-from, path-of}
 use Rattle.definition.specs.Call.{tables-of}
 use Rattle.edge.specs.Slots.{edges-of}
-use Rattle.words.specs.Given.{text-of}
+use Rattle.words.specs.Given.{text-in}
 use Rattle.output.specs.Shows.{Shows, listed, shown-string, shown-listed, shows-string, rows-end, shows-listing}
 use borrow.Author.Needs.{needs}
 use Rattle.output.proofs.put_shown.Statement.{statement}
@@ -26,7 +26,7 @@ returns c vowels =
     let q = c .before .before .before .before .before .before .before .before .before .before .before .before .before .before .before .before in
     let a = q .args in
     let D = tables-of (now (a .rules)) (now (a .classes)) vowels (now (a .code)) in
-    let t = text-of (now (a .line)) (a .n) in
+    let t = text-in (now (a .line)) (a .n) in
     let es = edges-of (now (a .room)) (a .count) (now (a .slots)) in
     let l = q .pre .0 .read .text .long in
     let st : State = (es, now (a .starts)) in
@@ -43,7 +43,7 @@ put-head-requires c κs =
     let a = c .before .before .before .before .before .before .before .before .before .before .before .before .before .before .before .before .before .before .before .before .args in
     let D = tables-of (now (a .rules)) (now (a .classes)) [] (now (a .code)) in
     let st : State = (edges-of (now (a .room)) (a .count) (now (a .slots)), now (a .starts)) in
-    omega (arith, rows-end (listed D (text-of (now (a .line)) (a .n)) (a .mode) st) (now (a .out)) (c .before .before .before .before .before .put-rows .ensures []))
+    omega (arith, rows-end (listed D (text-in (now (a .line)) (a .n)) (a .mode) st) (now (a .out)) (c .before .before .before .before .before .put-rows .ensures []))
 
 same-length-2 : tie.Need-same-length-2
 same-length-2 c = search needs
@@ -55,7 +55,7 @@ returns-2 : tie.Need-returns-2
 returns-2 c vowels =
     let a = c .before .before .before .before .before .before .before .before .before .before .before .before .before .before .before .before .before .before .before .before .before .before .before .args in
     let D = tables-of (now (a .rules)) (now (a .classes)) vowels (now (a .code)) in
-    let t = text-of (now (a .line)) (a .n) in
+    let t = text-in (now (a .line)) (a .n) in
     let es = edges-of (now (a .room)) (a .count) (now (a .slots)) in
     let st : State = (es, now (a .starts)) in
     let p = c .before .before .before .before .before .before .before .before .put-rows in

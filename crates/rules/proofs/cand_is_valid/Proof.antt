@@ -4,7 +4,7 @@ use native.Mathlib.Omega.{arith}
 use lib.ListN.{drop}
 use denote.Ref.{now}
 use Rattle.definition.specs.RuleRows.{rule-of}
-use Rattle.words.specs.Given.{text-of, view-of, alpha-before}
+use Rattle.words.specs.Given.{text-in, view-of, alpha-before}
 use Rattle.rules.specs.Lent.{lexicon-of}
 use Rattle.rules.proofs.Validity.{asked, not-asked}
 use borrow.Author.Needs.{needs}
@@ -30,7 +30,7 @@ returns : tie.Need-returns
 returns c =
     let k = c .before .before .before .before .before .before .before .before .before .before .before .before .before .before .before .before .before .before in
     let a = k .args in
-    let t = text-of (now (a .line)) (a .n) in
+    let t = text-in (now (a .line)) (a .n) in
     let h = k .pre .2 in
     asked (lexicon-of (now (a .rules)) (now (a .classes)) (now (a .code))) t (view-of (now (a .classes)) (now (a .slots)) (now (a .room)) (a .count))
     (a .s) (a .e) (rule-of (drop (a .row) (now (a .rules)))) (now (a .starts)) (sym (c .before .before .before .before .before .before .asks-start .ensures) ∙ c .before .before .before .before .before .if1 .taken) _ _
@@ -44,7 +44,7 @@ returns-2 : tie.Need-returns-2
 returns-2 c =
     let k = c .before .before .before .before .before .before .before .before .before .before .before .before .before .before in
     let a = k .args in
-    let t = text-of (now (a .line)) (a .n) in
+    let t = text-in (now (a .line)) (a .n) in
     let h = k .pre .2 in
     not-asked (lexicon-of (now (a .rules)) (now (a .classes)) (now (a .code))) t (view-of (now (a .classes)) (now (a .slots)) (now (a .room)) (a .count))
     (a .s) (a .e) (rule-of (drop (a .row) (now (a .rules)))) (now (a .starts)) (sym (c .before .before .asks-start .ensures) ∙ c .before .if1 .left) _

@@ -6,7 +6,7 @@ use denote.Ref.{now}
 use Rattle.definition.specs.RuleRows.{rule-of, rules-of}
 use Rattle.definition.specs.ClassRows.{classes-of}
 use Rattle.definition.specs.Boundaries.{word-end}
-use Rattle.words.specs.Given.{text-of, line-length}
+use Rattle.words.specs.Given.{text-in, line-length}
 use Rattle.rules.specs.Chosen.{end-holds}
 use Rattle.rules.proofs.Flags.{foreign, misplaced, by-end, endless}
 use borrow.Author.Needs.{needs}
@@ -33,7 +33,7 @@ returns c =
     let k = c .before .before .before .before .before .before .before .before .before .before .before .before .before in
     let a = k .args in
     let r = rule-of (drop (a .row) (now (a .rules))) in
-    let w = word-end (rules-of (now (a .rules))) (classes-of (now (a .classes))) (text-of (now (a .line)) (a .n)) (a .e) in λ code l.
+    let w = word-end (rules-of (now (a .rules))) (classes-of (now (a .classes))) (text-in (now (a .line)) (a .n)) (a .e) in λ code l.
     c .end-holds .ensures ∙ ap (end-holds r) (c .before .is-at-end-of-word .ensures (now (a .classes)) (k .pre .0 .letters .is) (k .pre .0 .text))
     ∙ by-end code (a .start) w r (sym l ∙ c .before .before .before .before .before .before .if1 .taken) (sym (c .before .before .before .before .before .start-holds .ensures) ∙ c .before .before .before .before .if2 .taken)
 
@@ -42,7 +42,7 @@ returns-2 c =
     let k = c .before .before .before .before .before .before .before .before .before .before .before in
     let a = k .args in
     let r = rule-of (drop (a .row) (now (a .rules))) in
-    let w = word-end (rules-of (now (a .rules))) (classes-of (now (a .classes))) (text-of (now (a .line)) (a .n)) (a .e) in λ code l.
+    let w = word-end (rules-of (now (a .rules))) (classes-of (now (a .classes))) (text-in (now (a .line)) (a .n)) (a .e) in λ code l.
     endless code (a .start) w r (sym l ∙ c .before .before .before .before .if1 .taken) (sym (c .before .before .before .start-holds .ensures) ∙ c .before .before .if2 .taken) (sym (c .before .asks-end .ensures) ∙ c .if3 .left)
 
 returns-3 : tie.Need-returns-3
@@ -50,7 +50,7 @@ returns-3 c =
     let k = c .before .before .before .before .before .before .before .before .before in
     let a = k .args in
     let r = rule-of (drop (a .row) (now (a .rules))) in
-    let w = word-end (rules-of (now (a .rules))) (classes-of (now (a .classes))) (text-of (now (a .line)) (a .n)) (a .e) in λ code l.
+    let w = word-end (rules-of (now (a .rules))) (classes-of (now (a .classes))) (text-in (now (a .line)) (a .n)) (a .e) in λ code l.
     misplaced code (a .start) w r (sym l ∙ c .before .before .if1 .taken) (sym (c .before .start-holds .ensures) ∙ c .if2 .left)
 
 returns-4 : tie.Need-returns-4
@@ -58,7 +58,7 @@ returns-4 c =
     let k = c .before .before .before .before .before .before .before in
     let a = k .args in
     let r = rule-of (drop (a .row) (now (a .rules))) in
-    let w = word-end (rules-of (now (a .rules))) (classes-of (now (a .classes))) (text-of (now (a .line)) (a .n)) (a .e) in λ code l.
+    let w = word-end (rules-of (now (a .rules))) (classes-of (now (a .classes))) (text-in (now (a .line)) (a .n)) (a .e) in λ code l.
     foreign code (a .start) w r (sym l ∙ c .if1 .left)
 
 pub holds-at-spec : {M : Type 1} → statement M

@@ -10,7 +10,7 @@ use Rattle.definition.specs.Tables.{Lexicon}
 use Rattle.definition.specs.Texts.{Text}
 use Rattle.definition.specs.Edges.{View}
 use Rattle.definition.specs.Rules.{choose}
-use Rattle.words.specs.Given.{text-of, view-of, line-length, part-at}
+use Rattle.words.specs.Given.{text-in, view-of, line-length, part-at}
 use Rattle.words.specs.Found.{Rows, rules-in, row-there, row-read}
 use Rattle.words.proofs.Ends.{found-at, rows-next}
 use Rattle.rules.specs.Lent.{lexicon-of}
@@ -24,7 +24,7 @@ use Rattle.rules.proofs.top_rule.Tie as tie
 abbrev Inv-loop : tie.InvT-loop
 Inv-loop rules index classes alphas code line kinds n slots room count starts₀ s e row₀ left₀ best₀ starts row left best =
     let L = lexicon-of rules classes code in
-    let t = text-of line n in
+    let t = text-in line n in
     let v = view-of classes slots room count in
     (choose-from L t v s e (rules-in rules row left) (chosen rules best) starts ≡ choose L t v s e starts₀)
     × Rows rules row left × Rowed rules best × (length starts ≡ length starts₀)
@@ -43,7 +43,7 @@ abbrev L : At → Lexicon
 L l = let a = l .before .before .before .before .before .before .before .before .before .before .before .before .before .before .args in lexicon-of (now (a .rules)) (now (a .classes)) (now (a .code))
 
 abbrev T : At → Text
-T l = text-of (now (l .before .before .before .before .before .before .before .before .before .before .before .before .before .before .args .line)) (l .before .before .before .before .before .before .before .before .before .before .before .before .before .before .args .n)
+T l = text-in (now (l .before .before .before .before .before .before .before .before .before .before .before .before .before .before .args .line)) (l .before .before .before .before .before .before .before .before .before .before .before .before .before .before .args .n)
 
 abbrev Seen : At → View
 Seen l = let a = l .before .before .before .before .before .before .before .before .before .before .before .before .before .before .args in view-of (now (a .classes)) (now (a .slots)) (now (a .room)) (a .count)
@@ -53,7 +53,7 @@ returns c =
     let k = c .before .before .before .before .before .before .before .before .before .before .before in
     let a = k .args in
     let g = k .pre .0 .read .text .long in (
-      did (sym (past (lexicon-of (now (a .rules)) (now (a .classes)) (now (a .code))) (text-of (now (a .line)) (a .n))
+      did (sym (past (lexicon-of (now (a .rules)) (now (a .classes)) (now (a .code))) (text-in (now (a .line)) (a .n))
           (view-of (now (a .classes)) (now (a .slots)) (now (a .room)) (a .count)) (a .s) (a .e) (now (a .starts)) (k .pre .1) (omega (arith, g)))),
       tt,
     )
@@ -87,7 +87,7 @@ loop-holds c =
     let z = g .long in
     let h = k .pre .1 in
     let f = found-at (now (a .rules)) _ (k .pre .0 .read .table .accepted) _ _ (c .find-rows .ensures .0) (c .find-rows .ensures .1) in (
-      begun (lexicon-of (now (a .rules)) (now (a .classes)) (now (a .code))) (text-of (now (a .line)) (a .n))
+      begun (lexicon-of (now (a .rules)) (now (a .classes)) (now (a .code))) (text-in (now (a .line)) (a .n))
           (view-of (now (a .classes)) (now (a .slots)) (now (a .room)) (a .count)) (a .s) (a .e) (now (a .starts)) (omega (arith, h)) (omega (arith, z)) _
           (part-at g (a .s) (a .e) (a .s + 1) (a .e + 1 - (a .s + 1)) (omega (arith, h)) (omega arith) (omega arith) (omega arith)) _ (f .0),
       f .1,

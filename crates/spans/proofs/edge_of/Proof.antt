@@ -8,7 +8,7 @@ use Rattle.definition.specs.Call.{tables-of}
 use Rattle.rom.specs.Rom.{text, len-by, text-by, clean-by}
 use Rattle.steps.specs.Works.{work-of}
 use Rattle.words.specs.Did.{did-by}
-use Rattle.words.specs.Given.{text-of, view-of}
+use Rattle.words.specs.Given.{text-in, view-of}
 use Rattle.spans.specs.Ways.{edge-done}
 use borrow.Author.Needs.{needs}
 use Rattle.spans.proofs.edge_of.Statement.{statement}
@@ -47,7 +47,7 @@ returns c =
     let a = s .args in
     let p = s .pre in
     let D = tables-of (now (a .rules)) (now (a .classes)) (now (a .vowels)) (now (a .code)) in
-    let t = text-of (now (a .line)) (a .n) in
+    let t = text-in (now (a .line)) (a .n) in
     let v = view-of (now (a .classes)) (now (a .slots)) (now (a .room)) (a .count) in
     let m = now (a .starts) in
     let w = now (a .w) in

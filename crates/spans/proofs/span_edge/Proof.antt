@@ -8,7 +8,7 @@ use Rattle.definition.specs.Call.{tables-of}
 use Rattle.definition.specs.Promises.{tables-bounded}
 use Rattle.rom.specs.Rom.{clean-by}
 use Rattle.words.specs.Did.{did-by}
-use Rattle.words.specs.Given.{text-of, view-of}
+use Rattle.words.specs.Given.{text-in, view-of}
 use Rattle.rules.specs.Chosen.{said}
 use Rattle.spans.specs.Spans.{found}
 use Rattle.spans.specs.Ways.{found-there, span-untold, span-told, few-bytes}
@@ -39,7 +39,7 @@ edge-of-requires c κs =
     let a = s .args in
     let p = s .pre in
     let D = tables-of (now (a .rules)) (now (a .classes)) (now (a .vowels)) (now (a .code)) in
-    let t = text-of (now (a .line)) (a .n) in
+    let t = text-in (now (a .line)) (a .n) in
     let v = view-of (now (a .classes)) (now (a .slots)) (now (a .room)) (a .count) in
     let m = now (a .starts) in
     let R = now (a .rules) in
@@ -58,7 +58,7 @@ unfolding tables-of
 returns c =
     let a = c .before .before .before .before .before .before .before .before .before .before .before .before .before .before .before .before .before .before .before .before .before .before .before .before .args in
     let D = tables-of (now (a .rules)) (now (a .classes)) (now (a .vowels)) (now (a .code)) in
-    let t = text-of (now (a .line)) (a .n) in
+    let t = text-in (now (a .line)) (a .n) in
     let v = view-of (now (a .classes)) (now (a .slots)) (now (a .room)) (a .count) in
     let m = now (a .starts) in
     let R = now (a .rules) in
@@ -82,7 +82,7 @@ unfolding tables-of found pick
 returns-2 c =
     let a = c .before .before .before .before .before .before .before .before .before .before .before .before .before .before .before .before .before .before .args in
     let D = tables-of (now (a .rules)) (now (a .classes)) (now (a .vowels)) (now (a .code)) in
-    let t = text-of (now (a .line)) (a .n) in
+    let t = text-in (now (a .line)) (a .n) in
     let v = view-of (now (a .classes)) (now (a .slots)) (now (a .room)) (a .count) in
     let m = now (a .starts) in
     let R = now (a .rules) in

@@ -4,7 +4,7 @@ use native.Mathlib.Omega.{arith}
 use denote.Ref.{now}
 use Rattle.definition.specs.RuleRows.{rules-of}
 use Rattle.definition.specs.ClassRows.{classes-of}
-use Rattle.words.specs.Given.{text-of}
+use Rattle.words.specs.Given.{text-in}
 use Rattle.steps.specs.Works.{work-of}
 use Rattle.words.specs.Characters.{flag-prev}
 use Rattle.steps.proofs.Tries.{not-done, tries-as, blank-pre, not-framed, unflagged-frame, by-three, by-two, by-one}
@@ -16,7 +16,7 @@ returns : tie.Need-returns
 returns c =
     let s = c .before .before .before .before .before in
     let a = s .args in
-    let t = text-of (now (a .line)) (a .n) in
+    let t = text-in (now (a .line)) (a .n) in
     let R = rules-of (now (a .rules)) in (
       (λ classes g.
           let f = unflagged-frame _ (work-of (a .w)) (blank-pre classes (g .fine) t (a .w .from) (omega arith)) in
@@ -38,7 +38,7 @@ returns-2 : tie.Need-returns-2
 returns-2 c =
     let s = c .before .before .before .before .before .before .before .before .before .before in
     let a = s .args in
-    let t = text-of (now (a .line)) (a .n) in
+    let t = text-in (now (a .line)) (a .n) in
     let K = c .before .before .before .before .number-at .ensures in
     let T = c .before .before .before .is-framed .ensures in
     let I = c .before .before .if2 .taken in
@@ -59,7 +59,7 @@ returns-3 : tie.Need-returns-3
 returns-3 c =
     let s = c .before .before .before .before .before .before .before .before .before .before .before .before in
     let a = s .args in
-    let t = text-of (now (a .line)) (a .n) in
+    let t = text-in (now (a .line)) (a .n) in
     let K = c .before .before .before .before .before .before .number-at .ensures in
     let T = c .before .before .before .before .before .is-framed .ensures in
     let I = c .before .before .before .before .if2 .taken in
@@ -83,7 +83,7 @@ returns-4 : tie.Need-returns-4
 returns-4 c =
     let s = c .before .before .before .before .before .before .before .before .before .before .before .before .before in
     let a = s .args in
-    let t = text-of (now (a .line)) (a .n) in
+    let t = text-in (now (a .line)) (a .n) in
     let K = c .before .before .before .before .before .before .before .number-at .ensures in
     let T = c .before .before .before .before .before .before .is-framed .ensures in
     let I = c .before .before .before .before .before .if2 .taken in
@@ -106,7 +106,7 @@ returns-5 : tie.Need-returns-5
 returns-5 c =
     let s = c .before .before .before .before .before .before .before .before in
     let a = s .args in
-    let t = text-of (now (a .line)) (a .n) in
+    let t = text-in (now (a .line)) (a .n) in
     let K = c .before .before .number-at .ensures in
     let T = c .before .is-framed .ensures in
     let R = rules-of (now (a .rules)) in (

@@ -8,7 +8,7 @@ use Rattle.definition.specs.RuleRows.{rules-of}
 use Rattle.definition.specs.ClassRows.{classes-of}
 use Rattle.definition.specs.Rules.{first-rule}
 use Rattle.rom.specs.Rom.{text}
-use Rattle.words.specs.Given.{text-of, char-before}
+use Rattle.words.specs.Given.{text-in, char-before}
 use Rattle.rules.specs.Chosen.{said}
 use Rattle.steps.specs.Works.{work-of}
 use Rattle.words.specs.Characters.{script-prev, flag-prev}
@@ -21,7 +21,7 @@ returns : tie.Need-returns
 returns c =
     let s = c .before .before .before .before .before in
     let a = s .args in
-    let t = text-of (now (a .line)) (a .n) in
+    let t = text-in (now (a .line)) (a .n) in
     let R = rules-of (now (a .rules)) in (
       (λ classes g.
           let f = unflagged-before _ _ (text (a .w .rom)) (blank-pre classes (g .fine) t (a .w .from) (omega arith)) in
@@ -52,7 +52,7 @@ returns-2 : tie.Need-returns-2
 returns-2 c =
     let s = c .before .before .before .before .before .before .before .before .before .before .before .before .before .before in
     let a = s .args in
-    let t = text-of (now (a .line)) (a .n) in
+    let t = text-in (now (a .line)) (a .n) in
     let K = c .before .before .before .before .before .before .before .number-at .ensures in
     let T = c .before .before .before .before .before .before .is-before .ensures in
     let I = c .before .before .before .before .before .if2 .taken in
@@ -74,7 +74,7 @@ returns-3 : tie.Need-returns-3
 returns-3 c =
     let s = c .before .before .before .before .before .before .before .before .before in
     let a = s .args in
-    let t = text-of (now (a .line)) (a .n) in
+    let t = text-in (now (a .line)) (a .n) in
     let K = c .before .before .number-at .ensures in
     let T = c .before .is-before .ensures in
     let R = rules-of (now (a .rules)) in (

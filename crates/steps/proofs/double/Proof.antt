@@ -6,7 +6,7 @@ use denote.Ref.{now}
 use Rattle.definition.specs.ClassRows.{classes-of}
 use Rattle.definition.specs.Expansion.{small-tsu, doubled}
 use Rattle.rom.specs.Rom.{text}
-use Rattle.words.specs.Given.{text-of, char-before}
+use Rattle.words.specs.Given.{text-in, char-before}
 use Rattle.steps.specs.Works.{work-of}
 use Rattle.words.specs.Characters.{script-prev, script-here}
 use Rattle.steps.proofs.Outcomes.{at-front, no-tsu, other-script, no-letter, a-letter}
@@ -18,7 +18,7 @@ returns : tie.Need-returns
 returns c =
     let s = c .before .before .before in
     let a = s .args in
-    let t = text-of (now (a .line)) (a .n) in
+    let t = text-in (now (a .line)) (a .n) in
     ((λ classes g. at-front (classes-of classes) t (a .o) (work-of (a .w)) (omega arith)), s .pre .0, omega arith)
 
 number-at-requires : tie.Need-number-at-requires
@@ -49,7 +49,7 @@ returns-2 : tie.Need-returns-2
 returns-2 c =
     let s = c .before .before .before .before .before .before .before .before .before .before .before .before .before .before in
     let a = s .args in
-    let t = text-of (now (a .line)) (a .n) in
+    let t = text-in (now (a .line)) (a .n) in
     let C = c .before .before .before .before .before .before .before .before .before .before .number-at .ensures in
     let T = c .before .before .before .before .before .before .before .before .before .is-small-tsu .ensures in
     let I = c .before .before .before .before .before .before .before .before .if2 .taken in
@@ -76,7 +76,7 @@ returns-3 : tie.Need-returns-3
 returns-3 c =
     let s = c .before .before .before .before .before .before .before .before .before .before .before .before .before .before .before in
     let a = s .args in
-    let t = text-of (now (a .line)) (a .n) in
+    let t = text-in (now (a .line)) (a .n) in
     let C = c .before .before .before .before .before .before .before .before .before .before .before .number-at .ensures in
     let T = c .before .before .before .before .before .before .before .before .before .before .is-small-tsu .ensures in
     let I = c .before .before .before .before .before .before .before .before .before .if2 .taken in
@@ -100,7 +100,7 @@ returns-4 : tie.Need-returns-4
 returns-4 c =
     let s = c .before .before .before .before .before .before .before .before .before .before .before in
     let a = s .args in
-    let t = text-of (now (a .line)) (a .n) in
+    let t = text-in (now (a .line)) (a .n) in
     let C = c .before .before .before .before .before .before .before .number-at .ensures in
     let T = c .before .before .before .before .before .before .is-small-tsu .ensures in
     let I = c .before .before .before .before .before .if2 .taken in
@@ -122,7 +122,7 @@ returns-5 : tie.Need-returns-5
 returns-5 c =
     let s = c .before .before .before .before .before .before in
     let a = s .args in
-    let t = text-of (now (a .line)) (a .n) in
+    let t = text-in (now (a .line)) (a .n) in
     let C = c .before .before .number-at .ensures in
     let T = c .before .is-small-tsu .ensures in (
       (λ classes g.

@@ -5,7 +5,7 @@ use native.Mathlib.Omega.{arith}
 use denote.Ref.{now}
 use Rattle.definition.specs.ClassRows.{classes-of}
 use Rattle.rom.specs.Rom.{text}
-use Rattle.words.specs.Given.{text-of, char-at}
+use Rattle.words.specs.Given.{text-in, char-at}
 use Rattle.steps.specs.Works.{work-of}
 use Rattle.steps.proofs.Letters.{long-vowel}
 use Rattle.words.specs.Characters.{script-prev, flag-here}
@@ -39,7 +39,7 @@ returns : tie.Need-returns
 returns c =
     let s = c .before .before .before .before .before .before .before .before .before in
     let a = s .args in
-    let t = text-of (now (a .line)) (a .n) in
+    let t = text-in (now (a .line)) (a .n) in
     let K = c .before .before .before .before .before .number-at .ensures in
     let S = c .before .before .before .before .script .ensures in
     let C = c .before .before .before .number-at2 .ensures in
@@ -65,7 +65,7 @@ returns-2 : tie.Need-returns-2
 returns-2 c =
     let s = c .before .before .before .before .before .before .before .before .before .before .before in
     let a = s .args in
-    let t = text-of (now (a .line)) (a .n) in
+    let t = text-in (now (a .line)) (a .n) in
     let K = c .before .before .before .before .before .before .before .number-at .ensures in
     let S = c .before .before .before .before .before .before .script .ensures in
     let C = c .before .before .before .before .before .number-at2 .ensures in
@@ -92,7 +92,7 @@ returns-3 : tie.Need-returns-3
 returns-3 c =
     let s = c .before .before .before .before .before .before .before .before .before .before .before .before in
     let a = s .args in
-    let t = text-of (now (a .line)) (a .n) in
+    let t = text-in (now (a .line)) (a .n) in
     let K = c .before .before .before .before .before .before .before .before .number-at .ensures in
     let S = c .before .before .before .before .before .before .before .script .ensures in
     let C = c .before .before .before .before .before .before .number-at2 .ensures in

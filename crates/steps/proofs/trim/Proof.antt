@@ -2,7 +2,7 @@
 use native.Mathlib.Omega.{arith}
 use mathlib.Core.Path.{_∙_}
 use denote.Ref.{now}
-use Rattle.words.specs.Given.{text-of, char-before}
+use Rattle.words.specs.Given.{text-in, char-before}
 use Rattle.steps.proofs.Outcomes.{front-clean, trimmed-clean, trimmed-short, trimmed}
 use borrow.Author.Needs.{needs}
 use Rattle.steps.proofs.trim.Statement.{statement}
@@ -27,7 +27,7 @@ returns c =
     let a = s .args in
     let p = c .before .before .trim-front .ensures in
     let q = c .trim-back .ensures in (
-      (λ classes kinds g. trimmed (s .pre .0) _ p _ q (text-of (now (a .line)) (a .n)) (a .w .from) (a .w .to) (a .w .note)
+      (λ classes kinds g. trimmed (s .pre .0) _ p _ q (text-in (now (a .line)) (a .n)) (a .w .from) (a .w .to) (a .w .note)
           (c .before .before .before .number-at .ensures ∙ char-before g (a .w .from) (omega (arith, s .pre))) (c .before .is-space-at .ensures classes kinds g)),
       trimmed-clean (s .pre .0) _ p _ q,
       trimmed-short (s .pre .0) _ p _ q,

@@ -2,11 +2,11 @@
 use mathlib.Core.Path.{sym, ap, _∙_, subst}
 use lib.ListN.{drop}
 use Rattle.base.specs.Pick.{pick}
-use Rattle.definition.specs.RuleRows.{rule-of, text-where, text-of as row-text, end-target-at}
+use Rattle.definition.specs.RuleRows.{rule-of, text-where, text-of, end-target-at}
 use Rattle.words.specs.Did.{did-by}
 use Rattle.rules.specs.Chosen.{chosen, Rowed}
 use denote.Ref.{now}
-use Rattle.words.specs.Given.{text-of, view-of}
+use Rattle.words.specs.Given.{text-in, view-of}
 use Rattle.rules.specs.Lent.{lexicon-of}
 use Rattle.syllables.specs.Tests.{no-rule, no-end-target, at-end, inside}
 use borrow.Author.Needs.{needs}
@@ -29,7 +29,7 @@ returns : tie.Need-returns
 returns c =
     let a = c .before .before .before .before .before .before .before .before .before .before .before .before .before .before .before .before .args in
     let L = lexicon-of (now (a .rules)) (now (a .classes)) (now (a .code)) in
-    let t = text-of (now (a .line)) (a .n) in
+    let t = text-in (now (a .line)) (a .n) in
     let v = view-of (now (a .classes)) (now (a .slots)) (now (a .room)) (a .count) in
     let m = now (a .starts) in
     (no-rule L t v (a .s) (a .e) m (did-by (sym (ap (chosen (now (a .rules))) (c .enum-told .given .1))) (c .before .before .before .before .top-rule .ensures .0)), tt)
@@ -48,7 +48,7 @@ unfolding rule-of text-where pick
 returns-2 c =
     let a = c .before .before .before .before .before .before .before .before .before .before .before .before .before .before .before .before .before .before .before .before .before .before .before .before .args in
     let L = lexicon-of (now (a .rules)) (now (a .classes)) (now (a .code)) in
-    let t = text-of (now (a .line)) (a .n) in
+    let t = text-in (now (a .line)) (a .n) in
     let v = view-of (now (a .classes)) (now (a .slots)) (now (a .room)) (a .count) in
     let m = now (a .starts) in
     let R = now (a .rules) in
@@ -60,7 +60,7 @@ returns-2 c =
     let there = subst (Rowed R) (b .1) (T .ensures .1) in
     let d = did-by (sym (ap (chosen R) (b .1))) (T .ensures .0) in
     let ended = ap (λ x. text-where x (drop (end-target-at s) s)) flag in
-    (at-end L t v (a .s) (a .e) m (rule-of s) d (row-text (drop (end-target-at s) s)) ended (did-by (sym (c .if2 .taken)) (c .before .before .before .is-at-end-of-syllable .ensures)), (there, flag))
+    (at-end L t v (a .s) (a .e) m (rule-of s) d (text-of (drop (end-target-at s) s)) ended (did-by (sym (c .if2 .taken)) (c .before .before .before .is-at-end-of-syllable .ensures)), (there, flag))
 
 target-of-requires : tie.Need-target-of-requires
 target-of-requires c κs = let T = c .before .before .before .before .before .before .before .before .before .before .before .before .top-rule in subst (Rowed (now (c .before .before .before .before .before .before .before .before .before .before .before .before .before .before .before .before .before .before .before .before .before .before .before .before .args .rules))) (c .before .before .before .before .before .before .before .before .best .given .1) (T .ensures .1)
@@ -73,7 +73,7 @@ unfolding rule-of text-where pick
 returns-3 c =
     let a = c .before .before .before .before .before .before .before .before .before .before .before .before .before .before .before .before .before .before .before .before .before .before .before .before .before .args in
     let L = lexicon-of (now (a .rules)) (now (a .classes)) (now (a .code)) in
-    let t = text-of (now (a .line)) (a .n) in
+    let t = text-in (now (a .line)) (a .n) in
     let v = view-of (now (a .classes)) (now (a .slots)) (now (a .room)) (a .count) in
     let m = now (a .starts) in
     let R = now (a .rules) in
@@ -85,7 +85,7 @@ returns-3 c =
     let there = subst (Rowed R) (b .1) (T .ensures .1) in
     let d = did-by (sym (ap (chosen R) (b .1))) (T .ensures .0) in
     let ended = ap (λ x. text-where x (drop (end-target-at s) s)) flag in
-    (did-by (c .target-of .ensures .0) (inside L t v (a .s) (a .e) m (rule-of s) d (row-text (drop (end-target-at s) s)) ended (did-by (sym (c .before .if2 .left)) (c .before .before .before .before .is-at-end-of-syllable .ensures))), c .target-of .ensures .1)
+    (did-by (c .target-of .ensures .0) (inside L t v (a .s) (a .e) m (rule-of s) d (text-of (drop (end-target-at s) s)) ended (did-by (sym (c .before .if2 .left)) (c .before .before .before .before .is-at-end-of-syllable .ensures))), c .target-of .ensures .1)
 
 target-of-requires-2 : tie.Need-target-of-requires-2
 target-of-requires-2 c κs = let T = c .before .before .before .before .before .before .before .top-rule in subst (Rowed (now (c .before .before .before .before .before .before .before .before .before .before .before .before .before .before .before .before .before .before .before .args .rules))) (c .before .before .before .best .given .1) (T .ensures .1)
@@ -98,7 +98,7 @@ unfolding rule-of text-where pick
 returns-4 c =
     let a = c .before .before .before .before .before .before .before .before .before .before .before .before .before .before .before .before .before .before .before .before .args in
     let L = lexicon-of (now (a .rules)) (now (a .classes)) (now (a .code)) in
-    let t = text-of (now (a .line)) (a .n) in
+    let t = text-in (now (a .line)) (a .n) in
     let v = view-of (now (a .classes)) (now (a .slots)) (now (a .room)) (a .count) in
     let m = now (a .starts) in
     let R = now (a .rules) in

@@ -1,7 +1,7 @@
 -- `syllables::vowel_test`
 use mathlib.Core.Path.{sym, _∙_}
 use denote.Ref.{now}
-use Rattle.words.specs.Given.{text-of, view-of}
+use Rattle.words.specs.Given.{text-in, view-of}
 use Rattle.rules.specs.Lent.{lexicon-of}
 use Rattle.syllables.specs.Tests.{no-vowel, a-vowel}
 use borrow.Author.Needs.{needs}
@@ -24,7 +24,7 @@ returns : tie.Need-returns
 returns c =
     let a = c .before .before .before .before .before .before .before .before .before .before .before .before .before .before .before .before .before .before .before .before .args in
     let L = lexicon-of (now (a .rules)) (now (a .classes)) (now (a .code)) in
-    let t = text-of (now (a .line)) (a .n) in
+    let t = text-in (now (a .line)) (a .n) in
     let v = view-of (now (a .classes)) (now (a .slots)) (now (a .room)) (a .count) in
     let m = now (a .starts) in
     a-vowel L t v (a .q) m (c .before .before .before .before .before .before .before .before .next-rom .ensures .0) (sym (c .before .before .before .before .before .opens .ensures) ∙ c .before .before .before .before .if1 .taken) (c .before .before .o-ang-test .ensures)
@@ -36,7 +36,7 @@ returns-2 : tie.Need-returns-2
 returns-2 c =
     let a = c .before .before .before .before .before .before .before .before .before .before .before .before .before .before .before .before .args in
     let L = lexicon-of (now (a .rules)) (now (a .classes)) (now (a .code)) in
-    let t = text-of (now (a .line)) (a .n) in
+    let t = text-in (now (a .line)) (a .n) in
     let v = view-of (now (a .classes)) (now (a .slots)) (now (a .room)) (a .count) in
     let m = now (a .starts) in
     no-vowel L t v (a .q) m (c .before .before .before .before .next-rom .ensures .0) (sym (c .before .opens .ensures) ∙ c .if1 .left)

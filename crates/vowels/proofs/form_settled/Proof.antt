@@ -3,7 +3,7 @@ use mathlib.Core.Path.{refl, sym, ap, _∙_}
 use native.Mathlib.Omega.{arith}
 use denote.Ref.{now}
 use Rattle.definition.specs.Vowels.{keeps-end}
-use Rattle.words.specs.Given.{text-of, line-length}
+use Rattle.words.specs.Given.{text-in, line-length}
 use Rattle.rules.specs.Lent.{lexicon-of}
 use Rattle.vowels.specs.Ways.{in-word, end-kept, end-voiced}
 use Rattle.words.specs.Characters.{script-here}
@@ -28,7 +28,7 @@ returns c =
     let p = c .before .before .before .before .before .before .before .before .before .before .before .before .pre in
     let a = c .before .before .before .before .before .before .before .before .before .before .before .before .args in
     let L = lexicon-of (now (a .rules)) (now (a .classes)) (now (a .code)) in
-    let t = text-of (now (a .line)) (a .n) in
+    let t = text-in (now (a .line)) (a .n) in
     let g = p .0 .text in
     let x = script-here g (a .s) (omega (arith, p .1, p .2)) refl (c .before .before .script-at .ensures) in
     end-kept L t (a .s) (a .e) (sym (c .before .before .before .before .is-at-end-of-word .ensures (now (a .classes)) (p .0 .letters .is) g) ∙ c .before .before .before .if1 .taken)
@@ -39,7 +39,7 @@ returns-2 c =
     let p = c .before .before .before .before .before .before .before .before .before .before .before .before .pre in
     let a = c .before .before .before .before .before .before .before .before .before .before .before .before .args in
     let L = lexicon-of (now (a .rules)) (now (a .classes)) (now (a .code)) in
-    let t = text-of (now (a .line)) (a .n) in
+    let t = text-in (now (a .line)) (a .n) in
     let g = p .0 .text in
     let x = script-here g (a .s) (omega (arith, p .1, p .2)) refl (c .before .before .script-at .ensures) in
     end-voiced L t (a .s) (a .e) (sym (c .before .before .before .before .is-at-end-of-word .ensures (now (a .classes)) (p .0 .letters .is) g) ∙ c .before .before .before .if1 .taken)
@@ -53,7 +53,7 @@ returns-3 c =
     let p = c .before .before .before .before .before .before .before .before .before .before .pre in
     let a = c .before .before .before .before .before .before .before .before .before .before .args in
     let L = lexicon-of (now (a .rules)) (now (a .classes)) (now (a .code)) in
-    let t = text-of (now (a .line)) (a .n) in
+    let t = text-in (now (a .line)) (a .n) in
     let g = p .0 .text in
     c .form-inside .ensures (now (a .classes)) (now (a .line)) (a .n) g (omega (arith, p .1, p .2)) (p .2)
     ∙ in-word L t (a .s) (a .e) (sym (c .before .before .is-at-end-of-word .ensures (now (a .classes)) (p .0 .letters .is) g) ∙ c .before .if1 .left)

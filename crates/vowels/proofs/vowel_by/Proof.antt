@@ -11,7 +11,7 @@ use Rattle.definition.specs.Building.{grown}
 use Rattle.rom.specs.Rom.{text, text-length, bytes-length, len-by, text-by, clean-by}
 use Rattle.ends.specs.Shown.{Within, shown, chosen}
 use Rattle.ends.specs.Grew.{grown-as, chosen-length}
-use Rattle.words.specs.Given.{text-of, view-of}
+use Rattle.words.specs.Given.{text-in, view-of}
 use Rattle.rules.specs.Lent.{lexicon-of}
 use Rattle.vowels.specs.Ways.{by-forms}
 use borrow.Author.Needs.{needs}
@@ -53,7 +53,7 @@ returns c =
     let p = c .before .before .before .before .before .before .before .before .before .before .before .before .before .before .before .before .before .before .before .before .before .pre in
     let a = c .before .before .before .before .before .before .before .before .before .before .before .before .before .before .before .before .before .before .before .before .before .args in
     let L = lexicon-of (now (a .rules)) (now (a .classes)) (now (a .code)) in
-    let t = text-of (now (a .line)) (a .n) in
+    let t = text-in (now (a .line)) (a .n) in
     let v = view-of (now (a .classes)) (now (a .slots)) (now (a .room)) (a .count) in
     let m = now (a .starts) in
     let r = text (a .r) in

@@ -14,7 +14,7 @@ use Rattle.definition.specs.Classes.{alpha}
 use Rattle.definition.specs.Boundaries.{goes-on}
 use Rattle.definition.specs.Ranges.{rules-sourced}
 use Rattle.classes.specs.Told.{alphas-of}
-use Rattle.words.specs.Given.{alpha-at, text-of, Lined}
+use Rattle.words.specs.Given.{alpha-at, text-in, Lined}
 use Rattle.words.specs.Goes.{goes-start, goes-from}
 use Rattle.words.proofs.Ends.{by-both, ends-over, ends-here, ends-turn}
 use borrow.Author.Needs.{needs}
@@ -24,7 +24,7 @@ use Rattle.words.proofs.is_at_end_of_word.Tie as tie
 abbrev Inv-loop : tie.InvT-loop
 Inv-loop rules index alphas line kinds n p e₀ e =
     ((classes : List ℕ) → alphas ≡ alphas-of classes → Lined classes line kinds n
-    → goes-from (classes-of classes) (text-of line n) p (rules-of rules) e ≡ any (goes-on (classes-of classes) (text-of line n) p) (rules-of rules))
+    → goes-from (classes-of classes) (text-in line n) p (rules-of rules) e ≡ any (goes-on (classes-of classes) (text-in line n) p) (rules-of rules))
     × (p < e)
 
 abbrev μ-loop : tie.MeasureT-loop
@@ -34,7 +34,7 @@ abbrev R : tie.At-loop Inv-loop μ-loop → List Rule
 R l = rules-of (now (l .before .before .before .before .before .before .before .before .args .rules))
 
 abbrev T : tie.At-loop Inv-loop μ-loop → Text
-T l = text-of (now (l .before .before .before .before .before .before .before .before .args .line)) (l .before .before .before .before .before .before .before .before .args .n)
+T l = text-in (now (l .before .before .before .before .before .before .before .before .args .line)) (l .before .before .before .before .before .before .before .before .args .n)
 
 abbrev P : tie.At-loop Inv-loop μ-loop → ℕ
 P l = l .before .before .before .before .before .before .before .before .args .p
@@ -56,7 +56,7 @@ is-alpha-at-requires c κs = search needs
 returns : tie.Need-returns Inv-loop μ-loop
 returns c =
     let a = c .before .before .before .before .before .before .before .args in
-    λ classes e g. by-both (rules-of (now (a .rules))) (classes-of classes) (text-of (now (a .line)) (a .n)) (a .p) true _
+    λ classes e g. by-both (rules-of (now (a .rules))) (classes-of classes) (text-in (now (a .line)) (a .n)) (a .p) true _
     (sym (alpha-at g (a .p) (omega arith)) ∙ sym (c .before .is-alpha-at .ensures) ∙ c .if1 .taken) refl
 
 add-e : tie.Need-add-e Inv-loop μ-loop
@@ -65,7 +65,7 @@ add-e c = search needs
 loop-holds : tie.Need-loop-holds Inv-loop μ-loop
 loop-holds c =
     let s = c .before .before .before .before .before .before .before in
-    let t = text-of (now (s .args .line)) (s .args .n) in (
+    let t = text-in (now (s .args .line)) (s .args .n) in (
       λ classes e g. goes-start (classes-of classes) t (s .args .p) (rules-of (now (s .args .rules))) (rules-sourced (now (s .args .rules)) (s .pre .0 .accepted)),
       omega arith,
     )
