@@ -26,6 +26,24 @@ enum jettyfig_mode {
  * row (2 bytes), start, end (2 each, in characters of the text), annotation, core length (1 each), and the edge's text in
  * UTF-8. All numbers are big-endian. */
 
+/* What an edge is, in a listing. The core length is 0 except under JETTYFIG_CORE, where the core is the text's first bytes and
+ * an inherent vowel follows it. */
+enum jettyfig_annotation {
+    JETTYFIG_ROM = 1,       /* a rule's text */
+    JETTYFIG_CORE = 2,      /* a rule's text and an inherent vowel */
+    JETTYFIG_TAIL = 3,      /* a tail: part of the syllable before */
+    JETTYFIG_EXPANDED = 4,  /* a text that special characters have changed */
+    JETTYFIG_DELETED = 5,   /* a silent character */
+    JETTYFIG_SINGLE = 6,    /* a fallback: the rule's text of a single character */
+    JETTYFIG_MN = 7,        /* a fallback with no text: a nonspacing mark, */
+    JETTYFIG_CF = 8,        /* a format character, */
+    JETTYFIG_CO = 9,        /* a private one */
+    JETTYFIG_ZS = 10,       /* a fallback: a space */
+    JETTYFIG_ORIG = 11,     /* a fallback: the character itself */
+    JETTYFIG_ALT = 12,      /* an alternative: one of a rule, with the edge's vowel where it has one; 13 does not occur */
+    JETTYFIG_ALT3 = 14      /* an alternative: a rule's target where its end-of-syllable target was taken */
+};
+
 /* The refusals, in the order in which they are looked for, with what `place` says. */
 enum jettyfig_number {
     JETTYFIG_DONE = 0,
