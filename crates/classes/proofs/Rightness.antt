@@ -1,43 +1,17 @@
--- The cases of the tests of a header and of a class row.
-use Prim.Native.Nat.{ℕ, _+_, _≤_, _<_}
+-- The cases of the tests of a class row.
+use Prim.Native.Nat.{ℕ, _≤_, _<_}
 use mathlib.Core.Bool.{true, false, and-false, and-true}
 use mathlib.Core.List.{List}
-use mathlib.Core.Path.{_≡_, sym, _∙_}
+use mathlib.Core.Path.{_≡_, sym}
 use native.Mathlib.Omega.{arith}
 use lib.Dec.{eqb}
-use lib.ListN.{length, getD}
+use lib.ListN.{length}
 use borrow.Author.Tests.{le-leb, lt-leb, le-ltb, lt-ltb, eq-eqb, ne-eqb}
-use Rattle.base.specs.Big.{be4}
-use Rattle.base.specs.Lists.{holds}
-use Rattle.base.specs.ListLaws.{holds-is}
 use Rattle.definition.specs.Texts.{latin}
 use Rattle.definition.specs.Utf8.{scalar}
-use Rattle.definition.specs.Blocks.{headed}
+use Rattle.blocks.specs.Held.{held, short}
 use Rattle.definition.specs.ClassRows.{class-char, class-category, class-script, class-flags, class-fits, space-right, latin-right, class-right}
 
--- enough bytes are left, or not
-pub held : (n : ℕ) (s : List ℕ) → n ≤ length s → holds n s ≡ true
-held n s h = holds-is n s ∙ le-leb n (length s) h
-
-pub short : (n : ℕ) (s : List ℕ) → length s < n → holds n s ≡ false
-short n s h = holds-is n s ∙ lt-leb n (length s) h
-
--- A header
-module _ (b : List ℕ) where
-  pub head-short : length b < 5 → false ≡ headed b
-  unfolding headed
-  head-short h = simp (short 5 b h)
-
-  module _ (l : 5 ≤ length b) where
-    pub head-other : (getD b 0 0 ≡ 1 → ⊥) → false ≡ headed b
-    unfolding headed
-    head-other h = simp (ne-eqb (getD b 0 0) 1 h, and-false)
-
-    pub head-filled : getD b 0 0 ≡ 1 → (n m : ℕ) → n ≡ 5 + be4 b 1 → m ≡ length b → eqb n m ≡ headed b
-    unfolding headed
-    head-filled h n m e f = simp (e, f, held 5 b l, eq-eqb (getD b 0 0) 1 h)
-
--- A class row
 module _ (s : List ℕ) (low : ℕ) where
   pub fits-short : length s < 6 → false ≡ class-fits low s
   unfolding class-fits

@@ -1,32 +1,18 @@
 -- What the answers of this crate's functions say, in the definition's terms.
 use Prim.Native.Nat.{ℕ, zero, suc, _+_, _-_, _*_, _≤_, _<_}
 use mathlib.Core.List.{List, [], _∷_, map}
-use mathlib.Core.Option.{Option, none, some}
+use mathlib.Core.Option.{none}
 use mathlib.Core.Path.{_≡_}
-use lib.ListN.{length, take, drop}
 use Rattle.base.specs.Bits.{bit}
-use Rattle.definition.specs.Tables.{Class, Vowel}
+use Rattle.definition.specs.Tables.{Class}
 use Rattle.definition.specs.ClassRows.{class-by, class-fault, classes-of}
-use Rattle.definition.specs.VowelRows.{vowel-fault}
 use Rattle.definition.specs.Classes.{plain, class, alpha}
-use Rattle.classes.specs.declared.TableRead.{TableRead}
-use Rattle.classes.specs.declared.TableRead.the-variants.{Valid, Fault}
 use Rattle.classes.specs.declared.ClassOf.{ClassOf}
 use Rattle.classes.specs.declared.ClassOf.the-variants.{Row, Absent}
-use Rattle.classes.specs.declared.VowelOf.{VowelOf}
-use Rattle.classes.specs.declared.VowelOf.the-variants.{Row as Sounding, Absent as Silent}
 
--- a table's first fault
-unfoldable pub fault-place : TableRead → Option ℕ
-fault-place Valid = none
-fault-place (Fault p) = some p
-
--- A class table, and a vowel table, that were checked
+-- A class table that was checked
 abbrev pub Fine : List ℕ → Type 0
 Fine b = class-fault b ≡ none
-
-abbrev pub FineVowels : List ℕ → Type 0
-FineVowels b = vowel-fault b ≡ none
 
 -- a character's class by its row, or the default
 unfoldable pub seen : ℕ → ClassOf → Class
@@ -64,13 +50,3 @@ alphas-of b = map (λ c. bit (alpha (classes-of b) c)) (from 0 128)
 pub record Alphas (b x : List ℕ) : Type 0 where
   pub fine : Fine b
   pub is : x ≡ alphas-of b
-
--- a script's vowel by its row in the table
-unfoldable pub told : List ℕ → ℕ → VowelOf → Option Vowel
-told b k (Sounding r) = some (record { script = k; ao = r .ao; letters = take (r .to - r .from) (drop (r .from) b) })
-told b k Silent = none
-
--- its letters stand in the table, four at most
-unfoldable pub Lettered : List ℕ → VowelOf → Type 0
-Lettered b (Sounding r) = (r .from ≤ r .to) × (r .to ≤ r .from + 4) × (r .to ≤ length b)
-Lettered b Silent = Unit {0}

@@ -1,20 +1,14 @@
-// The class table and the vowel table (dicts/model.rs, dicts/mod.rs): their checks, and what they say of a character.
+// The class table (dicts/model.rs, dicts/mod.rs): its check, and what it says of a character.
 ghost use mathlib.Core.Path.{_≡_};
-ghost use Prim.Native.Nat.{_+_, _-_, _*_, _/_, _%_, _≤_, _<_};
+ghost use Prim.Native.Nat.{_+_, _*_, _/_, _%_, _≤_, _<_};
 ghost use lib.ListN.{length, take, drop, getD};
-ghost use Rattle.base.specs.Lists.{all};
 ghost use Rattle.base.specs.Bits.{bit, flagged};
-ghost use Rattle.definition.specs.Texts.{latin};
-ghost use Rattle.definition.specs.Utf8.{scalar};
-ghost use Rattle.definition.specs.Blocks.{headed, small};
 ghost use Rattle.definition.specs.ClassRows.{class-fits, space-right, latin-right, class-right};
 ghost use Rattle.definition.specs.ClassRows.{class-fault, classes-of};
-ghost use Rattle.definition.specs.VowelRows.{vowel-size, vowel-fits, letters-right, vowel-right};
-ghost use Rattle.definition.specs.VowelRows.{vowel-fault, vowels-of};
 ghost use Rattle.definition.specs.Classes.{plain, class, alpha};
-ghost use Rattle.definition.specs.Vowels.{vowel-row};
-ghost use Rattle.classes.specs.Told.{fault-place, Fine, FineVowels, seen, Ranged};
-ghost use Rattle.classes.specs.Told.{packed, kinds-of, alphas-of, Alphas, told, Lettered};
+ghost use Rattle.blocks.specs.Faults.{fault-place};
+ghost use Rattle.classes.specs.Told.{Fine, seen, Ranged, packed, kinds-of, alphas-of, Alphas};
+use blocks::TableRead;
 
 // Scripts that the engine asks for.
 pub const THAI: u32 = 1;
@@ -51,12 +45,6 @@ pub const TONE: u32 = 5;
 
 pub const PRE: u32 = 6;
 
-// A table is valid, or has its first fault at this row's offset (0 for the header).
-pub enum TableRead {
-    Valid,
-    Fault(usize),
-}
-
 pub struct ClassRow {
     pub category: u32,
     pub script: u32,
@@ -67,66 +55,6 @@ pub struct ClassRow {
 pub enum ClassOf {
     Row(ClassRow),
     Absent,
-}
-
-// The row of a script: its type, and where in the table its letters stand.
-pub struct VowelRow {
-    pub ao: bool,
-    pub from: usize,
-    pub to: usize,
-}
-
-pub enum VowelOf {
-    Row(VowelRow),
-    Absent,
-}
-
-// A scalar value: no surrogate, and none past U+10FFFF.
-pub fn scalar(c: u32) -> bool
-    ensures { λ r. ⌜ r ≡ scalar c ⌝ }
-{
-    c < 0xD800 || (0xE000 <= c && c <= 0x10FFFF)
-}
-
-// A-Z or a-z.
-pub fn latin(c: u32) -> bool
-    ensures { λ r. ⌜ r ≡ latin c ⌝ }
-{
-    if c < 97 {
-        return 65 <= c && c <= 90;
-    }
-    c <= 122
-}
-
-// a-z.
-pub fn small(c: u32) -> bool
-    ensures { λ r. ⌜ r ≡ small c ⌝ }
-{
-    97 <= c && c <= 122
-}
-
-// Whether all bytes from a place to another are a-z.
-pub fn all_small(s: &[u8], from: usize, to: usize) -> bool
-    requires { ⌜ (from ≤ to) × (to ≤ length (now s)) ⌝ }
-    ensures { λ r. ⌜ r ≡ all small (take (to - from) (drop from (now (s .entry)))) ⌝ }
-{
-    let mut at = from;
-    while at < to {
-        if small(base::byte(s, at)) {
-            at += 1;
-        } else {
-            return false;
-        }
-    }
-    true
-}
-
-// The block's header: version 1, and a length that fills the slice.
-pub fn headed(table: &[u8]) -> bool
-    ensures { λ r. ⌜ r ≡ headed (now (table .entry)) ⌝ }
-{
-    5 <= table.len()
-        && (base::byte(table, 0) == 1 && 5 + base::four(table, 0, 1) == table.len() as u64)
 }
 
 // A class row within the table, of a scalar value that rises, with known numbers.
@@ -152,7 +80,7 @@ fn class_fits(classes: &[u8], row: usize, low: u32) -> bool
     if 127 < base::at(classes, row, 5) {
         return false;
     }
-    scalar(c)
+    blocks::scalar(c)
 }
 
 // A space has a plain row.
@@ -168,7 +96,7 @@ fn space_right(classes: &[u8], row: usize) -> bool
 fn latin_right(classes: &[u8], row: usize) -> bool
     ensures { λ r. ⌜ r ≡ latin-right (drop row (now (classes .entry))) ⌝ }
 {
-    if latin(base::three(classes, row, 0)) {
+    if blocks::latin(base::three(classes, row, 0)) {
         return base::at(classes, row, 3) == 1;
     }
     true
@@ -185,7 +113,7 @@ fn class_right(classes: &[u8], row: usize, low: u32) -> bool
 pub fn check_classes(classes: &[u8]) -> TableRead
     ensures { λ r. ⌜ fault-place r ≡ class-fault (now (classes .entry)) ⌝ }
 {
-    if headed(classes) {
+    if blocks::headed(classes) {
         let mut at: usize = 5;
         let mut left: u32 = 8192;
         let mut low: u32 = 0;
@@ -196,75 +124,6 @@ pub fn check_classes(classes: &[u8]) -> TableRead
             if class_right(classes, at, low) {
                 low = base::three(classes, at, 0) + 1;
                 at += 6;
-                left -= 1;
-            } else {
-                return TableRead::Fault(at);
-            }
-        }
-        return TableRead::Valid;
-    }
-    TableRead::Fault(0)
-}
-
-// A vowel row within the table, of a script that rises, with a known type.
-fn vowel_fits(vowels: &[u8], row: usize, low: u32) -> bool
-    ensures { λ r. ⌜ r ≡ vowel-fits low (drop row (now (vowels .entry))) ⌝ }
-{
-    if vowels.len() < row {
-        return false;
-    }
-    let count = base::at(vowels, row, 2) as usize;
-    if vowels.len() - row < 3 + count {
-        return false;
-    }
-    let script = base::at(vowels, row, 0);
-    if script < low {
-        return false;
-    }
-    if 127 < script {
-        return false;
-    }
-    base::at(vowels, row, 1) <= 1
-}
-
-// One to four letters, for a row within the table.
-fn letters_right(vowels: &[u8], row: usize) -> bool
-    requires { ⌜ vowel-size (drop row (now vowels)) ≤ length (drop row (now vowels)) ⌝ }
-    ensures { λ r. ⌜ r ≡ letters-right (drop row (now (vowels .entry))) ⌝ }
-{
-    let count = base::at(vowels, row, 2) as usize;
-    if count < 1 {
-        return false;
-    }
-    if 4 < count {
-        return false;
-    }
-    let from = row + 3;
-    all_small(vowels, from, from + count)
-}
-
-// A vowel row that may follow the scripts below `low`.
-fn vowel_right(vowels: &[u8], row: usize, low: u32) -> bool
-    ensures { λ r. ⌜ r ≡ vowel-right low (drop row (now (vowels .entry))) ⌝ }
-{
-    vowel_fits(vowels, row, low) && letters_right(vowels, row)
-}
-
-// The first fault of a vowel table. Scripts rise from 1 to 127.
-pub fn check_vowels(vowels: &[u8]) -> TableRead
-    ensures { λ r. ⌜ fault-place r ≡ vowel-fault (now (vowels .entry)) ⌝ }
-{
-    if headed(vowels) {
-        let mut at: usize = 5;
-        let mut left: u32 = 127;
-        let mut low: u32 = 1;
-        while at < vowels.len() {
-            if left == 0 {
-                return TableRead::Fault(at);
-            }
-            if vowel_right(vowels, at, low) {
-                low = base::at(vowels, at, 0) + 1;
-                at += 3 + base::at(vowels, at, 2) as usize;
                 left -= 1;
             } else {
                 return TableRead::Fault(at);
@@ -315,7 +174,7 @@ fn class_of(classes: &[u8], c: u32) -> ClassOf
 fn plain_kind(c: u32) -> u32
     ensures { λ r. ⌜ r ≡ packed (plain c) ⌝ }
 {
-    if latin(c) {
+    if blocks::latin(c) {
         return 1;
     }
     0
@@ -424,33 +283,4 @@ pub fn is_letter(classes: &[u8], alphas: &[u8], c: u32) -> bool
         return base::byte(alphas, c as usize) == 1;
     }
     alpha_byte(classes, c) == 1
-}
-
-// The vowel row of a script.
-pub fn vowel_row(vowels: &[u8], script: u32) -> VowelOf
-    requires { ⌜ FineVowels (now vowels) ⌝ }
-    ensures { λ r. ⌜ (told (now (vowels .entry)) script r ≡ vowel-row (vowels-of (now (vowels .entry))) script)
-        × Lettered (now (vowels .entry)) r ⌝ }
-{
-    let mut at: usize = 5;
-    while at < vowels.len() {
-        let from = at + 3;
-        let to = from + base::at(vowels, at, 2) as usize;
-        if base::at(vowels, at, 0) == script {
-            let ao = base::at(vowels, at, 1) == 1;
-            return VowelOf::Row(VowelRow { ao, from, to });
-        }
-        at = to;
-    }
-    VowelOf::Absent
-}
-
-// The letters of a row, as they stand in the lent table.
-pub fn vowel_letters<'a>(vowels: &'a [u8], row: VowelRow) -> &'a [u8]
-    requires { ⌜ (row .from ≤ row .to) × (row .to ≤ length (now vowels)) ⌝ }
-    ensures { λ r. ⌜ now r ≡ take (row .to - row .from) (drop (row .from) (now (vowels .entry))) ⌝ }
-{
-    let from = row.from;
-    let to = row.to;
-    &vowels[from..to]
 }

@@ -3,7 +3,7 @@ ghost use mathlib.Core.Path.{_≡_};
 ghost use Prim.Native.Nat.{_+_, _<_, _≤_};
 ghost use lib.ListN.{length, getD, drop};
 ghost use Rattle.definition.specs.RuleRows.{rule-source, rule-right, rule-fault, rules-of};
-ghost use Rattle.classes.specs.Told.{fault-place};
+ghost use Rattle.blocks.specs.Faults.{fault-place};
 ghost use Rattle.dicts.specs.Marks.{mark-of};
 ghost use Rattle.dicts.specs.Order.{compared};
 ghost use Rattle.dicts.specs.Index.{index-entries, offsets-from, row-offsets, entered, indexed, Ready};
@@ -11,7 +11,7 @@ ghost use Rattle.dicts.specs.Seek.{is-below, is-equal, order-at, seek, f
 ghost use Rattle.dicts.specs.Entries.{entry-below};
 ghost use Rattle.dicts.specs.Doors.{is-start};
 ghost use Rattle.base.specs.Lists.{starts};
-use classes::TableRead;
+use blocks::TableRead;
 use rulerow::RowRead;
 
 // How a source stands to what is looked for.
@@ -50,7 +50,7 @@ fn row_right(rules: &[u8], row: usize, old: usize, first: bool) -> bool
 pub fn check_rules(rules: &[u8]) -> TableRead
     ensures { λ r. ⌜ fault-place r ≡ rule-fault (now (rules .entry)) ⌝ }
 {
-    if classes::headed(rules) {
+    if blocks::headed(rules) {
         let mut at: usize = 5;
         let mut left: u32 = 8192;
         let mut old: usize = 5;

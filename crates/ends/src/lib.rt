@@ -118,7 +118,7 @@ fn kept(s: &[u8], one: bool, end: usize) -> usize
     let n = s.len();
     if end < n {
         if one {
-            if classes::latin(base::byte(s, 0)) {
+            if blocks::latin(base::byte(s, 0)) {
                 return end;
             }
         }

@@ -13,13 +13,13 @@ ghost use Rattle.definition.specs.Listing.{shown};
 ghost use Rattle.definition.specs.Call.{Inputs, tables-of, refusal, written, accepted, unless-refused, called};
 ghost use Rattle.utf8.specs.Read.{text-refusal};
 ghost use Rattle.utf8.specs.Lines.{framed};
-ghost use Rattle.classes.specs.Told.{FineVowels};
+ghost use Rattle.vowelrows.specs.Told.{FineVowels};
 ghost use Rattle.edge.specs.Slots.{edges-of};
 ghost use Rattle.words.specs.Given.{text-in};
 ghost use Rattle.rules.specs.Lent.{Read, Lent};
 ghost use Rattle.lattice.specs.Fallback.{Own};
 ghost use Rattle.jettyfig.specs.Verdicts.{refusal-of, given, returned, by-code, by-vowels, by-classes, by-tables, before-text};
-use classes::TableRead;
+use blocks::TableRead;
 use edge::Added;
 use utf8::TextRead;
 
@@ -58,7 +58,7 @@ fn check_code(code: &[u8]) -> Verdict
         return Verdict::Accepted;
     }
     if code.len() == 3 {
-        if classes::all_small(code, 0, 3) {
+        if blocks::all_small(code, 0, 3) {
             return Verdict::Accepted;
         }
         return Verdict::Refused(5, 0);
@@ -70,7 +70,7 @@ fn check_code(code: &[u8]) -> Verdict
 fn check_vowels(vowels: &[u8], code: &[u8]) -> Verdict
     ensures { λ r. ⌜ refusal-of r ≡ by-vowels (now (vowels .entry)) (now (code .entry)) ⌝ }
 {
-    match classes::check_vowels(vowels) {
+    match vowelrows::check_vowels(vowels) {
         TableRead::Fault(at) => Verdict::Refused(4, at as u64),
         TableRead::Valid => check_code(code),
     }

@@ -11,7 +11,7 @@ ghost use Rattle.definition.specs.RuleRows.{rules-of};
 ghost use Rattle.definition.specs.Rules.{is-prefix};
 ghost use Rattle.definition.specs.Building.{each, build, fall, lattice};
 ghost use Rattle.definition.specs.Call.{tables-of};
-ghost use Rattle.classes.specs.Told.{FineVowels};
+ghost use Rattle.vowelrows.specs.Told.{FineVowels};
 ghost use Rattle.dicts.specs.Index.{Ready};
 ghost use Rattle.edge.specs.Slots.{edges-of};
 ghost use Rattle.edge.specs.Stored.{Stored};

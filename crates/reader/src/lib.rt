@@ -7,10 +7,10 @@ ghost use mathlib.Core.Path.{_≡_};
 ghost use Prim.Native.Nat.{_-_};
 ghost use lib.ListN.{length, drop};
 ghost use Rattle.definition.specs.RuleRows.{rule-right, rule-fault};
-ghost use Rattle.classes.specs.Told.{fault-place};
+ghost use Rattle.blocks.specs.Faults.{fault-place};
 ghost use Rattle.dicts.specs.Marks.{mark-of};
 ghost use Rattle.reader.specs.Rows.{row-here, next-row, right-rows};
-use classes::TableRead;
+use blocks::TableRead;
 use rulerow::Fault;
 use rulerow::RowParts;
 use rulerow::RowRead;
@@ -152,7 +152,7 @@ pub fn walk_rules(table: &[u8]) -> Walked
     ensures { λ r. ⌜ (fault-place (r .read) ≡ rule-fault (now (table .entry)))
         × (r .rows ≡ right-rows (now (table .entry))) ⌝ }
 {
-    if classes::headed(table) {
+    if blocks::headed(table) {
         let mut at = start(table);
         let mut rows: usize = 0;
         let mut old = at;

@@ -1,7 +1,7 @@
 // Lists the rows of the rule table on standard input through the reader: offset, source, target and flags, a line for each; then
 // how many rows are right, or the first fault.
 ghost use Prim.Native.Nat.{_<_};
-use classes::TableRead;
+use blocks::TableRead;
 use libc::STDIN_FILENO;
 use libc::STDOUT_FILENO;
 use reader::RowHere;

@@ -138,9 +138,9 @@ fn code_letters(rules: &[u8], row: usize, o: usize) -> bool
     requires { ⌜ (o < 65538) × (o + 3 ≤ length (drop row (now rules))) ⌝ }
     ensures { λ r. ⌜ r ≡ code-letters (drop o (drop row (now (rules .entry)))) ⌝ }
 {
-    if classes::small(base::at(rules, row, o)) {
-        if classes::small(base::at(rules, row, o + 1)) {
-            return classes::small(base::at(rules, row, o + 2));
+    if blocks::small(base::at(rules, row, o)) {
+        if blocks::small(base::at(rules, row, o + 1)) {
+            return blocks::small(base::at(rules, row, o + 2));
         }
     }
     false
@@ -158,7 +158,7 @@ fn read_characters(rules: &[u8], row: usize, z: usize, n: usize, o: usize) -> Cu
         if z < at + 3 {
             return Cursor::Wrong(Fault::Length, at);
         }
-        if classes::scalar(base::three(rules, row, at)) {
+        if blocks::scalar(base::three(rules, row, at)) {
             left -= 1;
             at += 3;
         } else {

@@ -9,7 +9,7 @@ ghost use Rattle.definition.specs.Texts.{Text};
 ghost use Rattle.definition.specs.Expansion.{work};
 ghost use Rattle.definition.specs.Building.{is-tail, without-plus, grown, as-edge, edge-of, span-edge, fallback-plus};
 ghost use Rattle.definition.specs.Call.{tables-of};
-ghost use Rattle.classes.specs.Told.{FineVowels};
+ghost use Rattle.vowelrows.specs.Told.{FineVowels};
 ghost use Rattle.rom.specs.Rom.{text, Clean};
 ghost use Rattle.words.specs.Did.{Did};
 ghost use Rattle.words.specs.Given.{text-in, view-of};

@@ -2,7 +2,7 @@
 // those whose answer is another than the one given.
 ghost use Prim.Native.Nat.{_+_, _<_, _≤_};
 ghost use lib.ListN.{length};
-use classes::TableRead;
+use blocks::TableRead;
 
 // A vector that was run: how many bytes it takes, and whether all was as given.
 struct Ran {
@@ -48,7 +48,7 @@ fn checked(kind: usize, table: &[u8]) -> TableRead {
     if kind == 1 {
         return classes::check_classes(table);
     }
-    classes::check_vowels(table)
+    vowelrows::check_vowels(table)
 }
 
 // Is the answer the one given: 0 and no place, or 1 and the place of the fault?

@@ -1,8 +1,8 @@
 // The vowel step (add_default_abugida_vowel): a consonant of an abugida takes its script's vowel, keeps it or loses it.
-use classes::VowelOf;
 use ends::Forms;
 use ends::Which;
 use rom::Rom;
+use vowelrows::VowelOf;
 ghost use mathlib.Core.Path.{_≡_};
 ghost use mathlib.Core.Bool.{not, _&&_};
 ghost use mathlib.Core.List.{List};
@@ -18,7 +18,7 @@ ghost use Rattle.definition.specs.ClassRows.{classes-of};
 ghost use Rattle.definition.specs.VowelRows.{vowels-of};
 ghost use Rattle.definition.specs.Vowels.{bases, consonant-only, before-yo, bare, keeps-end, vowel-by, vowel-step};
 ghost use Rattle.definition.specs.Building.{grown};
-ghost use Rattle.classes.specs.Told.{FineVowels};
+ghost use Rattle.vowelrows.specs.Told.{FineVowels};
 ghost use Rattle.rom.specs.Rom.{text, Clean};
 ghost use Rattle.ends.specs.Shown.{Within, shown, chosen};
 ghost use Rattle.ends.specs.Grew.{grew};
@@ -340,7 +340,7 @@ pub fn add_default_abugida_vowel(
         (text (v .rom)) (now (starts .exit))
         × Clean (v .rom) × (v .rom .len ≤ r .len + most-vowel) × (v .grown ≡ grown (text r) (text (v .rom))) ⌝ }
 {
-    let VowelOf::Row(row) = classes::vowel_row(vowels, script_at(kinds, s + 1)) else {
+    let VowelOf::Row(row) = vowelrows::vowel_row(vowels, script_at(kinds, s + 1)) else {
         return Voiced {
             rom: r,
             grown: false,
@@ -359,7 +359,7 @@ pub fn add_default_abugida_vowel(
         room,
         count,
         starts,
-        classes::vowel_letters(vowels, row),
+        vowelrows::vowel_letters(vowels, row),
         row.ao,
         r,
         tail,

@@ -10,7 +10,7 @@ use denote.Ref.{now}
 use Rattle.definition.specs.Accepted.{class-moves}
 use Rattle.definition.specs.Checked.{class-checked}
 use Rattle.definition.specs.ClassRows.{class-size, class-next, class-right, class-fault}
-use Rattle.classes.specs.Told.{fault-place}
+use Rattle.blocks.specs.Faults.{fault-place}
 use Rattle.definition.specs.Checking.{from, started, no-header, over, next, spent, wrong}
 use Rattle.classes.proofs.check_classes.Statement.{statement}
 use Rattle.classes.proofs.check_classes.Tie as tie

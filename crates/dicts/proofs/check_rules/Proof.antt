@@ -12,7 +12,7 @@ use Rattle.definition.specs.Texts.{Text}
 use Rattle.definition.specs.RuleRows.{rule-size, rule-source, rule-right, rule-fault}
 use Rattle.definition.specs.Checking.{from, started, no-header, over, next, spent, wrong}
 use Rattle.definition.specs.Accepted.{rule-moves}
-use Rattle.classes.specs.Told.{fault-place}
+use Rattle.blocks.specs.Faults.{fault-place}
 use Rattle.dicts.specs.Marks.{mark-of}
 use Rattle.dicts.proofs.check_rules.Statement.{statement}
 use Rattle.dicts.proofs.check_rules.Tie as tie

@@ -2,7 +2,7 @@
 use mathlib.Core.Path.{sym, ap, _∙_}
 use denote.Ref.{now}
 use Rattle.definition.specs.RuleRows.{rule-fault}
-use Rattle.classes.specs.Told.{fault-place}
+use Rattle.blocks.specs.Faults.{fault-place}
 use Rattle.jettyfig.specs.Verdicts.{by-classes, by-tables, faulty, faultless}
 use borrow.Author.Needs.{needs}
 use Rattle.jettyfig.proofs.check_tables.Statement.{statement}

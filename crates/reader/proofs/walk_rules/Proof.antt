@@ -5,7 +5,7 @@ use lib.ListN.{length}
 use denote.Ref.{now}
 use borrow.Author.Needs.{needs}
 use Rattle.base.specs.Pick.{pick}
-use Rattle.classes.specs.Told.{fault-place}
+use Rattle.blocks.specs.Faults.{fault-place}
 use Rattle.dicts.specs.Marks.{mark-of}
 use Rattle.reader.specs.Counting.{Gone, gone-start, gone-over, gone-full, gone-wrong, gone-next, gone-nearer, no-table}
 use Rattle.reader.proofs.walk_rules.Statement.{statement}

@@ -1,0 +1,2 @@
+pub mod VowelTests
+pub mod VowelWalk
