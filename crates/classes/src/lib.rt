@@ -1,7 +1,7 @@
 // The class table (dicts/model.rs, dicts/mod.rs): its check, and what it says of a character.
 ghost use mathlib.Core.Path.{_≡_};
 ghost use Prim.Native.Nat.{_+_, _*_, _/_, _%_, _≤_, _<_};
-ghost use lib.ListN.{length, take, drop, getD};
+ghost use lib.ListN.{length, drop, getD};
 ghost use Rattle.base.specs.Bits.{bit, flagged};
 ghost use Rattle.definition.specs.ClassRows.{class-fits, space-right, latin-right, class-right};
 ghost use Rattle.definition.specs.ClassRows.{class-fault, classes-of};

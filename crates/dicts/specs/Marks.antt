@@ -7,11 +7,11 @@ use lib.ListN.{drop}
 use Rattle.base.specs.Pick.{pick}
 use Rattle.definition.specs.Texts.{Text}
 use Rattle.definition.specs.RuleRows.{rule-source, rises, rule-right}
-use Rattle.rulerow.specs.Reading.{read-row, rightly}
-use Rattle.rulerow.specs.Rightly.{row-rightly}
-use Rattle.rulerow.specs.declared.Fault.{Fault}
-use Rattle.rulerow.specs.declared.Cursor.{Cursor}
-use Rattle.rulerow.specs.declared.Cursor.the-variants.{Next, Wrong}
+use Rattle.rowread.specs.Reading.{read-row, rightly}
+use Rattle.rowread.specs.Rightly.{row-rightly}
+use Rattle.rowread.specs.declared.Fault.{Fault}
+use Rattle.rowread.specs.declared.Cursor.{Cursor}
+use Rattle.rowread.specs.declared.Cursor.the-variants.{Next, Wrong}
 
 unfoldable pub mark-of : List ℕ → ℕ → Bool → Text
 mark-of b old first = pick first [] (rule-source (drop old b))

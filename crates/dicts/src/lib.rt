@@ -12,7 +12,7 @@ ghost use Rattle.dicts.specs.Entries.{entry-below};
 ghost use Rattle.dicts.specs.Doors.{is-start};
 ghost use Rattle.base.specs.Lists.{starts};
 use blocks::TableRead;
-use rulerow::RowRead;
+use rowread::RowRead;
 
 // How a source stands to what is looked for.
 pub enum Order {
@@ -32,7 +32,7 @@ fn row_right(rules: &[u8], row: usize, old: usize, first: bool) -> bool
     requires { ⌜ row ≤ length (now rules) ⌝ }
     ensures { λ r. ⌜ r ≡ rule-right (mark-of (now (rules .entry)) old first) (drop row (now (rules .entry))) ⌝ }
 {
-    let c = rulerow::read_row(rules, row);
+    let c = rowread::read_row(rules, row);
     match c {
         RowRead::Parts(_) => {
             if first {

@@ -14,15 +14,15 @@ use Rattle.definition.specs.Texts.{Text}
 use Rattle.definition.specs.RuleRows.{rule-size, rule-source, rule-right, rises, source-count, target-at, end-target-at, others-at}
 use Rattle.definition.specs.Checked.{rule-checked}
 use Rattle.definition.specs.Accepted.{rule-moves}
-use Rattle.rulerow.specs.Reading.{read-row, rightly}
-use Rattle.rulerow.specs.Row.{walked, Parted}
-use Rattle.rulerow.specs.Rightly.{row-rightly}
-use Rattle.rulerow.specs.declared.Fault.{Fault}
-use Rattle.rulerow.specs.declared.Cursor.{Cursor}
-use Rattle.rulerow.specs.declared.Cursor.the-variants.{Next, Wrong as Faulty}
-use Rattle.rulerow.specs.declared.RowParts.{RowParts}
-use Rattle.rulerow.specs.declared.RowRead.{RowRead}
-use Rattle.rulerow.specs.declared.RowRead.the-variants.{Parts, Wrong as NotRead}
+use Rattle.rowread.specs.Reading.{read-row, rightly}
+use Rattle.rowread.specs.Row.{walked, Parted}
+use Rattle.rowread.specs.Rightly.{row-rightly}
+use Rattle.rowread.specs.declared.Fault.{Fault}
+use Rattle.rowread.specs.declared.Cursor.{Cursor}
+use Rattle.rowread.specs.declared.Cursor.the-variants.{Next, Wrong as Faulty}
+use Rattle.rowread.specs.declared.RowParts.{RowParts}
+use Rattle.rowread.specs.declared.RowRead.{RowRead}
+use Rattle.rowread.specs.declared.RowRead.the-variants.{Parts, Wrong as NotRead}
 use Rattle.dicts.specs.Marks.{mark-of}
 use Rattle.reader.specs.declared.RowHere.{RowHere}
 use Rattle.reader.specs.declared.RowHere.the-variants.{Row, Wrong, End}

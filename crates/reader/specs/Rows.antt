@@ -9,10 +9,10 @@ use Rattle.definition.specs.Limits.{most-rows}
 use Rattle.definition.specs.Texts.{Text}
 use Rattle.definition.specs.Blocks.{headed, head-bytes}
 use Rattle.definition.specs.RuleRows.{rule-size, rule-source, rule-right, source-count, target-at, end-target-at, others-at}
-use Rattle.rulerow.specs.Reading.{read-row}
-use Rattle.rulerow.specs.declared.Cursor.{Cursor}
-use Rattle.rulerow.specs.declared.Cursor.the-variants.{Next, Wrong as Faulty}
-use Rattle.rulerow.specs.declared.RowParts.{RowParts}
+use Rattle.rowread.specs.Reading.{read-row}
+use Rattle.rowread.specs.declared.Cursor.{Cursor}
+use Rattle.rowread.specs.declared.Cursor.the-variants.{Next, Wrong as Faulty}
+use Rattle.rowread.specs.declared.RowParts.{RowParts}
 use Rattle.reader.specs.declared.RowHere.{RowHere}
 use Rattle.reader.specs.declared.RowHere.the-variants.{Row, Wrong, End}
 

@@ -11,9 +11,9 @@ ghost use Rattle.blocks.specs.Faults.{fault-place};
 ghost use Rattle.dicts.specs.Marks.{mark-of};
 ghost use Rattle.reader.specs.Rows.{row-here, next-row, right-rows};
 use blocks::TableRead;
-use rulerow::Fault;
-use rulerow::RowParts;
-use rulerow::RowRead;
+use rowread::Fault;
+use rowread::RowParts;
+use rowread::RowRead;
 
 // Rows of a table at most (document 01).
 const MOST_ROWS: usize = 8192;
@@ -44,7 +44,7 @@ pub fn row_at(table: &[u8], at: usize) -> RowHere
     if table.len() <= at {
         return RowHere::End;
     }
-    match rulerow::read_row(table, at) {
+    match rowread::read_row(table, at) {
         RowRead::Parts(parts) => RowHere::Row(parts),
         RowRead::Wrong(fault, o) => RowHere::Wrong(fault, at + o),
     }

@@ -5,8 +5,8 @@ use blocks::TableRead;
 use libc::STDIN_FILENO;
 use libc::STDOUT_FILENO;
 use reader::RowHere;
-use rulerow::Fault;
-use rulerow::RowParts;
+use rowread::Fault;
+use rowread::RowParts;
 
 // The bit of a row's flags that says that it has a target.
 const TARGET_BIT: u32 = 5;

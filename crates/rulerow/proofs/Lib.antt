@@ -1,6 +1,2 @@
-pub mod Tests
-pub mod Fields
-pub mod Inside
-pub mod Chains
 pub mod Rise
 pub mod Texts

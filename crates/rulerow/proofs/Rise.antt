@@ -9,7 +9,7 @@ use borrow.Author.Tests.{lt-ltb, le-ltb, eq-eqb, ne-eqb}
 use Rattle.base.specs.Big.{be3}
 use Rattle.base.specs.Rows.{counted, counted-none, counted-some}
 use Rattle.definition.specs.RuleRows.{three-at, source-count, rule-source, rises}
-use Rattle.rulerow.proofs.Fields.{three-there}
+use Rattle.rulerow.specs.There.{three-there}
 
 module _ (x y : ℕ) (a b : List ℕ) where
   lower : x < y → rises (x ∷ a) (y ∷ b) ≡ true

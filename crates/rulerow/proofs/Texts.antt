@@ -8,7 +8,7 @@ use lib.ListN.{length, getD, take, drop, length-drop}
 use lib.Seq.{drop-drop}
 use Rattle.definition.specs.RuleRows.{rule-flag, target-at, past-text, end-target-at, others-at, target-bit, end-target-bit, text-size, text-of}
 use Rattle.definition.specs.Places.{Placed}
-use Rattle.rulerow.proofs.Fields.{byte-there}
+use Rattle.rulerow.specs.There.{byte-there}
 
 module _ (s : List ℕ) (o n : ℕ) (e : n ≡ getD s o 0) where
   pub size-is : 1 + n ≡ text-size (drop o s)

@@ -1,4 +1,2 @@
-pub mod Reading
-pub mod Rightly
+pub mod There
 pub mod Others
-pub mod Row

@@ -2,7 +2,7 @@
 use mathlib.Core.Path.{ap}
 use denote.Ref.{now}
 use borrow.Author.Needs.{needs}
-use Rattle.rulerow.specs.Row.{walked}
+use Rattle.rowread.specs.Row.{walked}
 use Rattle.dicts.specs.Marks.{first-row, later-row, wrong-row}
 use Rattle.dicts.proofs.row_right.Statement.{statement}
 use Rattle.dicts.proofs.row_right.Tie as tie

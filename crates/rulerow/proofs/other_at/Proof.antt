@@ -6,7 +6,7 @@ use native.Mathlib.Omega.{arith}
 use lib.ListN.{drop, length-drop}
 use denote.Ref.{now}
 use borrow.Author.Needs.{needs}
-use Rattle.definition.specs.RuleRows.{text-size, texts-size, others-at}
+use Rattle.definition.specs.RuleRows.{text-size, texts-size}
 use Rattle.rulerow.specs.Others.{other-at, other-lies, texts-step, texts-none}
 use Rattle.rulerow.proofs.Texts.{size-is}
 use Rattle.rulerow.proofs.other_at.Statement.{statement}

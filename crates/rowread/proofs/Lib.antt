@@ -1,0 +1,4 @@
+pub mod Tests
+pub mod Fields
+pub mod Inside
+pub mod Chains

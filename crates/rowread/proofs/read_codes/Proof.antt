@@ -1,0 +1,70 @@
+-- `rowread::read_codes`: a count, and as many codes.
+use mathlib.Core.Bool.{Bool}
+use Prim.Native.Nat.{ℕ}
+use native.Mathlib.Omega.{arith}
+use lib.Dec.{leb}
+use lib.ListN.{drop}
+use borrow.Author.Needs.{needs}
+use denote.Ref.{now}
+use Rattle.rowread.specs.declared.Cursor.{Cursor}
+use Rattle.rowread.specs.declared.Fault.the-variants.{Letter}
+use Rattle.rowread.specs.Reading.{read-codes, fields, code-letters}
+use Rattle.rowread.proofs.Inside.{past-field}
+use Rattle.rowread.proofs.Chains.{count-faulty, count-onward}
+use Rattle.rowread.proofs.read_codes.Statement.{statement}
+use Rattle.rowread.proofs.read_codes.Tie as tie
+
+abbrev few : ℕ → Bool
+few n = leb n 8
+
+abbrev body : tie.Start → ℕ → ℕ → Cursor
+body t = fields code-letters 3 Letter (t .args .z) (drop (t .args .row) (now (t .args .rules)))
+
+at-requires : tie.Need-at-requires
+at-requires c κs = search needs
+
+field-requires : tie.Need-field-requires
+field-requires c κs = search needs
+
+enum-known-c : tie.Need-enum-known-c
+enum-known-c c = search needs
+
+enum-told : tie.Need-enum-told
+enum-told c = search needs
+
+returns : tie.Need-returns
+unfolding read-codes
+returns c =
+    let f = c .before .before in
+    count-faulty _ _ few (body (f .before .before .before)) _ _ (f .before .at .ensures .0) _
+    (f .field .ensures) _ _ (c .enum-told .given .1)
+
+cast-read-language-codes : tie.Need-cast-read-language-codes
+cast-read-language-codes c = search needs
+
+read-language-codes-requires : tie.Need-read-language-codes-requires
+read-language-codes-requires c κs =
+    let f = c .before .before .before in
+    let h = past-field _ _ _ _ _ _ _ (f .field .ensures) (c .before .c .given .1) in
+    (omega arith, h, omega arith)
+
+returns-2 : tie.Need-returns-2
+unfolding read-codes
+returns-2 c =
+    let k = c .before .before in
+    let f = k .before .before in
+    count-onward _ _ few (body (f .before .before .before)) _ _ (f .before .at .ensures .0) _
+    (f .field .ensures) _ _ (k .c .given .1) (c .read-language-codes .ensures)
+
+pub read-codes-spec : {M : Type 1} → statement M
+read-codes-spec =
+    tie.close
+    (tie.spec
+    at-requires
+    field-requires
+    enum-known-c
+    enum-told
+    returns
+    cast-read-language-codes
+    read-language-codes-requires
+    returns-2)
