@@ -31,7 +31,7 @@ enum jettyfig_mode {
 enum jettyfig_annotation {
     JETTYFIG_ROM = 1,       /* a rule's text */
     JETTYFIG_CORE = 2,      /* a rule's text and an inherent vowel */
-    JETTYFIG_TAIL = 3,      /* a tail: part of the syllable before */
+    JETTYFIG_TAIL = 3,      /* a rule's text that began with a plus: a tail of what stands before */
     JETTYFIG_EXPANDED = 4,  /* a text that special characters have changed */
     JETTYFIG_DELETED = 5,   /* a silent character */
     JETTYFIG_SINGLE = 6,    /* a fallback: the rule's text of a single character */

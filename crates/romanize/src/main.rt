@@ -18,8 +18,8 @@ const NAMES: [u8; 120] =
 // No mode.
 const NO_MODE: u8 = 255;
 
-// The rooms are returned by functions so that `main` knows their lengths alone, and no proof goes through their bytes. Slots,
-// text room and output are as large as any text can need.
+// The rooms are returned by functions so that `main` knows their lengths alone, and no proof goes through their bytes. Slots
+// and text room are as large as any text can need, and the output holds all edges of any text.
 fn rules_room() -> [u8; 1048577] {
     [0u8; 1048577]
 }
