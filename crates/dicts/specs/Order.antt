@@ -6,17 +6,15 @@ use Prim.Native.Nat.{ℕ, suc, _+_, _-_, _≤_, _<_}
 use native.Mathlib.Omega.{arith}
 use native.Mathlib.Decide.{decLt}
 use native.Mathlib.Numerals.{add-one}
-use native.Mathlib.Nat.{add-zero}
 use lib.Dec.{eqb, ltb}
 use lib.ListN.{length, getD, drop, drop-of-length-le}
-use lib.Seq.{drop-cons, getD-drop}
+use lib.Seq.{drop-cons}
 use borrow.Author.Tests.{ltb-true, eqb-true, lt-ltb, le-ltb, eq-eqb, ne-eqb}
 use Rattle.base.specs.Pick.{pick}
 use Rattle.base.specs.Bools.{and-left, and-right, or-cases}
 use Rattle.base.specs.Lists.{same, starts}
 use Rattle.base.specs.ListLaws.{same-true, starts-append}
 use Rattle.definition.specs.Texts.{Text}
-use Rattle.base.specs.Big.{be3}
 use Rattle.base.specs.Rows.{counted, counted-none, counted-some}
 use Rattle.definition.specs.RuleRows.{rises, three-at}
 use Rattle.dicts.specs.declared.Order.{Order}
@@ -189,8 +187,3 @@ module _ (s w : List ℕ) (n o i : ℕ) where
 
     pub same-character : (d ≤ c) × (c ≤ d) → compared (counted three-at 3 (n - 1) (drop (o + 3) s)) (drop (i + 1) w) ≡ here
     same-character k = rw add-one (sym (one ∙ beside-same c d _ (omega arith)))
-
--- three bytes at an offset
-pub three-here : (s : List ℕ) (o : ℕ) → be3 s o ≡ three-at (drop o s)
-unfolding three-at
-three-here s o = sym (simp (getD-drop, add-zero))

@@ -27,7 +27,7 @@ use Rattle.dicts.specs.Marks.{mark-of}
 use Rattle.reader.specs.declared.RowHere.{RowHere}
 use Rattle.reader.specs.declared.RowHere.the-variants.{Row, Wrong, End}
 use Rattle.reader.specs.Rows.{parts, told, row-here, next-row}
-use Rattle.reader.specs.Fields.{place, fault-inside, ends}
+use Rattle.rowread.specs.Within.{place, fault-inside, ends}
 
 parts-are : (s : List ℕ) (p : RowParts) → p .size ≡ rule-size s → p .source ≡ source-count s → p .target ≡ target-at s
     → p .ending ≡ end-target-at s → p .others ≡ others-at s → p ≡ parts s

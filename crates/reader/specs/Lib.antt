@@ -1,5 +1,4 @@
 pub mod Rows
-pub mod Fields
 pub mod Here
 pub mod Counting
 pub mod Laws

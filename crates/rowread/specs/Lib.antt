@@ -1,3 +1,4 @@
 pub mod Reading
 pub mod Rightly
+pub mod Within
 pub mod Row

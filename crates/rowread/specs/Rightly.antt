@@ -6,12 +6,12 @@ use Prim.Native.Nat.{ℕ, zero, suc, _+_, _*_, _≤_}
 use native.Mathlib.Omega.{arith}
 use lib.Dec.{leb}
 use lib.ListN.{length, getD, take, drop, length-drop}
-use lib.Seq.{drop-drop, getD-drop}
+use lib.Seq.{drop-drop}
 use borrow.Author.Tests.{leb-true, le-leb, eq-eqb, not-true}
 use Rattle.base.specs.Pick.{pick}
 use Rattle.base.specs.Bools.{and-left, and-right}
 use Rattle.base.specs.Lists.{all, holds}
-use Rattle.base.specs.ListLaws.{holds-is, holds-length}
+use Rattle.base.specs.ListLaws.{holds-length}
 use Rattle.base.specs.Rows.{counted}
 use Rattle.definition.specs.Limits.{most-source, most-codes, most-alternatives, most-target}
 use Rattle.definition.specs.Texts.{Text}
@@ -20,6 +20,8 @@ use Rattle.definition.specs.Blocks.{small}
 use Rattle.definition.specs.RuleRows.{printable, text-size, text-of, text-right, texts-size, texts-right, rule-size, rule-flag, zero-bit, target-bit, end-target-bit, source-count, codes-at, codes-count, target-at, past-text, end-target-at, others-at, others-end, others-right, three-at, code-of, rule-source, rule-codes, rises, rule-fits, source-right, codes-right, target-right, end-target-right, rule-right}
 use Rattle.definition.specs.Checked.{rule-checked}
 use Rattle.definition.specs.Places.{rule-placed}
+use Rattle.blocks.specs.Held.{held}
+use Rattle.rulerow.specs.There.{byte-there}
 use Rattle.rowread.specs.Reading.{and-then, field, fields, character-right, code-letters, byte-right, read-text, read-texts, read-text-if, read-flags, read-source, read-codes, read-others, read-end, read-tail, read-parts, read-row, rightly}
 use Rattle.rowread.specs.declared.Fault.{Fault}
 use Rattle.rowread.specs.declared.Cursor.{Cursor}
@@ -84,9 +86,6 @@ module _ {A : Type 0} (one : List ℕ → A) (f : A → Bool) (size : ℕ) (k : 
       (fields-is n (o + size) e (omega arith) l (rw drop-drop at (and-right (f (one (drop o s))) _ h)))
 
 -- Texts
-first-at : (s : List ℕ) (o : ℕ) → getD (drop o s) 0 0 ≡ getD s o 0
-first-at s o = let e : o + 0 ≡ o = omega arith in getD-drop o s 0 0 ∙ ap (λ i. getD s i 0) e
-
 counted-take : (n : ℕ) (l : List ℕ) → n ≤ length l → counted (λ x. getD x 0 0) 1 n l ≡ take n l
 unfolding counted
 counted-take zero l h = refl
@@ -100,7 +99,7 @@ module _ (z : ℕ) (s : List ℕ) (whole : z ≤ length s) where
   unfolding text-of
   text-bytes o l =
       counted-take (getD s o 0) (drop (o + 1) s) (omega (arith, length-drop (o + 1) s))
-      ∙ ap (λ n. take n (drop (o + 1) s)) (sym (first-at s o)) ∙ ap (take (getD (drop o s) 0 0)) (sym (drop-drop 1 o s))
+      ∙ ap (λ n. take n (drop (o + 1) s)) (byte-there s o) ∙ ap (take (getD (drop o s) 0 0)) (sym (drop-drop 1 o s))
 
   text-next : (o e : ℕ) → read-text z s o ≡ Next e
       → (e ≡ o + text-size (drop o s)) × (e ≤ z) × (text-right (drop o s) ≡ true)
@@ -110,7 +109,7 @@ module _ (z : ℕ) (s : List ℕ) (whole : z ≤ length s) where
       let p = field-next z o 1 Fault.Range (leb (getD s o 0) most-target) (t .0) (t .1) in
       let i = p .ends in
       let r = fields-next (λ x. getD x 0 0) printable 1 Fault.Byte z s (getD s o 0) (t .0) e (p .inside) (t .2) in
-      let f = first-at s o in
+      let f = sym (byte-there s o) in
       let q = r .0 in
       let l = r .1 in
       let b : all printable (text-of (drop o s)) ≡ true =
@@ -120,7 +119,7 @@ module _ (z : ℕ) (s : List ℕ) (whole : z ≤ length s) where
   text-is : (o e : ℕ) → e ≡ o + text-size (drop o s) → e ≤ z → text-right (drop o s) ≡ true → read-text z s o ≡ Next e
   unfolding read-text byte-right text-size text-right
   text-is o e i l h =
-      let f = first-at s o in
+      let f = sym (byte-there s o) in
       then-is _ _ (o + 1) e
       (field-is z o 1 Fault.Range (leb (getD s o 0) most-target) (o + 1)
       (record { ends = refl; inside = omega arith; right = ap (λ n. leb n most-target) (sym f) ∙ and-left _ _ h }))
@@ -322,7 +321,7 @@ row-is old s e =
     let c = rule-checked old s e in
     let p = rule-placed old s e in
     let l = c .inside in
-    let w : holds z s ≡ true = holds-is z s ∙ le-leb z (length s) l in
+    let w = held z s l in
     let count : (leb 1 (source-count s) && leb (source-count s) most-source) ≡ true =
     rw (le-leb 1 (source-count s) (c .least), le-leb (source-count s) most-source (c .most)) refl in
     let codes : codes-right s ≡ true = unfold codes-right in rw (le-leb (codes-count s) most-codes (c .few-codes), c .codes) in

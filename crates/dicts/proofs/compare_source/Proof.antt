@@ -8,7 +8,8 @@ use denote.Ref.{now}
 use borrow.Author.Needs.{needs}
 use Rattle.base.specs.Rows.{counted}
 use Rattle.definition.specs.RuleRows.{three-at, source-count, rule-source}
-use Rattle.dicts.specs.Order.{compared, source-longer, text-longer, both-end, lower, higher, same-character, three-here}
+use Rattle.rulerow.specs.There.{three-there}
+use Rattle.dicts.specs.Order.{compared, source-longer, text-longer, both-end, lower, higher, same-character}
 use Rattle.dicts.proofs.compare_source.Statement.{statement}
 use Rattle.dicts.proofs.compare_source.Tie as tie
 
@@ -52,11 +53,11 @@ shared-slice-read-d c = search needs
 
 returns-2 : tie.Need-returns-2 Inv-loop μ-loop
 returns-2 c = let l = c .before .before .before .before .before in
-    lower (S l) (W l) (l .loop .left) (l .loop .o) (l .loop .i) (omega arith) (omega arith) _ _ (c .before .before .three .ensures .0 ∙ three-here (S l) (l .loop .o)) refl (omega arith) ∙ l .loop .inv .0
+    lower (S l) (W l) (l .loop .left) (l .loop .o) (l .loop .i) (omega arith) (omega arith) _ _ (c .before .before .three .ensures .0 ∙ three-there (S l) (l .loop .o)) refl (omega arith) ∙ l .loop .inv .0
 
 returns-3 : tie.Need-returns-3 Inv-loop μ-loop
 returns-3 c = let l = c .before .before .before .before .before .before in
-    higher (S l) (W l) (l .loop .left) (l .loop .o) (l .loop .i) (omega arith) (omega arith) _ _ (c .before .before .before .three .ensures .0 ∙ three-here (S l) (l .loop .o)) refl (omega arith) ∙ l .loop .inv .0
+    higher (S l) (W l) (l .loop .left) (l .loop .o) (l .loop .i) (omega arith) (omega arith) _ _ (c .before .before .before .three .ensures .0 ∙ three-there (S l) (l .loop .o)) refl (omega arith) ∙ l .loop .inv .0
 
 sub-left : tie.Need-sub-left Inv-loop μ-loop
 sub-left c = search needs
@@ -72,7 +73,7 @@ loop-less c = omega arith
 
 loop-again : tie.Need-loop-again Inv-loop μ-loop
 loop-again c = let l = c .before .before .before .before .before .before in
-    (same-character (S l) (W l) (l .loop .left) (l .loop .o) (l .loop .i) (omega arith) (omega arith) _ _ (c .before .before .before .three .ensures .0 ∙ three-here (S l) (l .loop .o)) refl (omega arith, omega arith) ∙ l .loop .inv .0, omega arith)
+    (same-character (S l) (W l) (l .loop .left) (l .loop .o) (l .loop .i) (omega arith) (omega arith) _ _ (c .before .before .before .three .ensures .0 ∙ three-there (S l) (l .loop .o)) refl (omega arith, omega arith) ∙ l .loop .inv .0, omega arith)
 
 returns-4 : tie.Need-returns-4 Inv-loop μ-loop
 returns-4 c = let l = c .before .before in

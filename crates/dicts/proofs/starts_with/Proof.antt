@@ -9,7 +9,7 @@ use mathlib.Core.List.{List}
 use Rattle.base.specs.Lists.{starts}
 use Rattle.base.specs.Rows.{counted}
 use Rattle.definition.specs.RuleRows.{three-at, source-count, rule-source}
-use Rattle.dicts.specs.Order.{three-here}
+use Rattle.rulerow.specs.There.{three-there}
 use Rattle.dicts.specs.Starts.{text-over, source-over, another, same-letter}
 use Rattle.dicts.proofs.starts_with.Statement.{statement}
 use Rattle.dicts.proofs.starts_with.Tie as tie
@@ -56,7 +56,7 @@ returns-2 : tie.Need-returns-2 Inv-loop μ-loop
 returns-2 c =
     let l = c .before .before .before .before .before in
     another (S l) (W l) (l .loop .left) (l .loop .o) (l .loop .i) (omega arith) (omega arith) _ _
-    (c .before .before .three .ensures .0 ∙ three-here (S l) (l .loop .o)) refl (λ e. omega arith) ∙ l .loop .inv .0
+    (c .before .before .three .ensures .0 ∙ three-there (S l) (l .loop .o)) refl (λ e. omega arith) ∙ l .loop .inv .0
 
 sub-left : tie.Need-sub-left Inv-loop μ-loop
 sub-left c = search needs
@@ -74,7 +74,7 @@ loop-again : tie.Need-loop-again Inv-loop μ-loop
 loop-again c =
     let l = c .before .before .before .before .before in (
       same-letter (S l) (W l) (l .loop .left) (l .loop .o) (l .loop .i) (omega arith) (omega arith) _ _
-          (c .before .before .three .ensures .0 ∙ three-here (S l) (l .loop .o)) refl (omega arith) ∙ l .loop .inv .0,
+          (c .before .before .three .ensures .0 ∙ three-there (S l) (l .loop .o)) refl (omega arith) ∙ l .loop .inv .0,
       omega arith,
     )
 
