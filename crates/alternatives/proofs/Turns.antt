@@ -1,14 +1,14 @@
 -- Whether a text is new, and one turn of each loop: what was written, and what is left, leave what the whole leaves.
 use mathlib.Core.Bool.{Bool, true, false, not, _||_}
 use mathlib.Core.List.{List, [], _∷_, _++_, map-append, append-nil, append-assoc}
-use mathlib.Core.Path.{_≡_, refl, sym, ap, _∙_}
+use mathlib.Core.Path.{_≡_, refl, sym, ap, _∙_, subst}
 use Prim.Native.Nat.{ℕ, zero, suc, _+_, _-_, _≤_, _<_}
 use native.Mathlib.Omega.{arith}
 use native.Mathlib.Numerals.{add-one}
 use native.Mathlib.Decide.{decLt}
 use lib.Dec.{ltb}
 use lib.ListN.{length, getD, take, drop, drop-of-length-le}
-use lib.Seq.{drop-cons, drop-drop}
+use lib.Seq.{take-all, drop-cons, drop-drop}
 use borrow.Author.Tests.{lt-ltb, le-ltb}
 use Rattle.base.specs.Pick.{pick, pick-all}
 use Rattle.base.specs.Lists.{put, keep, any, same}
@@ -33,13 +33,26 @@ use Rattle.listing.specs.Rows.{row-of, row-size, row-length}
 use Rattle.listing.specs.Items.{Written, item, put-bytes, put-items, put-items-append}
 use Rattle.dicts.specs.Sorted.{rules-from, rules-next}
 use Rattle.words.specs.Found.{Rows, rules-in, none-in, one-in, row-there}
+use Rattle.marks.specs.Marked.{Marked}
+use Rattle.offers.specs.declared.Asked.{Asked}
 use Rattle.offers.specs.declared.Offers.{Offers}
 use Rattle.offers.specs.Texts.{texts, Spoken, Tells, count-of, holding, count-is, texts-count, text-at, offered-other, offered-target}
 use Rattle.offers.proofs.Telling.{same-bytes}
-use Rattle.alternatives.specs.News.{earlier}
+use Rattle.alternatives.specs.News.{offered, earlier, holding-offers, offer-bytes}
 
--- A text is new where it is not the edge's own, and among neither of two lists
-module _ (e : Numbers) (b w : List ℕ) (h : Spoken e b) (l : All Low w) (T K : List Text) where
+-- A text was offered by some rows, or is among the first of another
+module _ (w : Text) (T K : List Text) (f : Bool) (r : f ≡ any (same w) T) where
+  asked : (f || any (same w) K) ≡ any (same w) (T ++ K)
+  asked = ap (λ (y : Bool). y || any (same w) K) r ∙ sym (any-append (same w) T K)
+
+  pub by-rows : f ≡ true → true ≡ any (same w) (T ++ K)
+  by-rows z = sym (ap (λ (y : Bool). y || any (same w) K) z) ∙ asked
+
+  pub by-row : f ≡ false → (t : Bool) → t ≡ any (same w) K → t ≡ any (same w) (T ++ K)
+  by-row z t p = p ∙ sym (ap (λ (y : Bool). y || any (same w) K) z) ∙ asked
+
+-- It is new where it is not the edge's own, and was not offered
+module _ (e : Numbers) (b w : List ℕ) (h : Spoken e b) (l : All Low w) (ws : List Text) where
   abbrev own : Text
   own = edge-by e b .text
 
@@ -47,21 +60,13 @@ module _ (e : Numbers) (b w : List ℕ) (h : Spoken e b) (l : All Low w) (T K : 
   unfolding edge-by
   own-same = same-bytes w b l (h .text)
 
-  pub own-again : same w b ≡ true → false ≡ not (any (same w) (own ∷ T ++ K))
+  pub own-again : same w b ≡ true → false ≡ not (any (same w) (own ∷ ws))
   unfolding any
-  own-again q = sym (ap (λ (y : Bool). not (y || any (same w) (T ++ K))) (own-same ∙ q))
+  own-again q = sym (ap (λ (y : Bool). not (y || any (same w) ws)) (own-same ∙ q))
 
-  module _ (q : same w b ≡ false) (f : Bool) (r : f ≡ any (same w) T) where
-    asked : (f || any (same w) K) ≡ any (same w) (own ∷ T ++ K)
-    unfolding any
-    asked = ap (λ (y : Bool). y || any (same w) K) r ∙ sym (any-append (same w) T K)
-        ∙ sym (ap (λ (y : Bool). y || any (same w) (T ++ K)) (own-same ∙ q))
-
-    pub rows-again : f ≡ true → false ≡ not (any (same w) (own ∷ T ++ K))
-    rows-again z = sym (ap not (sym asked ∙ ap (λ (y : Bool). y || any (same w) K) z))
-
-    pub row-again : f ≡ false → (t : Bool) → t ≡ any (same w) K → not t ≡ not (any (same w) (own ∷ T ++ K))
-    row-again z t p = ap not (p ∙ sym (ap (λ (y : Bool). y || any (same w) K) z) ∙ asked)
+  pub other-again : same w b ≡ false → (t : Bool) → t ≡ any (same w) ws → not t ≡ not (any (same w) (own ∷ ws))
+  unfolding any
+  other-again q t p = ap not (p ∙ sym (ap (λ (y : Bool). y || any (same w) ws) (own-same ∙ q)))
 
 -- The annotation by the number
 pub alt-note : (k n : ℕ) → k < n → note-alt ≡ pick (ltb k n) note-alt note-alt3
@@ -72,7 +77,7 @@ pub alt3-note : (k n : ℕ) → n ≤ k → note-alt3 ≡ pick (ltb k n) note-al
 unfolding pick
 alt3-note k n h = sym (rw (le-ltb k n h))
 
--- One edge, where it is new: it has 76 bytes at most
+-- One edge, where it is new: it takes so many bytes at most
 module _ (at : ℕ) (out : List ℕ) (new : Bool) (e : Numbers) (note : ℕ) (w : Text) where
   abbrev Y : Edge
   Y = other (edge-by e []) note w
@@ -81,7 +86,7 @@ module _ (at : ℕ) (out : List ℕ) (new : Bool) (e : Numbers) (note : ℕ) (w 
   N = record { from = e .from; to = e .to; note = note; core = 0 }
 
   abbrev Put : Written → Type 0
-  Put o = (o ≡ put-items true (put new Y []) (at, out)) × (o .0 ≤ at + 76)
+  Put o = (o ≡ put-items true (put new Y []) (at, out)) × (o .0 ≤ at + offer-bytes)
 
   pub put-one : new ≡ true → Short most-alternative w → (o : Written) → o ≡ put-bytes (row-of (edge-by N (w ++ []))) (at, out) → Put o
   put-one n s o q = (q ∙ ap (λ x. put-bytes (row-of x) (at, out)) is-other ∙ written, small)
@@ -93,11 +98,11 @@ module _ (at : ℕ) (out : List ℕ) (new : Bool) (e : Numbers) (note : ℕ) (w 
       written : put-bytes (row-of Y) (at, out) ≡ put-items true (put new Y []) (at, out)
       written = unfold put-items item pick in sym (ap (λ b. put-items true (put b Y []) (at, out)) n)
 
-      size : row-size Y ≤ 76
+      size : row-size Y ≤ offer-bytes
       size = unfold row-size bytes other in
           (let k = s .long in let z = ap length (encoded-low w (s .low)) in omega (arith, k, z))
 
-      small : o .0 ≤ at + 76
+      small : o .0 ≤ at + offer-bytes
       small = unfold put-bytes in
           (let z = ap (λ (v : Written). v .0) (q ∙ ap (λ x. put-bytes (row-of x) (at, out)) is-other) in omega (arith, z, size, row-length Y))
 
@@ -146,14 +151,17 @@ module _ (e : Numbers) (b : List ℕ) (r : Rule) (o : Offers) (h : Tells (edge-b
   unfolding news
   offers-over l = ap (news (ws ++ take k T)) (drop-of-length-le O {i = k} (omega (arith, l, count-is h)))
 
+  pub texts-over : count-of o ≤ k → take k T ≡ T
+  texts-over l = take-all k T (omega (arith, l, texts-count h))
+
   module _ (l : k < count-of o) where
     abbrev there : drop k O ≡ getD O k d ∷ drop (suc k) O
     there = drop-cons O k d (omega (arith, l, count-is h))
 
     -- the one with this number
-    offered : (n : ℕ) → n ≡ pick (ltb k (o .others)) note-alt note-alt3 → getD O k d ≡ other (edge-by e []) n U
+    numbered : (n : ℕ) → n ≡ pick (ltb k (o .others)) note-alt note-alt3 → getD O k d ≡ other (edge-by e []) n U
     unfolding count-of
-    offered n q = go (decLt k (o .others))
+    numbered n q = go (decLt k (o .others))
       where
         few : pick (o .target) 1 0 ≤ 1
         few = pick-all (λ n. n ≤ 1) (o .target) {x = 1} {y = 0} (omega arith) (omega arith)
@@ -165,6 +173,12 @@ module _ (e : Numbers) (b : List ℕ) (r : Rule) (o : Offers) (h : Tells (edge-b
         go (yes z) = offered-other h k d z ∙ ap (λ m. other (edge-by e b) m U) (alt-note k (o .others) z ∙ sym q) ∙ own
         go (no z) =
             offered-target h k d (omega (arith, l, few)) l ∙ ap (λ m. other (edge-by e b) m U) (alt3-note k (o .others) (omega arith) ∙ sym q) ∙ own
+
+    -- one text more
+    pub texts-on : (w : Text) → w ≡ U → (us : List Text) → (us ++ take k T) ++ w ∷ [] ≡ us ++ take (k + 1) T
+    texts-on w u us = append-assoc us (take k T) (w ∷ [])
+        ∙ ap (λ l. us ++ l) (ap (λ t. take k T ++ t ∷ []) u
+        ∙ sym (take-more T (drop (suc k) T) k U (drop-cons T k [] (omega (arith, l, texts-count h)))))
 
     pub offers-on : (new : Bool) (n : ℕ) (w : Text) (p v : Written) → n ≡ pick (ltb k (o .others)) note-alt note-alt3 → w ≡ U
         → new ≡ not (any (same w) (ws ++ take k T)) → p ≡ put-items true (put new (other (edge-by e []) n w) []) v
@@ -178,15 +192,13 @@ module _ (e : Numbers) (b : List ℕ) (r : Rule) (o : Offers) (h : Tells (edge-b
         c = getD O k d
 
         is-c : c ≡ other (edge-by e []) n w
-        is-c = offered n q ∙ ap (other (edge-by e []) n) (sym u)
+        is-c = numbered n q ∙ ap (other (edge-by e []) n) (sym u)
 
         text-c : c .text ≡ w
         text-c = sym (text-at h k d l) ∙ sym u
 
         more : (ws ++ take k T) ++ c .text ∷ [] ≡ ws ++ take (k + 1) T
-        more = append-assoc ws (take k T) (c .text ∷ [])
-            ∙ ap (λ l. ws ++ l) (ap (λ t. take k T ++ t ∷ []) (text-c ∙ u)
-            ∙ sym (take-more T (drop (suc k) T) k U (drop-cons T k [] (omega (arith, l, texts-count h)))))
+        more = texts-on (c .text) (text-c ∙ u) ws
 
         rest : drop (suc k) O ≡ drop (k + 1) O
         rest = ap (λ i. drop i O) (sym (add-one k))
@@ -211,55 +223,70 @@ module _ (x : Edge) (r : Rule) (ws : List Text) (hold : Bool) where
   unfolding all-offers news
   none-holds h = ap (λ b. news ws (all-offers x (put b r []))) (sym h)
 
+  -- what is marked then
+  pub marked-holds : (cells : List ℕ) → hold ≡ true → Marked (ws ++ texts (offers x r)) cells → Marked (ws ++ texts (all-offers x (put hold r []))) cells
+  unfolding all-offers
+  marked-holds cells h m = subst (λ l. Marked (ws ++ texts l) cells) (sym (append-nil (offers x r)) ∙ ap (λ b. all-offers x (put b r [])) (sym h)) m
+
+  pub marked-not : (cells : List ℕ) → hold ≡ false → Marked ws cells → Marked (ws ++ texts (all-offers x (put hold r []))) cells
+  unfolding all-offers
+  marked-not cells h m = subst (λ l. Marked l cells) (sym (append-nil ws) ∙ ap (λ b. ws ++ texts (all-offers x (put b r []))) (sym h)) m
+
 -- Some rows, `before` of them done
-module _ (x : Edge) (code : Text) (start end : Bool) (rules : List ℕ) (first : ℕ) where
+module _ (x : Edge) (code : Text) (a : Asked) (rules : List ℕ) where
   abbrev hold : Rule → Bool
-  hold = holds-at code start end
+  hold = holds-at code (a .start) (a .end)
 
   -- what is left of them, from `row` on
   abbrev pub left-news : ℕ → ℕ → ℕ → List Edge
-  left-news before row left = news (earlier x code start end rules first before) (all-offers x (holding code start end rules row left))
+  left-news before row left = news (earlier x code a rules before) (all-offers x (holding code (a .start) (a .end) rules row left))
 
-  pub rows-begun : (n : ℕ) → left-news 0 first n ≡ found-by x (holding code start end rules first n)
+  pub rows-begun : (n : ℕ) → left-news 0 (a .first) n ≡ found-by x (holding code (a .start) (a .end) rules (a .first) n)
   unfolding found-by keep all-offers
   rows-begun n = refl
 
   pub rows-over : (before row left : ℕ) → left ≡ 0 → left-news before row left ≡ []
   unfolding news all-offers keep
   rows-over before row left h =
-      ap (λ l. news (earlier x code start end rules first before) (all-offers x (keep hold l))) (none-in rules row left h)
+      ap (λ l. news (earlier x code a rules before) (all-offers x (keep hold l))) (none-in rules row left h)
 
-  module _ (before row left : ℕ) (h : 0 < left) (k : Rows rules row left) (s : rules-from rules row ≡ drop before (rules-from rules first))
+  module _ (before row left : ℕ) (h : 0 < left) (k : Rows rules row left) (s : rules-from rules row ≡ drop before (rules-from rules (a .first)))
       (z : ℕ) (q : z ≡ rule-size (drop row rules)) where
     abbrev r : Rule
     r = rule-of (drop row rules)
 
-    here : drop before (rules-from rules first) ≡ r ∷ rules-from rules (row + z)
+    here : drop before (rules-from rules (a .first)) ≡ r ∷ rules-from rules (row + z)
     here = sym s ∙ rules-next rules row (row-there rules row left h k) ∙ ap (λ n. r ∷ rules-from rules (row + n)) (sym q)
 
-    pub from-next : rules-from rules (row + z) ≡ drop (before + 1) (rules-from rules first)
-    from-next = sym (drop-more (rules-from rules first) (rules-from rules (row + z)) before r here)
+    pub from-next : rules-from rules (row + z) ≡ drop (before + 1) (rules-from rules (a .first))
+    from-next = sym (drop-more (rules-from rules (a .first)) (rules-from rules (row + z)) before r here)
 
     -- one row more is done
-    done : holding code start end rules first (before + 1) ≡ holding code start end rules first before ++ put (hold r) r []
+    done : holding code (a .start) (a .end) rules (a .first) (before + 1) ≡ holding code (a .start) (a .end) rules (a .first) before ++ put (hold r) r []
     unfolding keep
-    done = ap (keep hold) (take-more (rules-from rules first) (rules-from rules (row + z)) before r here)
-        ∙ keep-append hold (rules-in rules first before) (r ∷ [])
+    done = ap (keep hold) (take-more (rules-from rules (a .first)) (rules-from rules (row + z)) before r here)
+        ∙ keep-append hold (rules-in rules (a .first) before) (r ∷ [])
 
-    earlier-on : earlier x code start end rules first (before + 1)
-        ≡ earlier x code start end rules first before ++ texts (all-offers x (put (hold r) r []))
-    earlier-on = ap (λ l. x .text ∷ l)
-        (ap (λ l. texts (all-offers x l)) done
-        ∙ ap texts (all-offers-append x (holding code start end rules first before) (put (hold r) r []))
-        ∙ map-append (λ (c : Edge). c .text) (all-offers x (holding code start end rules first before)) (all-offers x (put (hold r) r [])))
+    offered-on : offered x code a rules (before + 1) ≡ offered x code a rules before ++ texts (holding-offers x code a r)
+    offered-on =
+        ap (λ l. texts (all-offers x l)) done
+        ∙ ap texts (all-offers-append x (holding code (a .start) (a .end) rules (a .first) before) (put (hold r) r []))
+        ∙ map-append (λ (c : Edge). c .text) (all-offers x (holding code (a .start) (a .end) rules (a .first) before)) (holding-offers x code a r)
 
-    to-come : holding code start end rules row left ≡ put (hold r) r [] ++ holding code start end rules (row + z) (left - 1)
+    pub marked-on : (cells : List ℕ) → Marked (offered x code a rules before ++ texts (holding-offers x code a r)) cells
+        → Marked (offered x code a rules (before + 1)) cells
+    marked-on cells m = subst (λ us. Marked us cells) (sym offered-on) m
+
+    earlier-on : earlier x code a rules (before + 1) ≡ earlier x code a rules before ++ texts (holding-offers x code a r)
+    earlier-on = ap (λ l. x .text ∷ l) offered-on
+
+    to-come : holding code (a .start) (a .end) rules row left ≡ put (hold r) r [] ++ holding code (a .start) (a .end) rules (row + z) (left - 1)
     unfolding keep
     to-come = ap (keep hold) (one-in rules row left h k ∙ ap (λ n. r ∷ rules-in rules (row + n) (left - 1)) (sym q))
         ∙ keep-append hold (r ∷ []) (rules-in rules (row + z) (left - 1))
 
     pub rows-on : (w v : Written)
-        → w ≡ put-items true (news (earlier x code start end rules first before) (all-offers x (put (hold r) r []))) v
+        → w ≡ put-items true (news (earlier x code a rules before) (holding-offers x code a r)) v
         → put-items true (left-news (before + 1) (row + z) (left - 1)) w ≡ put-items true (left-news before row left) v
     rows-on w v e =
         ap (put-items true (left-news (before + 1) (row + z) (left - 1))) e
@@ -267,17 +294,17 @@ module _ (x : Edge) (code : Text) (start end : Bool) (rules : List ℕ) (first :
         ∙ ap (λ l. put-items true l v) (sym split)
       where
         ws : List Text
-        ws = earlier x code start end rules first before
+        ws = earlier x code a rules before
 
         A : List Edge
-        A = news ws (all-offers x (put (hold r) r []))
+        A = news ws (holding-offers x code a r)
 
         rest : List Edge
-        rest = all-offers x (holding code start end rules (row + z) (left - 1))
+        rest = all-offers x (holding code (a .start) (a .end) rules (row + z) (left - 1))
 
         split : left-news before row left ≡ A ++ left-news (before + 1) (row + z) (left - 1)
         split =
             ap (λ l. news ws (all-offers x l)) to-come
-            ∙ ap (news ws) (all-offers-append x (put (hold r) r []) (holding code start end rules (row + z) (left - 1)))
-            ∙ news-append ws (all-offers x (put (hold r) r [])) rest
+            ∙ ap (news ws) (all-offers-append x (put (hold r) r []) (holding code (a .start) (a .end) rules (row + z) (left - 1)))
+            ∙ news-append ws (holding-offers x code a r) rest
             ∙ ap (λ l. A ++ news l rest) (sym earlier-on)

@@ -1,1 +1,2 @@
 pub mod News
+pub mod Written

@@ -1,12 +1,44 @@
 -- What is new of the rows of an edge, row by row.
-use mathlib.Core.Bool.{Bool}
-use mathlib.Core.List.{List, _∷_}
-use Prim.Native.Nat.{ℕ}
+use mathlib.Core.List.{List, [], _∷_}
+use mathlib.Core.Path.{_≡_}
+use Prim.Native.Nat.{ℕ, _+_, _*_}
+use lib.ListN.{length, replicate}
+use Rattle.base.specs.Lists.{put}
+use Rattle.definition.specs.Limits.{most-characters, most-rows, most-alternative}
 use Rattle.definition.specs.Texts.{Text}
+use Rattle.definition.specs.Tables.{Rule}
 use Rattle.definition.specs.Edges.{Edge}
+use Rattle.definition.specs.Rules.{holds-at}
 use Rattle.definition.specs.Offers.{all-offers}
-use Rattle.offers.specs.Texts.{texts, holding}
+use Rattle.offers.specs.declared.Asked.{Asked}
+use Rattle.offers.specs.Texts.{texts, most-offers, holding}
 
--- the texts that an edge has, and that the first `n` rows from `first` on offer for it
-abbrev pub earlier : Edge → Text → Bool → Bool → List ℕ → ℕ → ℕ → List Text
-earlier x code start end rules first n = x .text ∷ texts (all-offers x (holding code start end rules first n))
+-- the texts that the first `n` rows of an edge offer it
+abbrev pub offered : Edge → Text → Asked → List ℕ → ℕ → List Text
+offered x code a rules n = texts (all-offers x (holding code (a .start) (a .end) rules (a .first) n))
+
+-- and its own before them
+abbrev pub earlier : Edge → Text → Asked → List ℕ → ℕ → List Text
+earlier x code a rules n = x .text ∷ offered x code a rules n
+
+-- what a rule offers it, where the rule holds
+abbrev pub holding-offers : Edge → Text → Asked → Rule → List Edge
+holding-offers x code a r = all-offers x (put (holds-at code (a .start) (a .end) r) r [])
+
+-- an empty filter
+abbrev pub Blank : List ℕ → Type 0
+Blank cells = cells ≡ replicate (length cells) 0
+
+-- How much of the listing an alternative takes at most, eight bytes and its text; those of a row, those of an edge
+abbrev pub offer-bytes : ℕ
+offer-bytes = 8 + most-alternative
+
+abbrev pub row-bytes : ℕ
+row-bytes = most-offers * offer-bytes
+
+abbrev pub edge-bytes : ℕ
+edge-bytes = most-rows * row-bytes
+
+-- where an edge's alternatives start at most
+abbrev pub most-at : ℕ
+most-at = 4294967296 + most-characters * edge-bytes

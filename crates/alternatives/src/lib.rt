@@ -1,44 +1,59 @@
 // Alternatives (paths.rs, `add_alternatives`), written one behind the other where they fit, or counted: what the rules of
-// each edge of the path offer, where its text is new. They take no slot and no room.
+// each edge of the path offer, where its text is new. They take no slot. Text room that is free keeps a filter of what
+// was offered, so that most texts are known as new without asking the rows before again.
 ghost use mathlib.Core.Bool.{not, true};
-ghost use mathlib.Core.List.{[], _++_};
+ghost use mathlib.Core.List.{List, [], _∷_, _++_};
 ghost use mathlib.Core.Path.{_≡_};
-ghost use Prim.Native.Nat.{_+_, _≤_, _<_};
+ghost use Prim.Native.Nat.{ℕ, _+_, _≤_, _<_};
 ghost use lib.ListN.{length, take, drop};
-ghost use Rattle.base.specs.Lists.{put, any, same};
 ghost use lib.Dec.{ltb};
+ghost use Rattle.base.specs.Lists.{put, any, same};
 ghost use Rattle.base.specs.Pick.{pick};
 ghost use Rattle.base.specs.Alls.{All, Opt};
-ghost use Rattle.definition.specs.Limits.{most-rows, most-alternative};
+ghost use Rattle.definition.specs.Limits.{most-characters, most-rows, most-alternative};
 ghost use Rattle.definition.specs.Shorts.{Low, Short};
 ghost use Rattle.definition.specs.Notes.{note-alt, note-alt3};
-ghost use Rattle.definition.specs.Rules.{holds-at};
 ghost use Rattle.definition.specs.RuleRows.{rule-of};
-ghost use Rattle.definition.specs.Paths.{other, join, path-from};
-ghost use Rattle.definition.specs.Recalled.{Recalls, valid-rules};
-ghost use Rattle.definition.specs.Offers.{offers, all-offers, news, found-by, found-all};
+ghost use Rattle.definition.specs.Paths.{other, join, next};
+ghost use Rattle.definition.specs.Offers.{offers, news, found-by};
 ghost use Rattle.definition.specs.Bounds.{Sound};
-ghost use Rattle.edge.specs.Slots.{edge-by, edge-of, edges-of};
-ghost use Rattle.edge.specs.Stored.{Slot};
+ghost use Rattle.rom.specs.Rom.{text as text-of, Clean};
+ghost use Rattle.edge.specs.Slots.{edge-by, edges-of};
+ghost use Rattle.edge.specs.Stored.{Stored};
 ghost use Rattle.edge.specs.Best.{edge-at, Found};
 ghost use Rattle.listing.specs.Items.{put-items};
+ghost use Rattle.standing.specs.Stands.{Stands};
 ghost use Rattle.words.specs.Found.{Row, Rows};
-ghost use Rattle.words.specs.Given.{text-in, view-of};
-ghost use Rattle.rules.specs.Lent.{Lent, lexicon-of};
+ghost use Rattle.words.specs.Given.{size-in, Prepared};
+ghost use Rattle.marks.specs.Marked.{Marked};
 ghost use Rattle.offers.specs.Texts.{texts, Spoken, holding};
-ghost use Rattle.alternatives.specs.News.{earlier};
+ghost use Rattle.alternatives.specs.News.{offered, earlier, holding-offers, Blank, offer-bytes, row-bytes, edge-bytes, most-at};
+ghost use Rattle.alternatives.specs.Written.{Alternatives, PathAlternatives};
 use edge::BestEdge;
 use edge::Numbers;
+use offers::Asked;
 use offers::Offers;
+use rom::Rom;
+use words::Span;
 
-// Is a text new that is number `k` of what a row offers: not the edge's own, and not offered before, by the rows before
-// or by this one?
-fn is_new(
+// An edge with fewer rows than this is offered so little that no filter is kept.
+const FEW_ROWS: usize = 8;
+
+// The filter's cells for each row.
+const ROW_CELLS: usize = 256;
+
+// Where a listing stands, and how many edges there are and how much text room they take.
+pub struct Listed {
+    pub at: usize,
+    pub count: usize,
+    pub used: usize,
+}
+
+// Was a text offered that is number `k` of what a row offers: by the rows before, or by this one?
+fn is_offered(
     rules: &[u8],
     code: &[u8],
-    start: bool,
-    end: bool,
-    first: usize,
+    asked: Asked,
     before: usize,
     row: usize,
     e: Numbers,
@@ -46,18 +61,44 @@ fn is_new(
     k: usize,
     w: &[u8],
 ) -> bool
-    requires { ⌜ Rows (now rules) first before × Row (drop row (now rules)) × Spoken e (now text) × All Low (now w) ⌝ }
-    ensures { λ r. ⌜ r ≡ not (any (same (now (w .entry))) (earlier (edge-by e (now (text .entry))) (now (code .entry)) start end (now (rules .entry)) first before
+    requires { ⌜ Rows (now rules) (asked .first) before × Row (drop row (now rules)) × Spoken e (now text) ⌝ }
+    ensures { λ r. ⌜ r ≡ any (same (now (w .entry))) (offered (edge-by e (now (text .entry))) (now (code .entry)) asked (now (rules .entry)) before
+        ++ take k (texts (offers (edge-by e (now (text .entry))) (rule-of (drop row (now (rules .entry))))))) ⌝ }
+{
+    if offers::rows_offer(rules, code, asked, before, e, text, w) {
+        return true;
+    }
+    offers::row_offers(rules, row, e, text, k, w)
+}
+
+// Is it new: not the edge's own, and not offered before? What the filter surely doesn't hold was not offered.
+fn is_new(
+    rules: &[u8],
+    code: &[u8],
+    asked: Asked,
+    before: usize,
+    row: usize,
+    e: Numbers,
+    text: &[u8],
+    cells: &[u8],
+    k: usize,
+    w: &[u8],
+) -> bool
+    requires { ⌜ Rows (now rules) (asked .first) before × Row (drop row (now rules)) × Spoken e (now text) × All Low (now w)
+        × Marked (offered (edge-by e (now text)) (now code) asked (now rules) before
+        ++ take k (texts (offers (edge-by e (now text)) (rule-of (drop row (now rules)))))) (now cells) ⌝ }
+    ensures { λ r. ⌜ r ≡ not (any (same (now (w .entry))) (earlier (edge-by e (now (text .entry))) (now (code .entry)) asked (now (rules .entry)) before
         ++ take k (texts (offers (edge-by e (now (text .entry))) (rule-of (drop row (now (rules .entry)))))))) ⌝ }
 {
     if room::same(w, text) {
         return false;
     }
-    if offers::rows_offer(rules, code, start, end, first, before, e, text, w) {
-        return false;
+    let held = marks::may_hold(cells, w);
+    if held {
+        let again = is_offered(rules, code, asked, before, row, e, text, k, w);
+        return !again;
     }
-    let again = offers::row_offers(rules, row, e, text, k, w);
-    !again
+    true
 }
 
 // The annotation of number `k`: an alternative's, or the target's behind them.
@@ -73,7 +114,8 @@ fn note_of(o: Offers, k: usize) -> u8
 // An edge with the span of another, where it is new.
 fn put_new(out: &mut [u8], at: usize, new: bool, e: Numbers, note: u8, w: &[u8]) -> usize
     requires { ⌜ (at < 9223372036854775808) × Short most-alternative (now w) ⌝ }
-    ensures { λ r. ⌜ ((r, now (out .exit)) ≡ put-items true (put new (other (edge-by e []) note (now (w .entry))) []) (at, now (out .entry))) × (r ≤ at + 76) ⌝ }
+    ensures { λ r. ⌜ ((r, now (out .exit)) ≡ put-items true (put new (other (edge-by e []) note (now (w .entry))) []) (at, now (out .entry)))
+        × (r ≤ at + offer-bytes) ⌝ }
 {
     if new {
         let other = Numbers {
@@ -87,34 +129,37 @@ fn put_new(out: &mut [u8], at: usize, new: bool, e: Numbers, note: u8, w: &[u8])
     at
 }
 
-// What a row offers that is new.
+// What a row offers that is new; all of it is marked.
 fn put_offers(
     out: &mut [u8],
     at: usize,
     rules: &[u8],
     code: &[u8],
-    start: bool,
-    end: bool,
-    first: usize,
+    asked: Asked,
     before: usize,
     row: usize,
     e: Numbers,
     text: &[u8],
+    cells: &mut [u8],
 ) -> usize
-    requires { ⌜ Rows (now rules) first before × Row (drop row (now rules)) × Spoken e (now text) × (at < 4611686018427387904) ⌝ }
-    ensures { λ r. ⌜ ((r, now (out .exit)) ≡ put-items true (news (earlier (edge-by e (now (text .entry))) (now (code .entry)) start end (now (rules .entry)) first before)
-        (offers (edge-by e (now (text .entry))) (rule-of (drop row (now (rules .entry)))))) (at, now (out .entry))) × (r ≤ at + 19456) ⌝ }
+    requires { ⌜ Rows (now rules) (asked .first) before × Row (drop row (now rules)) × Spoken e (now text) × (at ≤ most-at + edge-bytes)
+        × Marked (offered (edge-by e (now text)) (now code) asked (now rules) before) (now cells) ⌝ }
+    ensures { λ r. ⌜ ((r, now (out .exit)) ≡ put-items true (news (earlier (edge-by e (now (text .entry))) (now (code .entry)) asked (now (rules .entry)) before)
+        (offers (edge-by e (now (text .entry))) (rule-of (drop row (now (rules .entry)))))) (at, now (out .entry))) × (r ≤ at + row-bytes)
+        × Marked (offered (edge-by e (now (text .entry))) (now (code .entry)) asked (now (rules .entry)) before
+        ++ texts (offers (edge-by e (now (text .entry))) (rule-of (drop row (now (rules .entry)))))) (now (cells .exit)) ⌝ }
 {
     let o = offers::offers_of(rules, row, e, text);
     let n = offers::offers_count(o);
     let mut to = at;
     let mut k: usize = 0;
     while k < n {
-        let offered = offers::offer_text(rules, row, o, e, text, k);
-        let bytes = offered.bytes;
-        let w = &bytes[..offered.len];
-        let new = is_new(rules, code, start, end, first, before, row, e, text, k, w);
+        let offer = offers::offer_text(rules, row, o, e, text, k);
+        let bytes = offer.bytes;
+        let w = &bytes[..offer.len];
+        let new = is_new(rules, code, asked, before, row, e, text, cells, k, w);
         to = put_new(out, to, new, e, note_of(o, k), w);
+        marks::mark(cells, w);
         k += 1;
     }
     to
@@ -126,229 +171,232 @@ fn put_holding(
     at: usize,
     rules: &[u8],
     code: &[u8],
-    start: bool,
-    end: bool,
-    first: usize,
+    asked: Asked,
     before: usize,
     row: usize,
     e: Numbers,
     text: &[u8],
+    cells: &mut [u8],
 ) -> usize
-    requires { ⌜ Rows (now rules) first before × Row (drop row (now rules)) × Spoken e (now text) × (at < 4611686018427387904) ⌝ }
-    ensures { λ r. ⌜ ((r, now (out .exit)) ≡ put-items true (news (earlier (edge-by e (now (text .entry))) (now (code .entry)) start end (now (rules .entry)) first before)
-        (all-offers (edge-by e (now (text .entry))) (put (holds-at (now (code .entry)) start end (rule-of (drop row (now (rules .entry))))) (rule-of (drop row (now (rules .entry)))) [])))
-        (at, now (out .entry))) × (r ≤ at + 19456) ⌝ }
+    requires { ⌜ Rows (now rules) (asked .first) before × Row (drop row (now rules)) × Spoken e (now text) × (at ≤ most-at + edge-bytes)
+        × Marked (offered (edge-by e (now text)) (now code) asked (now rules) before) (now cells) ⌝ }
+    ensures { λ r. ⌜ ((r, now (out .exit)) ≡ put-items true (news (earlier (edge-by e (now (text .entry))) (now (code .entry)) asked (now (rules .entry)) before)
+        (holding-offers (edge-by e (now (text .entry))) (now (code .entry)) asked (rule-of (drop row (now (rules .entry)))))) (at, now (out .entry))) × (r ≤ at + row-bytes)
+        × Marked (offered (edge-by e (now (text .entry))) (now (code .entry)) asked (now (rules .entry)) before
+        ++ texts (holding-offers (edge-by e (now (text .entry))) (now (code .entry)) asked (rule-of (drop row (now (rules .entry)))))) (now (cells .exit)) ⌝ }
 {
-    if rules::holds(rules, code, row, start, end) {
-        return put_offers(
-            out,
-            at,
-            rules,
-            code,
-            start,
-            end,
-            first,
-            before,
-            row,
-            e,
-            text,
-        );
+    if rules::holds(rules, code, row, asked.start, asked.end) {
+        return put_offers(out, at, rules, code, asked, before, row, e, text, cells);
     }
     at
 }
 
-// What some rows offer that is new, whose rules hold.
+// What some rows offer that is new, whose rules hold. The filter is empty at first: one that held an earlier edge's texts
+// would answer no less truly, but seldom `false`.
 fn put_rows(
     out: &mut [u8],
     at: usize,
     rules: &[u8],
     code: &[u8],
-    start: bool,
-    end: bool,
-    first: usize,
+    asked: Asked,
     rows: usize,
     e: Numbers,
     text: &[u8],
+    cells: &mut [u8],
 ) -> usize
-    requires { ⌜ Rows (now rules) first rows × (rows ≤ most-rows) × Spoken e (now text) × (at < 2305843009213693952) ⌝ }
-    ensures { λ r. ⌜ ((r, now (out .exit)) ≡ put-items true (found-by (edge-by e (now (text .entry))) (holding (now (code .entry)) start end (now (rules .entry)) first rows)) (at, now (out .entry)))
-        × (r ≤ at + 159383552) ⌝ }
+    requires { ⌜ Rows (now rules) (asked .first) rows × (rows ≤ most-rows) × Spoken e (now text) × (at ≤ most-at) × Blank (now cells) ⌝ }
+    ensures { λ r. ⌜ ((r, now (out .exit)) ≡ put-items true (found-by (edge-by e (now (text .entry)))
+        (holding (now (code .entry)) (asked .start) (asked .end) (now (rules .entry)) (asked .first) rows)) (at, now (out .entry)))
+        × (r ≤ at + edge-bytes) ⌝ }
 {
     let mut to = at;
-    let mut row = first;
+    let mut row = asked.first;
     let mut before: usize = 0;
     while before < rows {
-        to = put_holding(
-            out,
-            to,
-            rules,
-            code,
-            start,
-            end,
-            first,
-            before,
-            row,
-            e,
-            text,
-        );
+        to = put_holding(out, to, rules, code, asked, before, row, e, text, cells);
         row += rulerow::size(rules, row);
         before += 1;
     }
     to
 }
 
-// The alternatives of the edge in a slot, by the rules that are valid for its span.
+// The same with cells of any content.
+fn put_filtered(
+    out: &mut [u8],
+    at: usize,
+    rules: &[u8],
+    code: &[u8],
+    asked: Asked,
+    rows: usize,
+    e: Numbers,
+    text: &[u8],
+    cells: &mut [u8],
+) -> usize
+    requires { ⌜ Rows (now rules) (asked .first) rows × (rows ≤ most-rows) × Spoken e (now text) × (at ≤ most-at) ⌝ }
+    ensures { λ r. ⌜ ((r, now (out .exit)) ≡ put-items true (found-by (edge-by e (now (text .entry)))
+        (holding (now (code .entry)) (asked .start) (asked .end) (now (rules .entry)) (asked .first) rows)) (at, now (out .entry)))
+        × (r ≤ at + edge-bytes) ⌝ }
+{
+    room::clear(cells);
+    put_rows(out, at, rules, code, asked, rows, e, text, cells)
+}
+
+// How many of so many free bytes the filter gets.
+fn filter_len(rows: usize, free: usize) -> usize
+    requires { ⌜ rows ≤ most-rows ⌝ }
+    ensures { λ r. ⌜ r ≤ free ⌝ }
+{
+    if rows < FEW_ROWS {
+        return 0;
+    }
+    let most = rows * ROW_CELLS;
+    if most < free {
+        return most;
+    }
+    free
+}
+
+// The alternatives of an edge, by the rules that are valid for its span.
 fn put_edge_alternatives(
     out: &mut [u8],
     at: usize,
     rules: &[u8],
-    index: &[u32],
-    classes: &[u8],
-    alphas: &[u8],
+    ready: &[u32],
     code: &[u8],
     line: &[u32],
-    kinds: &[u32],
-    n: usize,
-    slots: &[u8],
-    room: &[u8],
-    count: usize,
-    starts: &mut [u8],
-    slot: usize,
+    places: &mut [u32],
+    free: &mut [u8],
+    e: Numbers,
+    text: Rom,
 ) -> usize
-    requires { ⌜ Lent (now rules) (now index) (now classes) (now alphas) (now line) (now kinds) (now slots) (now room) n count
-        × Slot (now room) (length (now room)) (drop slot (now slots)) × Sound n (edge-of (now room) (drop slot (now slots))) × (at < 2305843009213693952) ⌝ }
-    ensures { λ r. ⌜ ((r, now (out .exit)) ≡ put-items true (found-by (edge-of (now (room .entry)) (drop slot (now (slots .entry))))
-        (valid-rules (lexicon-of (now (rules .entry)) (now (classes .entry)) (now (code .entry))) (text-in (now (line .entry)) n)
-        (view-of (now (classes .entry)) (now (slots .entry)) (now (room .entry)) count) (now (starts .entry))
-        (edge-of (now (room .entry)) (drop slot (now (slots .entry))) .from) (edge-of (now (room .entry)) (drop slot (now (slots .entry))) .to))) (at, now (out .entry)))
-        × Recalls (lexicon-of (now (rules .entry)) (now (classes .entry)) (now (code .entry))) (text-in (now (line .entry)) n)
-        (view-of (now (classes .entry)) (now (slots .entry)) (now (room .entry)) count) (now (starts .exit)) (now (starts .entry))
-        × (r ≤ at + 159383552) ⌝ }
+    requires { ⌜ Prepared (now rules) (now ready) × Clean text × Spoken e (text-of text) × (e .from < e .to) × (e .to ≤ size-in (now line))
+        × (at ≤ most-at) ⌝ }
+    ensures { λ r. ⌜ Alternatives (now (rules .entry)) (now (ready .entry)) (now (code .entry)) (now (line .entry)) (now (places .entry)) (now (places .exit))
+        (edge-by e (text-of text) ∷ []) (at, now (out .entry)) (r, now (out .exit)) × (r ≤ at + edge-bytes) ⌝ }
 {
-    let e = edge::numbers_at(slots, slot);
-    let text = edge::edge_text(slots, room, slot);
-    let start = words::is_at_start_of_word(
-        classes,
-        alphas,
-        kinds,
-        slots,
-        room,
-        count,
-        starts,
-        e.from,
-    );
-    let end = words::is_at_end_of_word(rules, index, alphas, line, kinds, n, e.to);
-    let found = dicts::find_rows(rules, index, &line[e.from + 1..e.to + 1]);
-    put_rows(
+    let start = words::is_at_start_of_word(line, places, e.from);
+    let end = words::is_at_end_of_word(rules, ready, line, e.to);
+    let span = Span {
+        from: e.from,
+        to: e.to,
+    };
+    let look = words::look_up(rules, ready, line, span);
+    let asked = Asked {
+        start,
+        end,
+        first: look.first,
+    };
+    let cells = filter_len(look.count, free.len());
+    let bytes = text.bytes;
+    put_filtered(
         out,
         at,
         rules,
         code,
-        start,
-        end,
-        found.first,
-        found.count,
+        asked,
+        look.count,
         e,
-        text,
+        &bytes[..text.len],
+        &mut free[..cells],
     )
 }
 
-// Those of the edge that was answered, if any.
+// Those of the edge that was answered, if any. Its text is copied, so that the room behind the texts can be lent.
 fn put_best_alternatives(
     out: &mut [u8],
-    at: usize,
     rules: &[u8],
-    index: &[u32],
-    classes: &[u8],
-    alphas: &[u8],
+    ready: &[u32],
     code: &[u8],
     line: &[u32],
-    kinds: &[u32],
-    n: usize,
     slots: &[u8],
-    room: &[u8],
-    count: usize,
-    starts: &mut [u8],
+    room: &mut [u8],
+    places: &mut [u32],
+    listed: Listed,
     best: BestEdge,
 ) -> usize
-    requires { ⌜ Lent (now rules) (now index) (now classes) (now alphas) (now line) (now kinds) (now slots) (now room) n count
-        × Found count best × Opt (Sound n) (edge-at (now room) (now slots) best) × (at < 2305843009213693952) ⌝ }
-    ensures { λ r. ⌜ ((r, now (out .exit)) ≡ put-items true (found-all (lexicon-of (now (rules .entry)) (now (classes .entry)) (now (code .entry))) (text-in (now (line .entry)) n)
-        (view-of (now (classes .entry)) (now (slots .entry)) (now (room .entry)) count) (now (starts .entry))
-        (join (edge-at (now (room .entry)) (now (slots .entry)) best) [])) (at, now (out .entry)))
-        × Recalls (lexicon-of (now (rules .entry)) (now (classes .entry)) (now (code .entry))) (text-in (now (line .entry)) n)
-        (view-of (now (classes .entry)) (now (slots .entry)) (now (room .entry)) count) (now (starts .exit)) (now (starts .entry))
-        × (r ≤ at + 159383552) ⌝ }
+    requires { ⌜ Prepared (now rules) (now ready) × Stored (now slots) (now room) (listed .count) (listed .used) × Found (listed .count) best
+        × Opt (Sound (size-in (now line))) (edge-at (now room) (now slots) best) × (listed .at ≤ most-at) ⌝ }
+    ensures { λ r. ⌜ Alternatives (now (rules .entry)) (now (ready .entry)) (now (code .entry)) (now (line .entry)) (now (places .entry)) (now (places .exit))
+        (join (edge-at (now (room .entry)) (now (slots .entry)) best) []) (listed .at, now (out .entry)) (r, now (out .exit)) × (r ≤ listed .at + edge-bytes)
+        × (take (listed .used) (now (room .exit)) ≡ take (listed .used) (now (room .entry))) ⌝ }
 {
     match best {
-        BestEdge::At(slot) => put_edge_alternatives(
-            out,
-            at,
-            rules,
-            index,
-            classes,
-            alphas,
-            code,
-            line,
-            kinds,
-            n,
-            slots,
-            room,
-            count,
-            starts,
-            slot,
-        ),
-        BestEdge::Nothing => at,
+        BestEdge::At(slot) => {
+            let e = edge::numbers_at(slots, slot);
+            let text = rom::bytes_of(edge::edge_text(slots, room, slot));
+            let used = listed.used;
+            put_edge_alternatives(
+                out,
+                listed.at,
+                rules,
+                ready,
+                code,
+                line,
+                places,
+                &mut room[used..],
+                e,
+                text,
+            )
+        }
+        BestEdge::Nothing => listed.at,
+    }
+}
+
+// Where the path goes on: at its end, a number of two bytes, or one character on where there is none.
+fn next_from(slots: &[u8], best: BestEdge, p: usize) -> usize
+    requires { ⌜ p < 9223372036854775808 ⌝ }
+    ensures { λ r. ⌜ ((room : List ℕ) → r ≡ next (edge-at room (now (slots .entry)) best) p) × (r ≤ p + 65536) ⌝ }
+{
+    match best {
+        BestEdge::At(slot) => base::two(slots, slot, 2) as usize,
+        BestEdge::Nothing => p + 1,
     }
 }
 
 // The alternatives of the path, edge by edge.
 pub fn put_alternatives(
     out: &mut [u8],
-    at: usize,
     rules: &[u8],
-    index: &[u32],
-    classes: &[u8],
-    alphas: &[u8],
+    ready: &[u32],
     code: &[u8],
     line: &[u32],
-    kinds: &[u32],
-    n: usize,
     slots: &[u8],
-    room: &[u8],
-    count: usize,
-    starts: &mut [u8],
+    room: &mut [u8],
+    places: &mut [u32],
+    starts: &[u32],
+    listed: Listed,
 ) -> usize
-    requires { ⌜ Lent (now rules) (now index) (now classes) (now alphas) (now line) (now kinds) (now slots) (now room) n count
-        × All (Sound n) (edges-of (now room) count (now slots)) × (at < 4294967296) ⌝ }
-    ensures { λ r. ⌜ (r, now (out .exit)) ≡ put-items true (found-all (lexicon-of (now (rules .entry)) (now (classes .entry)) (now (code .entry))) (text-in (now (line .entry)) n)
-        (view-of (now (classes .entry)) (now (slots .entry)) (now (room .entry)) count) (now (starts .entry))
-        (path-from n 0 (edges-of (now (room .entry)) count (now (slots .entry))))) (at, now (out .entry)) ⌝ }
+    requires { ⌜ Prepared (now rules) (now ready) × Stored (now slots) (now room) (listed .count) (listed .used) × Stands (now slots) (now starts) (listed .count)
+        × (length (now starts) ≡ size-in (now line) + 1) × All (Sound (size-in (now line))) (edges-of (now room) (listed .count) (now slots))
+        × (size-in (now line) ≤ most-characters) × (listed .at < 4294967296) ⌝ }
+    ensures { λ r. ⌜ PathAlternatives (now (rules .entry)) (now (ready .entry)) (now (code .entry)) (now (line .entry)) (now (places .entry))
+        (edges-of (now (room .entry)) (listed .count) (now (slots .entry))) (listed .at, now (out .entry)) (r, now (out .exit)) ⌝ }
 {
-    let mut to = at;
+    let n = words::text_len(line);
+    let count = listed.count;
+    let used = listed.used;
+    let mut to = listed.at;
     let mut p: usize = 0;
-    let mut left = n;
-    while 0 < left {
-        let best = edge::best_right_neighbor_edge(slots, count, p);
+    while p < n {
+        let best = standing::best_right_neighbor_edge(slots, starts, count, p);
+        let here = Listed {
+            at: to,
+            count,
+            used,
+        };
         to = put_best_alternatives(
             out,
-            to,
             rules,
-            index,
-            classes,
-            alphas,
+            ready,
             code,
             line,
-            kinds,
-            n,
             slots,
             room,
-            count,
-            starts,
+            places,
+            here,
             best,
         );
-        p = paths::next_from(slots, best, p);
-        left -= 1;
+        p = next_from(slots, best, p);
     }
     to
 }

@@ -1,3 +1,4 @@
 pub mod Rightness
 pub mod Search
 pub mod Answers
+pub mod Halves

@@ -1,2 +1,3 @@
 pub mod Told
 pub mod Packing
+pub mod Plain

@@ -45,8 +45,3 @@ from k (suc n) = k ∷ from (k + 1) n
 -- of each character below 128 whether it is a letter or a mark
 unfoldable pub alphas-of : List ℕ → List ℕ
 alphas-of b = map (λ c. bit (alpha (classes-of b) c)) (from 0 128)
-
--- what was told of a right table
-pub record Alphas (b x : List ℕ) : Type 0 where
-  pub fine : Fine b
-  pub is : x ≡ alphas-of b

@@ -1,13 +1,15 @@
 // The class table (dicts/model.rs, dicts/mod.rs): its check, and what it says of a character.
 ghost use mathlib.Core.Path.{_≡_};
+ghost use mathlib.Core.List.{_++_};
 ghost use Prim.Native.Nat.{_+_, _*_, _/_, _%_, _≤_, _<_};
-ghost use lib.ListN.{length, drop, getD};
+ghost use lib.ListN.{length, drop, getD, take};
 ghost use Rattle.base.specs.Bits.{bit, flagged};
 ghost use Rattle.definition.specs.ClassRows.{class-fits, space-right, latin-right, class-right};
 ghost use Rattle.definition.specs.ClassRows.{class-fault, classes-of};
 ghost use Rattle.definition.specs.Classes.{plain, class, alpha};
 ghost use Rattle.blocks.specs.Faults.{fault-place};
-ghost use Rattle.classes.specs.Told.{Fine, seen, Ranged, packed, kinds-of, alphas-of, Alphas};
+ghost use Rattle.classes.specs.Told.{Fine, seen, Ranged, packed, kinds-of, alphas-of};
+ghost use Rattle.classes.specs.Plain.{Plain, fault-from};
 use blocks::TableRead;
 
 // Scripts that the engine asks for.
@@ -109,6 +111,73 @@ fn class_right(classes: &[u8], row: usize, low: u32) -> bool
     class_fits(classes, row, low) && (space_right(classes, row) && latin_right(classes, row))
 }
 
+// A right row of the commonest kind: a character past the Latin letters, not below `low`, and below the surrogates. The
+// answer is the character past its own, or 0 for any other row.
+fn plain_class(classes: &[u8], row: usize, low: u32) -> u32
+    requires { ⌜ row ≤ length (now classes) ⌝ }
+    ensures { λ r. ⌜ (0 < r → Plain low (drop row (now (classes .entry))) r) ⌝ }
+{
+    if classes.len() - row < 6 {
+        return 0;
+    }
+    let c = base::three(classes, row, 0);
+    if c < low {
+        return 0;
+    }
+    if c < 123 {
+        return 0;
+    }
+    if 0xD7FF < c {
+        return 0;
+    }
+    if 7 < base::at(classes, row, 3) {
+        return 0;
+    }
+    if 127 < base::at(classes, row, 4) {
+        return 0;
+    }
+    if 127 < base::at(classes, row, 5) {
+        return 0;
+    }
+    c + 1
+}
+
+// Where the check of a class table stands: at a row, with as many rows left, characters from `low` on to come.
+pub struct Walk {
+    pub at: usize,
+    pub left: u32,
+    pub low: u32,
+}
+
+// Past the rows of the commonest kind that stand one after another.
+fn plain_classes(classes: &[u8], at: usize, left: u32, low: u32) -> Walk
+    requires { ⌜ at ≤ length (now classes) ⌝ }
+    ensures { λ r. ⌜ (fault-from (now (classes .entry)) (r .at) (r .left) (r .low) ≡ fault-from (now (classes .entry)) at left low)
+        × (at ≤ r .at) × (r .at ≤ length (now (classes .entry))) ⌝ }
+{
+    let mut here = at;
+    let mut more = left;
+    let mut least = low;
+    while 0 < more {
+        let next = plain_class(classes, here, least);
+        if next == 0 {
+            return Walk {
+                at: here,
+                left: more,
+                low: least,
+            };
+        }
+        least = next;
+        here += 6;
+        more -= 1;
+    }
+    Walk {
+        at: here,
+        left: more,
+        low: least,
+    }
+}
+
 // The first fault of a class table. No more than 8192 rows, and characters rise.
 pub fn check_classes(classes: &[u8]) -> TableRead
     ensures { λ r. ⌜ fault-place r ≡ class-fault (now (classes .entry)) ⌝ }
@@ -122,9 +191,12 @@ pub fn check_classes(classes: &[u8]) -> TableRead
                 return TableRead::Fault(at);
             }
             if class_right(classes, at, low) {
-                low = base::three(classes, at, 0) + 1;
-                at += 6;
-                left -= 1;
+                let past = base::three(classes, at, 0) + 1;
+                let next = at + 6;
+                let walk = plain_classes(classes, next, left - 1, past);
+                at = walk.at;
+                left = walk.left;
+                low = walk.low;
             } else {
                 return TableRead::Fault(at);
             }
@@ -230,25 +302,28 @@ fn next_kind(classes: &[u8], c: u32, known: u32, kind: u32) -> u32
     kind_of(classes, c)
 }
 
-// The classes of a text's characters, one for each.
-pub fn classify(classes: &[u8], chars: &[u32], kinds: &mut [u32])
-    requires { ⌜ Fine (now classes) × (length (now kinds) ≡ length (now chars)) ⌝ }
-    ensures { λ r. ⌜ now (kinds .exit) ≡ kinds-of (now (classes .entry)) (now (chars .entry)) ⌝ }
+// The class of each number in the first half goes into the second half: a line's characters, and their classes behind
+// them.
+pub fn classify(classes: &[u8], line: &mut [u32])
+    requires { ⌜ Fine (now classes) × (length (now line) % 2 ≡ 0) ⌝ }
+    ensures { λ _. ⌜ now (line .exit) ≡ take (length (now (line .entry)) / 2) (now (line .entry))
+        ++ kinds-of (now (classes .entry)) (take (length (now (line .entry)) / 2) (now (line .entry))) ⌝ }
 {
+    let half = line.len() / 2;
     let mut known: u32 = 32;
     let mut kind = kind_of(classes, known);
     let mut i: usize = 0;
-    while i < chars.len() {
-        let c = chars[i];
+    while i < half {
+        let c = line[i];
         kind = next_kind(classes, c, known, kind);
-        kinds[i] = kind;
+        line[half + i] = kind;
         known = c;
         i += 1;
     }
 }
 
 // 1 for a letter or a mark, 0 for any other character.
-fn alpha_byte(classes: &[u8], c: u32) -> u8
+fn alpha_bit(classes: &[u8], c: u32) -> u32
     requires { ⌜ Fine (now classes) ⌝ }
     ensures { λ r. ⌜ r ≡ bit (alpha (classes-of (now (classes .entry))) c) ⌝ }
 {
@@ -262,25 +337,14 @@ fn alpha_byte(classes: &[u8], c: u32) -> u8
     1
 }
 
-// Of each ASCII character whether it is a letter or a mark: most texts of edges are ASCII.
-pub fn classify_ascii(classes: &[u8], alphas: &mut [u8])
+// Of each ASCII character whether it is a letter or a mark: targets are ASCII.
+pub fn classify_ascii(classes: &[u8], alphas: &mut [u32])
     requires { ⌜ Fine (now classes) × (length (now alphas) ≡ 128) ⌝ }
     ensures { λ r. ⌜ now (alphas .exit) ≡ alphas-of (now (classes .entry)) ⌝ }
 {
     let mut i: u32 = 0;
     while i < 128 {
-        alphas[i as usize] = alpha_byte(classes, i);
+        alphas[i as usize] = alpha_bit(classes, i);
         i += 1;
     }
-}
-
-// Is a character a letter or a mark? Of ASCII it was told once; the others are looked for.
-pub fn is_letter(classes: &[u8], alphas: &[u8], c: u32) -> bool
-    requires { ⌜ Alphas (now classes) (now alphas) ⌝ }
-    ensures { λ r. ⌜ r ≡ alpha (classes-of (now (classes .entry))) c ⌝ }
-{
-    if c < 128 {
-        return base::byte(alphas, c as usize) == 1;
-    }
-    alpha_byte(classes, c) == 1
 }

@@ -50,6 +50,8 @@ pub mod VowelBounds
 pub mod ExpandBounds
 pub mod Cores
 pub mod Bounds
+-- and it starts at its span's start or up to two characters before
+pub mod Near
 pub mod Promises
 -- the path covers the text
 pub mod Cover

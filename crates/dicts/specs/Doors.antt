@@ -83,6 +83,10 @@ module _ (b w : List ℕ) (at : ℕ) where
     later-above e = All-map (λ (y : Rule) r. above-later (rule-source (drop at b)) (y .source) w e r)
         (rules-from b (at + rule-size (drop at b))) (sorted-later l s)
 
+    pub all-above : compared (rule-source (drop at b)) w ≡ Above → All (λ y. compared (y .source) w ≡ Above) (rules-from b at)
+    unfolding rule-of
+    all-above e = rw (rules-next b at l) (e, later-above e)
+
     pub none-above : compared (rule-source (drop at b)) w ≡ Above → with-source w (rules-from b at) ≡ []
     unfolding with-source keep rule-of
     none-above e = rw (rules-next b at l, unlike (rule-source (drop at b)) w (λ z. let y : _≡_ {A = ℕ} 0 1 = cc in omega arith))

@@ -1,8 +1,11 @@
+pub mod Turns
 pub mod Marks
+pub mod Plain
 pub mod Order
 pub mod Sorted
 pub mod Doors
 pub mod Index
 pub mod Seek
+pub mod Longer
 pub mod Entries
 pub mod Starts

@@ -88,13 +88,13 @@ below-is Below e = refl
 below-is Equal e = absurd (true≢false (sym e))
 below-is Above e = absurd (true≢false (sym e))
 
-equal-is : (o : Order) → is-equal o ≡ true → o ≡ Equal
+pub equal-is : (o : Order) → is-equal o ≡ true → o ≡ Equal
 unfolding is-equal
 equal-is Below e = absurd (true≢false (sym e))
 equal-is Equal e = refl
 equal-is Above e = absurd (true≢false (sym e))
 
-above-is : (o : Order) → is-below o ≡ false → is-equal o ≡ false → o ≡ Above
+pub above-is : (o : Order) → is-below o ≡ false → is-equal o ≡ false → o ≡ Above
 unfolding is-below is-equal
 above-is Below e f = absurd (true≢false e)
 above-is Equal e f = absurd (true≢false f)
@@ -167,7 +167,7 @@ module _ (b w : List ℕ) where
   Rest at = take (run b w (offsets-from b at)) (rules-from b at) ≡ with-source w (rules-from b at)
 
   -- past an equal row nothing is below
-  next-not-below : (at : ℕ) → at < length b → Sorted b at → order-at b w at ≡ Equal
+  pub next-not-below : (at : ℕ) → at < length b → Sorted b at → order-at b w at ≡ Equal
       → at + rule-size (drop at b) < length b → is-below (order-at b w (at + rule-size (drop at b))) ≡ false
   unfolding order-at
   next-not-below at l s e k = go (is-below (order-at b w next)) refl

@@ -2,13 +2,18 @@
 ghost use mathlib.Core.Path.{_≡_};
 ghost use Prim.Native.Nat.{_+_, _<_, _≤_};
 ghost use lib.ListN.{length, getD, drop};
-ghost use Rattle.definition.specs.RuleRows.{rule-source, rule-right, rule-fault, rules-of};
+ghost use Prim.Native.Nat.{_-_};
+ghost use lib.ListN.{take};
+ghost use Rattle.base.specs.Lists.{all};
+ghost use Rattle.definition.specs.RuleRows.{printable, rule-source, rule-right, rule-fault, rules-of};
 ghost use Rattle.blocks.specs.Faults.{fault-place};
 ghost use Rattle.dicts.specs.Marks.{mark-of};
+ghost use Rattle.dicts.specs.Plain.{Plain, Rising, fault-from};
 ghost use Rattle.dicts.specs.Order.{compared};
 ghost use Rattle.dicts.specs.Index.{index-entries, offsets-from, row-offsets, entered, indexed, Ready};
 ghost use Rattle.dicts.specs.Seek.{is-below, is-equal, order-at, seek, first-at, equal-rows};
 ghost use Rattle.dicts.specs.Entries.{entry-below};
+ghost use Rattle.dicts.specs.Longer.{has-longer};
 ghost use Rattle.dicts.specs.Doors.{is-start};
 ghost use Rattle.base.specs.Lists.{starts};
 use blocks::TableRead;
@@ -25,6 +30,123 @@ pub enum Order {
 pub struct Rows {
     pub first: usize,
     pub count: usize,
+}
+
+// What the table has of a text: the rows with this source, where the first is and how many; and whether a longer source
+// starts with it.
+pub struct Found {
+    pub first: usize,
+    pub count: usize,
+    pub more: bool,
+}
+
+// Whether all bytes from a place to another may stand in a target text.
+fn all_printable(s: &[u8], from: usize, to: usize) -> bool
+    requires { ⌜ (from ≤ to) × (to ≤ length (now s)) ⌝ }
+    ensures { λ r. ⌜ r ≡ all printable (take (to - from) (drop from (now (s .entry)))) ⌝ }
+{
+    let mut at = from;
+    while at < to {
+        if rowread::printable(base::byte(s, at)) {
+            at += 1;
+        } else {
+            return false;
+        }
+    }
+    true
+}
+
+// A right row of the commonest kind: one character below the surrogates, not below `low`, no codes, a target, no
+// alternatives. The answer is the character past its own, or 0 for a row of another kind, which is read field by field.
+fn plain_row(rules: &[u8], row: usize, low: u32) -> u32
+    requires { ⌜ row ≤ length (now rules) ⌝ }
+    ensures { λ r. ⌜ (0 < r → Plain low (drop row (now (rules .entry))) r) ⌝ }
+{
+    if rules.len() - row < 12 {
+        return 0;
+    }
+    if rulerow::source_len(rules, row) != 1 {
+        return 0;
+    }
+    if base::at(rules, row, 9) != 0 {
+        return 0;
+    }
+    if base::at(rules, row, 2) / 32 != 1 {
+        return 0;
+    }
+    let c = base::three(rules, row, 6);
+    if c < low {
+        return 0;
+    }
+    if 0xD7FF < c {
+        return 0;
+    }
+    let n = base::at(rules, row, 10) as usize;
+    if 64 < n {
+        return 0;
+    }
+    if rulerow::size(rules, row) != 12 + n {
+        return 0;
+    }
+    if rules.len() - row < 12 + n {
+        return 0;
+    }
+    if base::at(rules, row, 11 + n) != 0 {
+        return 0;
+    }
+    let from = row + 11;
+    let to = from + n;
+    if all_printable(rules, from, to) {
+        return c + 1;
+    }
+    0
+}
+
+// Where the check of a rule table stands: at a row, with as many rows left, after the row at `old` unless it is the first.
+// From `low` on a first character rises.
+pub struct Walk {
+    pub at: usize,
+    pub left: u32,
+    pub old: usize,
+    pub first: bool,
+    pub low: u32,
+}
+
+// Past the rows of the commonest kind that stand one after another.
+fn plain_rows(rules: &[u8], at: usize, left: u32, old: usize, first: bool, low: u32) -> Walk
+    requires { ⌜ (at ≤ length (now rules)) × Rising (mark-of (now rules) old first) low ⌝ }
+    ensures { λ r. ⌜ (fault-from (now (rules .entry)) (r .at) (r .left) (r .old) (r .first) ≡ fault-from (now (rules .entry)) at left old first)
+        × Rising (mark-of (now (rules .entry)) (r .old) (r .first)) (r .low) × (at ≤ r .at) × (r .at ≤ length (now (rules .entry))) ⌝ }
+{
+    let mut here = at;
+    let mut more = left;
+    let mut last = old;
+    let mut none = first;
+    let mut least = low;
+    while 0 < more {
+        let next = plain_row(rules, here, least);
+        if next == 0 {
+            return Walk {
+                at: here,
+                left: more,
+                old: last,
+                first: none,
+                low: least,
+            };
+        }
+        last = here;
+        none = false;
+        least = next;
+        here += rulerow::size(rules, here);
+        more -= 1;
+    }
+    Walk {
+        at: here,
+        left: more,
+        old: last,
+        first: none,
+        low: least,
+    }
 }
 
 // Whether a row is right after the one at `old`, or as the first.
@@ -60,10 +182,13 @@ pub fn check_rules(rules: &[u8]) -> TableRead
                 return TableRead::Fault(at);
             }
             if row_right(rules, at, old, first) {
-                old = at;
-                first = false;
-                at += rulerow::size(rules, at);
-                left -= 1;
+                let low = base::three(rules, at, 6) + 1;
+                let next = at + rulerow::size(rules, at);
+                let walk = plain_rows(rules, next, left - 1, at, false, low);
+                at = walk.at;
+                left = walk.left;
+                old = walk.old;
+                first = walk.first;
             } else {
                 return TableRead::Fault(at);
             }
@@ -204,26 +329,6 @@ fn seek(rules: &[u8], index: &[u32], w: &[u32]) -> usize
     rules.len()
 }
 
-// The rows with a source: the first, and how many.
-pub fn find_rows(rules: &[u8], index: &[u32], w: &[u32]) -> Rows
-    requires { ⌜ Ready (now rules) (now index) ⌝ }
-    ensures { λ r. ⌜ (r .first ≡ first-at (now (rules .entry)) (now (w .entry)))
-        × (r .count ≡ equal-rows (now (rules .entry)) (now (w .entry))) ⌝ }
-{
-    let first = seek(rules, index, w);
-    let mut at = first;
-    let mut count: usize = 0;
-    while at < rules.len() {
-        if is_equal(rules, at, w) {
-            at += rulerow::size(rules, at);
-            count += 1;
-        } else {
-            return Rows { first, count };
-        }
-    }
-    Rows { first, count }
-}
-
 // Does the row's source start with a text?
 fn starts_with(rules: &[u8], row: usize, w: &[u32]) -> bool
     ensures { λ r. ⌜ r ≡ starts (now (w .entry)) (rule-source (drop row (now (rules .entry)))) ⌝ }
@@ -243,6 +348,45 @@ fn starts_with(rules: &[u8], row: usize, w: &[u32]) -> bool
         i += 1;
     }
     true
+}
+
+// What the table has of a text: its rows stand where a search stops, and a longer source that starts with it right behind.
+pub fn look_up(rules: &[u8], index: &[u32], w: &[u32]) -> Found
+    requires { ⌜ Ready (now rules) (now index) ⌝ }
+    ensures { λ r. ⌜ (r .first ≡ first-at (now (rules .entry)) (now (w .entry)))
+        × (r .count ≡ equal-rows (now (rules .entry)) (now (w .entry)))
+        × (r .more ≡ has-longer (now (w .entry)) (rules-of (now (rules .entry)))) ⌝ }
+{
+    let first = seek(rules, index, w);
+    let mut at = first;
+    let mut count: usize = 0;
+    while at < rules.len() {
+        if is_equal(rules, at, w) {
+            at += rulerow::size(rules, at);
+            count += 1;
+        } else {
+            let more = starts_with(rules, at, w);
+            return Found { first, count, more };
+        }
+    }
+    Found {
+        first,
+        count,
+        more: false,
+    }
+}
+
+// The rows with a source: the first, and how many.
+pub fn find_rows(rules: &[u8], index: &[u32], w: &[u32]) -> Rows
+    requires { ⌜ Ready (now rules) (now index) ⌝ }
+    ensures { λ r. ⌜ (r .first ≡ first-at (now (rules .entry)) (now (w .entry)))
+        × (r .count ≡ equal-rows (now (rules .entry)) (now (w .entry))) ⌝ }
+{
+    let found = look_up(rules, index, w);
+    Rows {
+        first: found.first,
+        count: found.count,
+    }
 }
 
 // Is a text the start of a source?

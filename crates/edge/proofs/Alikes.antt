@@ -1,16 +1,19 @@
 -- Is an edge in a slot equal to one with these numbers and this text? One law for each answer.
-use mathlib.Core.Bool.{Bool, false, _&&_}
+use mathlib.Core.Bool.{Bool, false, _&&_, _||_}
 use mathlib.Core.List.{List}
-use mathlib.Core.Path.{_≡_, sym}
-use Prim.Native.Nat.{ℕ}
+use mathlib.Core.Path.{_≡_, sym, ap, _∙_}
+use Prim.Native.Nat.{ℕ, _-_, _*_, _≤_}
 use lib.Dec.{eqb}
+use lib.ListN.{drop}
 use borrow.Author.Tests.{eq-eqb, ne-eqb}
-use Rattle.base.specs.ListLaws.{any-keep}
+use Rattle.base.specs.ListLaws.{any-append, any-keep}
 use Rattle.base.specs.Lists.{any, same}
+use Rattle.definition.specs.Limits.{slot-bytes}
 use Rattle.definition.specs.Edges.{Edge, starting, alike}
 use Rattle.utf8.specs.Encodings.{TextBytes, same-decoded}
 use Rattle.edge.specs.declared.Numbers.{Numbers}
-use Rattle.edge.specs.Slots.{bytes-of, edge-by, numbers-of, edge-of}
+use Rattle.edge.specs.Slots.{bytes-of, edge-by, numbers-of, edge-of, edges-of}
+use Rattle.edge.specs.Counted.{counted-split}
 use Rattle.edge.specs.Adding.{there}
 
 -- equal in start too
@@ -20,6 +23,17 @@ like e text y = eqb (y .from) (e .from) && alike (edge-by e text) y
 pub there-is : (es : List Edge) (e : Numbers) (text : List ℕ) → any (like e text) es ≡ there es (edge-by e text)
 unfolding there starting edge-by
 there-is es e text = sym (any-keep (alike (edge-by e text)) (λ y. eqb (y .from) (e .from)) es)
+
+-- where none of the first is like it, those behind them tell it of all
+pub there-behind : (room slots : List ℕ) (since count : ℕ) (e : Numbers) (text : List ℕ) → since ≤ count
+    → there (edges-of room since slots) (edge-by e text) ≡ false
+    → any (like e text) (edges-of room (count - since) (drop (since * slot-bytes) slots)) ≡ there (edges-of room count slots) (edge-by e text)
+there-behind room slots since count e text h f =
+    let first = edges-of room since slots in
+    let behind = edges-of room (count - since) (drop (since * slot-bytes) slots) in
+    let all = counted-split slot-bytes (edge-of room) since count slots h in
+    sym (sym (there-is (edges-of room count slots) e text) ∙ ap (any (like e text)) all ∙ any-append (like e text) first behind
+    ∙ ap (λ (b : Bool). b || any (like e text) behind) (there-is first e text ∙ f))
 
 module _ (room s : List ℕ) (e : Numbers) (text : List ℕ) (o : Numbers) (q : o ≡ numbers-of s) where
   abbrev is-like : Bool

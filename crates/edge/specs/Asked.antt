@@ -8,16 +8,10 @@ use native.Mathlib.Omega.{arith}
 use lib.ListN.{length, drop, length-drop}
 use Rattle.base.specs.Pick.{pick}
 use Rattle.base.specs.Lists.{put, keep, any, best-of, best}
-use Rattle.base.specs.ListLaws.{any-keep}
 use Rattle.base.specs.Rows.{counted, counted-none, counted-some, AllOf}
 use Rattle.definition.specs.Limits.{slot-bytes}
 use Rattle.edge.specs.Stored.{Slot, Stored, slot-agree}
 use Rattle.edge.specs.Counted.{all-agree}
-use Rattle.definition.specs.Texts.{last-is}
-use Rattle.definition.specs.Tables.{Class}
-use Rattle.definition.specs.Classes.{alpha}
-use Rattle.definition.specs.Edges.{Edge, ending, view}
-use lib.Dec.{eqb}
 
 -- The slots can be read: each one's text lies within the room
 abbrev pub Readable : List ℕ → List ℕ → ℕ → Type 0
@@ -35,10 +29,6 @@ readable-slots slots room zero h = omega arith
 readable-slots slots room (suc n) h =
     let r = h .0 .row in
     let k = readable-slots (drop slot-bytes slots) room n (h .1) in omega (arith, length-drop slot-bytes slots)
-
--- Does an edge end at `p`, and its text in a letter or mark?
-unfoldable pub letter-edge : List Class → ℕ → Edge → Bool
-letter-edge ks p x = eqb (x .to) p && last-is (alpha ks) (x .text)
 
 module _ {A : Type 0} where
   -- the best of those seen and of a list
@@ -109,7 +99,3 @@ module _ {A : Type 0} (one : List ℕ → A) (size : ℕ) (s : List ℕ) (n o : 
         go none true e = absurd (let z : _≡_ {A = ℕ} 0 1 = cc in omega arith)
         go (some y) true e = ap (λ t. some (best-of beats (pick t x y) (keep g more))) e
         go b false e = refl
-
-pub letter-is : (ks : List Class) (es : List Edge) (p : ℕ) → any (letter-edge ks p) es ≡ view ks es .letter p
-unfolding view ending letter-edge
-letter-is ks es p = sym (any-keep (λ x. last-is (alpha ks) (x .text)) (λ x. eqb (x .to) p) es)

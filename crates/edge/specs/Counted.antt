@@ -1,5 +1,5 @@
 -- Rows of one size: one more of them, and rows that agree.
-use Prim.Native.Nat.{ℕ, zero, suc, _+_, _-_, _*_, _<_}
+use Prim.Native.Nat.{ℕ, zero, suc, _+_, _-_, _*_, _<_, _≤_}
 use mathlib.Core.List.{List, [], _∷_, _++_}
 use mathlib.Core.Path.{_≡_, refl, sym, ap, _∙_, subst}
 use native.Mathlib.Omega.{arith}
@@ -36,6 +36,34 @@ module _ (size : ℕ) where
   unfolding AllOf
   all-snoc P zero s a p = (subst (λ (k : ℕ). P (drop k s)) {x = 0 * size} {y = 0} (zero-mul size) p, tt)
   all-snoc P (suc n) s a p = (a .0, all-snoc P n (drop size s) (a .1) (subst P (sym (next-row size n s)) p))
+
+  -- so many rows, and those behind them
+  counted-behind : {A : Type 0} (one : List ℕ → A) (m n : ℕ) (s : List ℕ)
+      → counted one size (m + n) s ≡ counted one size m s ++ counted one size n (drop (m * size) s)
+  unfolding counted
+  counted-behind {A} one zero n s = ap (λ (k : ℕ). counted one size k s) {x = 0 + n} {y = n} (omega arith)
+      ∙ ap (λ (k : ℕ). counted one size n (drop k s)) {x = 0} {y = 0 * size} (sym (zero-mul size))
+  counted-behind {A} one (suc m) n s = ap (λ (k : ℕ). counted one size k s) {x = suc m + n} {y = suc (m + n)} (omega arith)
+      ∙ ap (_∷_ (one s)) (counted-behind one m n (drop size s)
+      ∙ ap (λ (l : List ℕ). counted one size m (drop size s) ++ counted one size n l) (next-row size m s))
+
+  pub counted-split : {A : Type 0} (one : List ℕ → A) (m n : ℕ) (s : List ℕ) → m ≤ n
+      → counted one size n s ≡ counted one size m s ++ counted one size (n - m) (drop (m * size) s)
+  counted-split one m n s h =
+      ap (λ (k : ℕ). counted one size k s) {x = n} {y = m + (n - m)} (omega arith) ∙ counted-behind one m (n - m) s
+
+  pub all-behind : (P : List ℕ → Type 0) (m n : ℕ) (s : List ℕ) → AllOf P size (m + n) s → AllOf P size n (drop (m * size) s)
+  unfolding AllOf
+  all-behind P zero n s a = subst (λ (k : ℕ). AllOf P size n (drop k s)) {x = 0} {y = 0 * size} (sym (zero-mul size))
+      (subst (λ (k : ℕ). AllOf P size k s) {x = 0 + n} {y = n} (omega arith) a)
+  all-behind P (suc m) n s a = subst (AllOf P size n) (next-row size m s)
+      (all-behind P m n (drop size s) (subst (λ (k : ℕ). AllOf P size k s) {x = suc m + n} {y = suc (m + n)} (omega arith) a .1))
+
+  pub all-front : (P : List ℕ → Type 0) (m n : ℕ) (s : List ℕ) → m ≤ n → AllOf P size n s → AllOf P size m s
+  unfolding AllOf
+  all-front P zero n s h a = tt
+  all-front P (suc m) zero s h a = absurd (omega arith)
+  all-front P (suc m) (suc n) s h a = (a .0, all-front P m n (drop size s) (omega arith) (a .1))
 
   -- row `i`
   pub all-at : (P : List ℕ → Type 0) (n i : ℕ) (s : List ℕ) → i < n → AllOf P size n s → P (drop (i * size) s)

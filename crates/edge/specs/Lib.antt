@@ -5,4 +5,3 @@ pub mod Adding
 pub mod Fitting
 pub mod Asked
 pub mod Best
-pub mod Behind

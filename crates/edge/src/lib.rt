@@ -1,27 +1,17 @@
-// Edges in lent slots, their texts in lent text room (edge.rs, lattice/mod.rs): reading and adding them, and what is
-// asked of them.
+// Edges in lent slots, their texts in lent text room (edge.rs, lattice/mod.rs): reading and adding them.
 ghost use mathlib.Core.Path.{_≡_};
-ghost use mathlib.Core.Bool.{_&&_};
-ghost use mathlib.Core.List.{List};
-ghost use Prim.Native.Nat.{ℕ, _+_, _*_, _≤_, _<_};
+ghost use mathlib.Core.Bool.{false, _&&_};
+ghost use Prim.Native.Nat.{_+_, _*_, _≤_, _<_};
 ghost use lib.Dec.{eqb};
-ghost use lib.ListN.{length, take, drop};
+ghost use lib.ListN.{length, drop};
 ghost use Rattle.definition.specs.Limits.{slot-bytes};
-ghost use Rattle.definition.specs.Texts.{last-is};
-ghost use Rattle.definition.specs.Utf8.{decoded};
-ghost use Rattle.definition.specs.ClassRows.{classes-of};
-ghost use Rattle.definition.specs.Classes.{alpha};
-ghost use Rattle.definition.specs.Edges.{alike, left-best, right-best, covered, walk, view};
+ghost use Rattle.definition.specs.Edges.{alike};
 ghost use Rattle.utf8.specs.Encodings.{TextBytes};
-ghost use Rattle.classes.specs.Told.{Alphas};
 ghost use Rattle.room.specs.Puts.{put-at};
 ghost use Rattle.edge.specs.Slots.{length-of, bytes-of, edge-by, numbers-of, edge-of, edges-of, slot-of};
 ghost use Rattle.edge.specs.Stored.{Slot, Stored};
-ghost use Rattle.edge.specs.Adding.{there, answer, added, slots-after, room-after, Writable};
-ghost use Rattle.edge.specs.Asked.{Readable, letter-edge};
-ghost use Rattle.edge.specs.Best.{edge-at, Found, touches, longer, neighbor, improved};
-ghost use Rattle.edge.specs.Behind.{text-at, spoken, back-from};
-use utf8::LastChar;
+ghost use Rattle.edge.specs.Adding.{there, added, slots-after, room-after, Writable};
+ghost use Rattle.edge.specs.Asked.{Readable};
 
 // Annotations by their numbers in a listing: plain, with a core, a tail, expanded, a deleted character.
 pub const ROM: u8 = 1;
@@ -61,6 +51,14 @@ pub struct Numbers {
     pub to: usize,
     pub note: u8,
     pub core: u8,
+}
+
+// How many edges there are and how much room they take; and how many of the first can't equal a new one, since they all
+// start elsewhere: it is compared only with those behind them.
+pub struct Filled {
+    pub count: usize,
+    pub used: usize,
+    pub since: usize,
 }
 
 // What adding an edge did: how many edges there are now and how much room they take; or the edge, with its start, found
@@ -124,13 +122,16 @@ fn is_alike(slots: &[u8], room: &[u8], slot: usize, e: Numbers, text: &[u8]) -> 
     room::same(text, edge_text(slots, room, slot))
 }
 
-// Is one of the first `count` edges equal to it?
-pub fn is_there(slots: &[u8], room: &[u8], count: usize, e: Numbers, text: &[u8]) -> bool
-    requires { ⌜ Readable (now slots) (now room) count × TextBytes (now text) ⌝ }
-    ensures { λ r. ⌜ r ≡ there (edges-of (now (room .entry)) count (now (slots .entry))) (edge-by e (now (text .entry))) ⌝ }
+// Is one of the edges equal to it? Those before number `since` are not.
+pub fn is_there(slots: &[u8], room: &[u8], filled: Filled, e: Numbers, text: &[u8]) -> bool
+    requires { ⌜ Readable (now slots) (now room) (filled .count) × TextBytes (now text) × (filled .since ≤ filled .count)
+        × (there (edges-of (now room) (filled .since) (now slots)) (edge-by e (now text)) ≡ false) ⌝ }
+    ensures { λ r. ⌜ r ≡ there (edges-of (now (room .entry)) (filled .count) (now (slots .entry))) (edge-by e (now (text .entry))) ⌝ }
 {
-    let mut left = count;
-    let mut slot: usize = 0;
+    let count = filled.count;
+    let since = filled.since;
+    let mut left = count - since;
+    let mut slot = since * 12;
     while 0 < left {
         if is_alike(slots, room, slot, e, text) {
             return true;
@@ -164,20 +165,19 @@ fn put_slot(slots: &mut [u8], at: usize, e: Numbers, offset: usize, len: usize)
 }
 
 // `add_edge`: one more edge, unless one equal to it is there. Its text goes into the room from the first free byte on.
-pub fn add_edge(
-    slots: &mut [u8],
-    room: &mut [u8],
-    count: usize,
-    used: usize,
-    e: Numbers,
-    text: &[u8],
-) -> Added
-    requires { ⌜ Stored (now slots) (now room) count used × Writable used e (now text) ⌝ }
-    ensures answer { λ r. ⌜ r ≡ added (now (slots .entry)) (now (room .entry)) count used e (now (text .entry)) ⌝ }
-    ensures slots { λ _. ⌜ now (slots .exit) ≡ slots-after (now (slots .entry)) (now (room .entry)) count used e (now (text .entry)) ⌝ }
-    ensures room { λ _. ⌜ now (room .exit) ≡ room-after (now (slots .entry)) (now (room .entry)) count used e (now (text .entry)) ⌝ }
+pub fn add_edge(slots: &mut [u8], room: &mut [u8], filled: Filled, e: Numbers, text: &[u8]) -> Added
+    requires { ⌜ Stored (now slots) (now room) (filled .count) (filled .used) × Writable (filled .used) e (now text)
+        × (filled .since ≤ filled .count)
+        × (there (edges-of (now room) (filled .since) (now slots)) (edge-by e (now text)) ≡ false) ⌝ }
+    ensures answer { λ r. ⌜ r ≡ added (now (slots .entry)) (now (room .entry)) (filled .count) (filled .used) e (now (text .entry)) ⌝ }
+    ensures slots { λ _. ⌜ now (slots .exit)
+        ≡ slots-after (now (slots .entry)) (now (room .entry)) (filled .count) (filled .used) e (now (text .entry)) ⌝ }
+    ensures room { λ _. ⌜ now (room .exit)
+        ≡ room-after (now (slots .entry)) (now (room .entry)) (filled .count) (filled .used) e (now (text .entry)) ⌝ }
 {
-    if is_there(slots, room, count, e, text) {
+    let count = filled.count;
+    let used = filled.used;
+    if is_there(slots, room, filled, e, text) {
         return Added::Fits { count, used };
     }
     let at = count * 12;
@@ -194,206 +194,4 @@ pub fn add_edge(
         count: count + 1,
         used: used + len,
     }
-}
-
-// Does the edge in a slot touch `p`: end there, seen to the left of `p`, or else start there?
-fn is_touching(slots: &[u8], slot: usize, left: bool, p: usize) -> bool
-    ensures { λ r. ⌜ ((room : List ℕ) → r ≡ touches left p (edge-of room (drop slot (now (slots .entry))))) ⌝ }
-{
-    if left {
-        return base::two(slots, slot, 2) as usize == p;
-    }
-    base::two(slots, slot, 0) as usize == p
-}
-
-// Does it reach farther away from there than another?
-fn is_longer(slots: &[u8], slot: usize, other: usize, left: bool) -> bool
-    ensures { λ r. ⌜ ((room : List ℕ) → r ≡ longer left (edge-of room (drop slot (now (slots .entry)))) (edge-of room (drop other (now (slots .entry))))) ⌝ }
-{
-    if left {
-        return base::two(slots, slot, 0) < base::two(slots, other, 0);
-    }
-    base::two(slots, other, 2) < base::two(slots, slot, 2)
-}
-
-// The edge in a slot, where it touches `p` and is longer than the best one so far, and else that one.
-fn better(slots: &[u8], slot: usize, left: bool, p: usize, best: BestEdge) -> BestEdge
-    ensures { λ r. ⌜ ((room : List ℕ) → r ≡ improved left p room (now (slots .entry)) slot best) ⌝ }
-{
-    if is_touching(slots, slot, left, p) {
-        match best {
-            BestEdge::Nothing => {
-                return BestEdge::At(slot);
-            }
-            BestEdge::At(other) => {
-                if is_longer(slots, slot, other, left) {
-                    return BestEdge::At(slot);
-                }
-                return best;
-            }
-        }
-    }
-    best
-}
-
-// Of the edges that touch `p` the first added of the longest.
-fn best_edge(slots: &[u8], count: usize, left: bool, p: usize) -> BestEdge
-    requires { ⌜ count * slot-bytes ≤ length (now slots) ⌝ }
-    ensures { λ r. ⌜ ((room : List ℕ) → edge-at room (now (slots .entry)) r ≡ neighbor left (edges-of room count (now (slots .entry))) p)
-        × Found count r ⌝ }
-{
-    let mut best = BestEdge::Nothing;
-    let mut more = count;
-    let mut slot: usize = 0;
-    while 0 < more {
-        best = better(slots, slot, left, p, best);
-        more -= 1;
-        slot += 12;
-    }
-    best
-}
-
-// The best edge that ends at `p`.
-pub fn best_left_neighbor_edge(slots: &[u8], count: usize, p: usize) -> BestEdge
-    requires { ⌜ count * slot-bytes ≤ length (now slots) ⌝ }
-    ensures { λ r. ⌜ ((room : List ℕ) → edge-at room (now (slots .entry)) r ≡ left-best (edges-of room count (now (slots .entry))) p)
-        × Found count r ⌝ }
-{
-    best_edge(slots, count, true, p)
-}
-
-// The best edge that starts at `p`.
-pub fn best_right_neighbor_edge(slots: &[u8], count: usize, p: usize) -> BestEdge
-    requires { ⌜ count * slot-bytes ≤ length (now slots) ⌝ }
-    ensures { λ r. ⌜ ((room : List ℕ) → edge-at room (now (slots .entry)) r ≡ right-best (edges-of room count (now (slots .entry))) p)
-        × Found count r ⌝ }
-{
-    best_edge(slots, count, false, p)
-}
-
-// Does the edge in a slot go over the one character at `p`?
-fn is_over(slots: &[u8], slot: usize, p: usize) -> bool
-    requires { ⌜ p < 65536 ⌝ }
-    ensures { λ r. ⌜ ((room : List ℕ) → r ≡ (eqb (edge-of room (drop slot (now (slots .entry))) .from) p
-        && eqb (edge-of room (drop slot (now (slots .entry))) .to) (p + 1))) ⌝ }
-{
-    if base::two(slots, slot, 0) as usize != p {
-        return false;
-    }
-    base::two(slots, slot, 2) as usize == p + 1
-}
-
-// Is there an edge over the one character at `p`?
-pub fn is_covered(slots: &[u8], count: usize, p: usize) -> bool
-    requires { ⌜ (count * slot-bytes ≤ length (now slots)) × (p < 65536) ⌝ }
-    ensures { λ r. ⌜ ((room : List ℕ) → r ≡ covered (edges-of room count (now (slots .entry))) p) ⌝ }
-{
-    let mut left = count;
-    let mut slot: usize = 0;
-    while 0 < left {
-        if is_over(slots, slot, p) {
-            return true;
-        }
-        left -= 1;
-        slot += 12;
-    }
-    false
-}
-
-// Does a text end in a letter or mark?
-fn ends_in_letter(text: &[u8], classes: &[u8], alphas: &[u8]) -> bool
-    requires { ⌜ TextBytes (now text) × Alphas (now classes) (now alphas) ⌝ }
-    ensures { λ r. ⌜ r ≡ last-is (alpha (classes-of (now (classes .entry)))) (decoded (now (text .entry))) ⌝ }
-{
-    match utf8::last_char(text) {
-        LastChar::Char(c) => classes::is_letter(classes, alphas, c),
-        LastChar::Nothing => false,
-    }
-}
-
-// Does the edge in a slot end at `p`, and its text in a letter or mark?
-fn is_letter_edge(
-    slots: &[u8],
-    room: &[u8],
-    slot: usize,
-    classes: &[u8],
-    alphas: &[u8],
-    p: usize,
-) -> bool
-    requires { ⌜ Slot (now room) (length (now room)) (drop slot (now slots)) × Alphas (now classes) (now alphas) ⌝ }
-    ensures { λ r. ⌜ r ≡ letter-edge (classes-of (now (classes .entry))) p (edge-of (now (room .entry)) (drop slot (now (slots .entry)))) ⌝ }
-{
-    if base::two(slots, slot, 2) as usize != p {
-        return false;
-    }
-    ends_in_letter(edge_text(slots, room, slot), classes, alphas)
-}
-
-// Does one of the first `count` edges end at `p`, and its text in a letter or mark?
-pub fn has_letter_edge(
-    slots: &[u8],
-    room: &[u8],
-    count: usize,
-    classes: &[u8],
-    alphas: &[u8],
-    p: usize,
-) -> bool
-    requires { ⌜ Readable (now slots) (now room) count × Alphas (now classes) (now alphas) ⌝ }
-    ensures { λ r. ⌜ r ≡ view (classes-of (now (classes .entry))) (edges-of (now (room .entry)) count (now (slots .entry))) .letter p ⌝ }
-{
-    let mut left = count;
-    let mut slot: usize = 0;
-    while 0 < left {
-        if is_letter_edge(slots, room, slot, classes, alphas, p) {
-            return true;
-        }
-        left -= 1;
-        slot += 12;
-    }
-    false
-}
-
-// Has an edge that was answered a text that is not empty?
-fn is_spoken(slots: &[u8], best: BestEdge) -> bool
-    ensures { λ r. ⌜ r ≡ spoken (now (slots .entry)) best ⌝ }
-{
-    match best {
-        BestEdge::At(slot) => 0 < text_len(slots, slot),
-        BestEdge::Nothing => false,
-    }
-}
-
-// Where the walk back goes on from `p`: at its start, or one back where there is none.
-fn back_from(slots: &[u8], best: BestEdge, p: usize) -> usize
-    ensures { λ r. ⌜ r ≡ back-from (now (slots .entry)) best p ⌝ }
-{
-    match best {
-        BestEdge::At(slot) => base::two(slots, slot, 0) as usize,
-        BestEdge::Nothing => {
-            if p == 0 {
-                return 0;
-            }
-            p - 1
-        }
-    }
-}
-
-// `find_rom_edge_path_backwards_str`: the edge whose text stands behind `p`, over positions where none ends and over
-// empty texts. It takes `p` steps at most.
-pub fn find_rom_edge_path_backwards(slots: &[u8], count: usize, p: usize) -> BestEdge
-    requires { ⌜ count * slot-bytes ≤ length (now slots) ⌝ }
-    ensures { λ r. ⌜ ((room : List ℕ) → Readable (now (slots .entry)) room count
-        → text-at room (now (slots .entry)) r ≡ walk (edges-of room count (now (slots .entry))) p p) × Found count r ⌝ }
-{
-    let mut left = p;
-    let mut at = p;
-    while 0 < left {
-        let best = best_left_neighbor_edge(slots, count, at);
-        if is_spoken(slots, best) {
-            return best;
-        }
-        at = back_from(slots, best, at);
-        left -= 1;
-    }
-    BestEdge::Nothing
 }

@@ -1,44 +1,22 @@
 -- How a text ends, by its last bytes: beside O ang, and before a small ya.
 use mathlib.Core.Bool.{Bool, true, false, _&&_, and-false, true≢false}
-use mathlib.Core.List.{List, [], _∷_, reverse}
+use mathlib.Core.List.{[], _∷_, reverse}
 use mathlib.Core.Option.{Option, none, some}
 use mathlib.Core.Path.{_≡_, refl, sym, ap, _∙_}
 use Prim.Native.Nat.{ℕ, _-_, _≤_, _<_}
 use native.Mathlib.Omega.{arith}
 use lib.Dec.{eqb}
-use lib.ListN.{length, getD, drop}
+use lib.ListN.{length, getD}
 use borrow.Author.Tests.{eq-eqb, ne-eqb}
 use Rattle.base.specs.Lists.{all, head, tail, is, same}
-use Rattle.definition.specs.Texts.{Text, consonants, last-is, letter-i}
-use Rattle.definition.specs.Tables.{Class}
-use Rattle.definition.specs.Edges.{walk, view}
+use Rattle.definition.specs.Texts.{Text, consonants, letter-i}
 use Rattle.definition.specs.Expansion.{o-ang-side}
-use Rattle.utf8.specs.Encodings.{last-decoded}
 use Rattle.rom.specs.declared.Rom.{Rom}
 use Rattle.rom.specs.Rom.{text, Clean, bytes-length}
-use Rattle.rom.specs.Sets.{member, o-ang-side-set, in-o-ang-side, none-past, last-as, all-as}
+use Rattle.rom.specs.Sets.{member, o-ang-side-set, in-o-ang-side, all-as}
 use Rattle.rom.proofs.Backwards.{back-cons}
-use Rattle.edge.specs.Slots.{bytes-of, edge-by, edges-of}
-use Rattle.edge.specs.Stored.{Slot}
-use Rattle.edge.specs.Behind.{text-at}
-use Rattle.edge.specs.declared.BestEdge.{BestEdge}
-use Rattle.edge.specs.declared.BestEdge.the-variants.{At, Nothing}
 use Rattle.rules.specs.Chosen.{or-nothing}
 use Rattle.expand.specs.Sides.{beside}
-
--- what stands behind a position, by the last byte of the edge that has it
-module _ (ks : List Class) (room slots : List ℕ) (count p : ℕ) (r : BestEdge) (b : text-at room slots r ≡ walk (edges-of room count slots) p p) where
-  pub none-behind : r ≡ Nothing → false ≡ last-is o-ang-side (view ks (edges-of room count slots) .behind p)
-  unfolding view last-is head
-  none-behind e = ap (last-is o-ang-side) (sym (ap (text-at room slots) e) ∙ b)
-
-  pub one-behind : (o : ℕ) → r ≡ At o → Slot room (length room) (drop o slots)
-      → last-is (member o-ang-side-set) (bytes-of room (drop o slots)) ≡ last-is o-ang-side (view ks (edges-of room count slots) .behind p)
-  unfolding view edge-by
-  one-behind o e s =
-      last-as o-ang-side-set o-ang-side in-o-ang-side (bytes-of room (drop o slots))
-      ∙ sym (last-decoded o-ang-side (none-past o-ang-side-set o-ang-side in-o-ang-side) (s .text))
-      ∙ ap (last-is o-ang-side) (sym (ap (text-at room slots) e) ∙ b)
 
 -- one or more of them
 pub none-beside : (w : Text) → length w ≡ 0 → false ≡ beside w

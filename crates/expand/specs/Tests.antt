@@ -1,6 +1,6 @@
 -- The expansion: one law for each way out of its steps that may remember more.
 use mathlib.Core.Bool.{Bool, true, false, _&&_}
-use mathlib.Core.List.{[], _∷_, _++_}
+use mathlib.Core.List.{List, [], _∷_, _++_}
 use mathlib.Core.Option.{Option, none, some}
 use mathlib.Core.Path.{_≡_}
 use Prim.Native.Nat.{ℕ, _+_}
@@ -8,7 +8,7 @@ use lib.Dec.{eqb}
 use Rattle.base.specs.Pick.{pick}
 use Rattle.base.specs.Lists.{has, maybe, same}
 use Rattle.definition.specs.Texts.{Text, at, prev, without-last, letter-e, coptic-grave}
-use Rattle.definition.specs.Tables.{Lexicon, script-thai, script-coptic}
+use Rattle.definition.specs.Tables.{Class, Lexicon, script-thai, script-coptic}
 use Rattle.definition.specs.Notes.{note-none, note-exp, note-del}
 use Rattle.definition.specs.Classes.{script}
 use Rattle.definition.specs.Edges.{View, Mem, ret, _>>=_}
@@ -16,17 +16,17 @@ use Rattle.definition.specs.Rules.{simple}
 use Rattle.definition.specs.Expansion.{Work, work, double, around, before, silent, small-target, finish, grave, small-y, rest, o-ang-step, thai, by-script, expand}
 use Rattle.words.specs.Did.{Did, did, outcome}
 
-module _ (L : Lexicon) (t : Text) (v : View) where
-  -- a Coptic grave
-  unfoldable pub has-grave : Work → Bool
-  has-grave w = eqb (at t (w .to)) coptic-grave && eqb (script (L .classes) (prev t (w .to))) script-coptic
+-- a Coptic grave
+unfoldable pub has-grave : List Class → Text → Work → Bool
+has-grave ks t w = eqb (at t (w .to)) coptic-grave && eqb (script ks (prev t (w .to))) script-coptic
 
+module _ (L : Lexicon) (t : Text) (v : View) where
   module _ (o : ℕ) (w : Work) (m : Mem) where
-    pub no-grave : has-grave w ≡ false → Did (grave L t v o w m) w m
+    pub no-grave : has-grave (L .classes) t w ≡ false → Did (grave L t v o w m) w m
     unfolding grave has-grave ret pick
     no-grave e = did (rw e)
 
-    module _ (e : has-grave w ≡ true) {r : Option Text} {m₁ : Mem} (d : Did (simple L t v o (w .to + 1) m) r m₁) where
+    module _ (e : has-grave (L .classes) t w ≡ true) {r : Option Text} {m₁ : Mem} (d : Did (simple L t v o (w .to + 1) m) r m₁) where
       pub grave-ruled : has r ≡ true → Did (grave L t v o w m) w m₁
       unfolding grave has-grave ret _>>=_ pick
       grave-ruled f = did (rw (e, outcome d, f))

@@ -1,35 +1,29 @@
 // The expansion (`expand_rom_with_special_chars`): its steps in the file's order.
-ghost use mathlib.Core.Bool.{_&&_};
-ghost use mathlib.Core.List.{List, [], _∷_, _++_, reverse};
+ghost use mathlib.Core.Bool.{true, _&&_};
+ghost use mathlib.Core.List.{[], _∷_, _++_, reverse};
 ghost use mathlib.Core.Path.{_≡_};
-ghost use Prim.Native.Nat.{ℕ, _+_, _<_, _≤_};
+ghost use Prim.Native.Nat.{_+_, _<_, _≤_};
 ghost use lib.Dec.{eqb};
-ghost use Rattle.base.specs.Lists.{head, tail, is};
-ghost use Rattle.definition.specs.Limits.{most-characters, most-bytes, most-target, most-vowel};
-ghost use Rattle.definition.specs.Texts.{consonants, last-is, without-last, letter-e, letter-i, at, prev};
-ghost use Rattle.definition.specs.Tables.{Class, script-thai};
+ghost use Rattle.base.specs.Lists.{has, head, tail, is};
+ghost use Rattle.definition.specs.Limits.{most-bytes, most-target, most-vowel};
+ghost use Rattle.definition.specs.Texts.{consonants, without-last, letter-e, letter-i, at, prev};
+ghost use Rattle.definition.specs.Tables.{script-thai};
 ghost use Rattle.definition.specs.Notes.{note-exp};
 ghost use Rattle.definition.specs.RuleRows.{rules-of};
-ghost use Rattle.definition.specs.ClassRows.{classes-of};
 ghost use Rattle.definition.specs.Classes.{script};
-ghost use Rattle.definition.specs.Edges.{View, view};
 ghost use Rattle.definition.specs.Rules.{first-rule};
-ghost use Rattle.definition.specs.Expansion.{work, o-ang-side, between, silent, small-ya, small-target, grave, small-y, rest, o-ang-step, thai, by-script, expand};
-ghost use Rattle.dicts.specs.Index.{Ready};
+ghost use Rattle.definition.specs.Expansion.{work, between, silent, small-ya, small-target, grave, small-y, rest, o-ang-step, thai, by-script, expand};
 ghost use Rattle.rom.specs.Rom.{text, Clean};
-ghost use Rattle.edge.specs.Slots.{edges-of};
-ghost use Rattle.edge.specs.Asked.{Readable};
-ghost use Rattle.words.specs.Did.{Did};
-ghost use Rattle.words.specs.Given.{text-in, view-of, Lined};
-ghost use Rattle.rules.specs.Lent.{Lent, lexicon-of};
+ghost use Rattle.words.specs.Given.{World, kinds, seen, size-in, Prepared, Lined, Lent};
+ghost use Rattle.rules.specs.Lent.{Answers};
 ghost use Rattle.rules.specs.Chosen.{said, Said, or-nothing};
 ghost use Rattle.steps.specs.Works.{work-of};
 ghost use Rattle.expand.specs.Tests.{has-grave};
 ghost use Rattle.expand.specs.Sides.{beside, small-here};
-use edge::BestEdge;
 use rom::Rom;
 use rules::Chosen;
 use steps::Work;
+use words::Span;
 
 // U+0300, the grave over a Coptic letter.
 const GRAVE: u32 = 0x0300;
@@ -50,30 +44,33 @@ const KATAKANA_YU: u32 = 0x30E5;
 
 const KATAKANA_YO: u32 = 0x30E7;
 
-// Does a grave stand over a Coptic character, the last of the span?
-fn has_grave(line: &[u32], kinds: &[u32], w: Work) -> bool
-    requires { ⌜ w .to ≤ most-characters ⌝ }
-    ensures { λ r. ⌜ ((rules classes code : List ℕ) (n : ℕ) (v : View) → Lined classes (now (line .entry)) (now (kinds .entry)) n → w .to ≤ n
-        → r ≡ has-grave (lexicon-of rules classes code) (text-in (now (line .entry)) n) v (work-of w)) ⌝ }
+// Does a grave stand over a Coptic character, the last of the span? None does past the text.
+fn has_grave(line: &[u32], w: Work) -> bool
+    requires { ⌜ (0 < w .to) × (w .to ≤ size-in (now line)) ⌝ }
+    ensures { λ r. ⌜ ((x : World) → Lined x (now (line .entry)) → r ≡ has-grave (kinds x) (x .text) (work-of w))
+        × (r ≡ true → w .to < size-in (now (line .entry))) ⌝ }
 {
-    if words::number_at(line, w.to + 1) == GRAVE {
-        return classes::script(words::number_at(kinds, w.to)) == classes::COPTIC;
+    if w.to < words::text_len(line) {
+        if words::number_at(line, w.to + 1) == GRAVE {
+            return classes::script(words::kind_at(line, w.to)) == classes::COPTIC;
+        }
+        return false;
     }
     false
 }
 
-// An e put in front, over the grave after the span.
-fn put_grave(w: Work) -> Work
-    requires { ⌜ Clean (w .rom) × (w .rom .len < most-bytes) × (w .to ≤ most-characters) ⌝ }
-    ensures { λ r. ⌜ (work-of r ≡ work (letter-e ∷ text (w .rom)) (w .from) (w .to + 1) note-exp)
-        × Clean (r .rom) × (r .rom .len ≡ w .rom .len + 1) × (r .from ≡ w .from) × (r .to ≡ w .to + 1) ⌝ }
+// An e put in front, over the grave after the span, up to `to`.
+fn put_grave(w: Work, to: usize) -> Work
+    requires { ⌜ Clean (w .rom) × (w .rom .len < most-bytes) ⌝ }
+    ensures { λ r. ⌜ (work-of r ≡ work (letter-e ∷ text (w .rom)) (w .from) to note-exp)
+        × Clean (r .rom) × (r .rom .len ≡ w .rom .len + 1) × (r .from ≡ w .from) × (r .to ≡ to) ⌝ }
 {
     let old = w.rom;
     let made = rom::insert_front(old, b"e");
     Work {
         rom: made,
         from: w.from,
-        to: w.to + 1,
+        to,
         note: edge::EXPANDED,
     }
 }
@@ -81,47 +78,33 @@ fn put_grave(w: Work) -> Work
 // Coptic: a grave puts an e in front, unless a rule has both from the first start `o`.
 fn grave(
     rules: &[u8],
-    index: &[u32],
-    classes: &[u8],
-    alphas: &[u8],
+    ready: &[u32],
     code: &[u8],
     line: &[u32],
-    kinds: &[u32],
-    n: usize,
-    slots: &[u8],
-    room: &[u8],
-    count: usize,
-    starts: &mut [u8],
+    places: &mut [u32],
     o: usize,
     w: Work,
 ) -> Work
-    requires { ⌜ Lent (now rules) (now index) (now classes) (now alphas) (now line) (now kinds) (now slots) (now room) n count
-        × Clean (w .rom) × (w .rom .len < most-bytes) × (o ≤ w .to) × (w .to ≤ n) ⌝ }
-    ensures { λ r. ⌜ Did (grave (lexicon-of (now (rules .entry)) (now (classes .entry)) (now (code .entry))) (text-in (now (line .entry)) n)
-        (view-of (now (classes .entry)) (now (slots .entry)) (now (room .entry)) count) o (work-of w) (now (starts .entry))) (work-of r) (now (starts .exit))
-        × Clean (r .rom) × (r .rom .len ≤ w .rom .len + 1) × (r .from ≡ w .from) × (w .to ≤ r .to) × (r .to ≤ n) ⌝ }
+    requires { ⌜ Prepared (now rules) (now ready) × Clean (w .rom) × (w .rom .len < most-bytes)
+        × (o ≤ w .to) × (0 < w .to) × (w .to ≤ size-in (now line)) ⌝ }
+    ensures { λ r. ⌜ Answers (now (rules .entry)) (now (ready .entry)) (now (code .entry)) (now (line .entry)) (now (places .entry)) (now (places .exit))
+        (λ L t v. grave L t v o (work-of w)) (work-of r)
+        × Clean (r .rom) × (r .rom .len ≤ w .rom .len + 1) × (r .from ≡ w .from) × (w .to ≤ r .to) × (r .to ≤ size-in (now (line .entry))) ⌝ }
 {
-    if has_grave(line, kinds, w) {
+    if has_grave(line, w) {
+        let to = w.to + 1;
         let ruled = rules::simple_top_romanization_candidate_for_span(
             rules,
-            index,
-            classes,
-            alphas,
+            ready,
             code,
             line,
-            kinds,
-            n,
-            slots,
-            room,
-            count,
-            starts,
-            o,
-            w.to + 1,
+            places,
+            Span { from: o, to },
         );
         if rules::is_told(ruled) {
             return w;
         }
-        return put_grave(w);
+        return put_grave(w, to);
     }
     w
 }
@@ -148,15 +131,18 @@ fn is_small_ya(c: u32) -> bool
     c == KATAKANA_YO
 }
 
-// Does one follow the span, of the script of its last character?
-fn is_small_next(line: &[u32], kinds: &[u32], w: Work) -> bool
-    requires { ⌜ w .to ≤ most-characters ⌝ }
-    ensures { λ r. ⌜ ((classes : List ℕ) (n : ℕ) → Lined classes (now (line .entry)) (now (kinds .entry)) n → w .to ≤ n
-        → r ≡ small-here (classes-of classes) (text-in (now (line .entry)) n) (w .to)) ⌝ }
+// Does one follow the span, of the script of its last character? None does past the text.
+fn is_small_next(line: &[u32], w: Work) -> bool
+    requires { ⌜ (0 < w .to) × (w .to ≤ size-in (now line)) ⌝ }
+    ensures { λ r. ⌜ ((x : World) → Lined x (now (line .entry)) → r ≡ small-here (kinds x) (x .text) (w .to))
+        × (r ≡ true → w .to < size-in (now (line .entry))) ⌝ }
 {
-    if is_small_ya(words::number_at(line, w.to + 1)) {
-        let script = classes::script(words::number_at(kinds, w.to));
-        return script == classes::script(words::number_at(kinds, w.to + 1));
+    if w.to < words::text_len(line) {
+        if is_small_ya(words::number_at(line, w.to + 1)) {
+            let script = classes::script(words::kind_at(line, w.to));
+            return script == classes::script(words::kind_at(line, w.to + 1));
+        }
+        return false;
     }
     false
 }
@@ -178,34 +164,27 @@ fn ends_in_i(r: Rom) -> bool
 }
 
 // What stands in the i's place: the first rule of the small ya.
-fn small_target(
-    rules: &[u8],
-    index: &[u32],
-    line: &[u32],
-    kinds: &[u32],
-    n: usize,
-    w: Work,
-) -> Chosen
-    requires { ⌜ Ready (now rules) (now index) × Clean (w .rom) × (w .to ≤ n) × (n ≤ most-characters) ⌝ }
-    ensures { λ r. ⌜ ((classes : List ℕ) → Lined classes (now (line .entry)) (now (kinds .entry)) n
-        → said (now (rules .entry)) r ≡ small-target (rules-of (now (rules .entry))) (classes-of classes) (text-in (now (line .entry)) n) (work-of w))
-        × Said (now (rules .entry)) r ⌝ }
+fn small_target(rules: &[u8], ready: &[u32], line: &[u32], w: Work) -> Chosen
+    requires { ⌜ Prepared (now rules) (now ready) × Clean (w .rom) × (0 < w .to) × (w .to ≤ size-in (now line)) ⌝ }
+    ensures { λ r. ⌜ ((x : World) → Lined x (now (line .entry))
+        → said (now (rules .entry)) r ≡ small-target (rules-of (now (rules .entry))) (kinds x) (x .text) (work-of w))
+        × Said (now (rules .entry)) r × (has (said (now (rules .entry)) r) ≡ true → (w .to < size-in (now (line .entry))) × (0 < w .rom .len)) ⌝ }
 {
-    if is_small_next(line, kinds, w) {
+    if is_small_next(line, w) {
         if ends_in_i(w.rom) {
             let small = words::number_at(line, w.to + 1);
-            return rules::romanization_by_first_rule(rules, index, &[small]);
+            return rules::romanization_by_first_rule(rules, ready, &[small]);
         }
         return Chosen::Untold;
     }
     Chosen::Untold
 }
 
-// A target in the place of the last letter, over the character after the span.
-fn put_small(rules: &[u8], target: Chosen, w: Work) -> Work
-    requires { ⌜ Said (now rules) target × Clean (w .rom) × (0 < w .rom .len) × (w .rom .len + most-target ≤ most-bytes) × (w .to ≤ most-characters) ⌝ }
-    ensures { λ r. ⌜ (work-of r ≡ work (without-last (text (w .rom)) ++ or-nothing (said (now (rules .entry)) target)) (w .from) (w .to + 1) note-exp)
-        × Clean (r .rom) × (r .rom .len < most-bytes) × (r .from ≡ w .from) × (r .to ≡ w .to + 1) ⌝ }
+// A target in the place of the last letter, over the character after the span, up to `to`.
+fn put_small(rules: &[u8], target: Chosen, w: Work, to: usize) -> Work
+    requires { ⌜ Said (now rules) target × Clean (w .rom) × (0 < w .rom .len) × (w .rom .len + most-target ≤ most-bytes) ⌝ }
+    ensures { λ r. ⌜ (work-of r ≡ work (without-last (text (w .rom)) ++ or-nothing (said (now (rules .entry)) target)) (w .from) to note-exp)
+        × Clean (r .rom) × (r .rom .len < most-bytes) × (r .from ≡ w .from) × (r .to ≡ to) ⌝ }
 {
     let old = w.rom;
     let short = rom::without_last(old);
@@ -213,7 +192,7 @@ fn put_small(rules: &[u8], target: Chosen, w: Work) -> Work
     Work {
         rom: made,
         from: w.from,
-        to: w.to + 1,
+        to,
         note: edge::EXPANDED,
     }
 }
@@ -221,67 +200,46 @@ fn put_small(rules: &[u8], target: Chosen, w: Work) -> Work
 // Small ya, unless a rule has it too, from the first start or from where the span starts now.
 fn small_y(
     rules: &[u8],
-    index: &[u32],
-    classes: &[u8],
-    alphas: &[u8],
+    ready: &[u32],
     code: &[u8],
     line: &[u32],
-    kinds: &[u32],
-    n: usize,
-    slots: &[u8],
-    room: &[u8],
-    count: usize,
-    starts: &mut [u8],
+    places: &mut [u32],
     o: usize,
     w: Work,
 ) -> Work
-    requires { ⌜ Lent (now rules) (now index) (now classes) (now alphas) (now line) (now kinds) (now slots) (now room) n count
-        × Clean (w .rom) × (w .rom .len + most-target ≤ most-bytes) × (o ≤ w .to) × (w .from ≤ w .to) × (w .to ≤ n) ⌝ }
-    ensures { λ r. ⌜ Did (small-y (lexicon-of (now (rules .entry)) (now (classes .entry)) (now (code .entry))) (text-in (now (line .entry)) n)
-        (view-of (now (classes .entry)) (now (slots .entry)) (now (room .entry)) count) o (work-of w) (now (starts .entry))) (work-of r) (now (starts .exit))
-        × Clean (r .rom) × (r .rom .len < most-bytes) × (r .from ≡ w .from) × (r .to ≤ n) ⌝ }
+    requires { ⌜ Prepared (now rules) (now ready) × Clean (w .rom) × (w .rom .len + most-target ≤ most-bytes)
+        × (o ≤ w .to) × (w .from < w .to) × (w .to ≤ size-in (now line)) ⌝ }
+    ensures { λ r. ⌜ Answers (now (rules .entry)) (now (ready .entry)) (now (code .entry)) (now (line .entry)) (now (places .entry)) (now (places .exit))
+        (λ L t v. small-y L t v o (work-of w)) (work-of r)
+        × Clean (r .rom) × (r .rom .len < most-bytes) × (r .from ≡ w .from) × (w .to ≤ r .to) × (r .to ≤ size-in (now (line .entry))) ⌝ }
 {
-    let target = small_target(rules, index, line, kinds, n, w);
+    let target = small_target(rules, ready, line, w);
     if rules::is_told(target) {
+        let from = w.from;
+        let to = w.to + 1;
         let ruled = rules::simple_top_romanization_candidate_for_span(
             rules,
-            index,
-            classes,
-            alphas,
+            ready,
             code,
             line,
-            kinds,
-            n,
-            slots,
-            room,
-            count,
-            starts,
-            o,
-            w.to + 1,
+            places,
+            Span { from: o, to },
         );
         if rules::is_told(ruled) {
             return w;
         }
         let here = rules::simple_top_romanization_candidate_for_span(
             rules,
-            index,
-            classes,
-            alphas,
+            ready,
             code,
             line,
-            kinds,
-            n,
-            slots,
-            room,
-            count,
-            starts,
-            w.from,
-            w.to + 1,
+            places,
+            Span { from, to },
         );
         if rules::is_told(here) {
             return w;
         }
-        return put_small(rules, target, w);
+        return put_small(rules, target, w, to);
     }
     w
 }
@@ -289,72 +247,24 @@ fn small_y(
 // Grave and small ya, and what ends the expansion.
 fn rest(
     rules: &[u8],
-    index: &[u32],
-    classes: &[u8],
-    alphas: &[u8],
+    ready: &[u32],
     code: &[u8],
     line: &[u32],
-    kinds: &[u32],
-    n: usize,
-    slots: &[u8],
-    room: &[u8],
-    count: usize,
-    starts: &mut [u8],
+    places: &mut [u32],
     o: usize,
     w: Work,
 ) -> Work
-    requires { ⌜ Lent (now rules) (now index) (now classes) (now alphas) (now line) (now kinds) (now slots) (now room) n count
-        × Clean (w .rom) × (w .rom .len + most-target < most-bytes) × (o ≤ w .to) × (w .from ≤ w .to) × (w .to ≤ n) ⌝ }
-    ensures { λ r. ⌜ Did (rest (lexicon-of (now (rules .entry)) (now (classes .entry)) (now (code .entry))) (text-in (now (line .entry)) n)
-        (view-of (now (classes .entry)) (now (slots .entry)) (now (room .entry)) count) o (work-of w) (now (starts .entry))) (work-of r) (now (starts .exit)) × Clean (r .rom) ⌝ }
+    requires { ⌜ Prepared (now rules) (now ready) × Clean (w .rom) × (w .rom .len + most-target < most-bytes)
+        × (o ≤ w .to) × (w .from < w .to) × (w .to ≤ size-in (now line)) ⌝ }
+    ensures { λ r. ⌜ Answers (now (rules .entry)) (now (ready .entry)) (now (code .entry)) (now (line .entry)) (now (places .entry)) (now (places .exit))
+        (λ L t v. rest L t v o (work-of w)) (work-of r) × Clean (r .rom) ⌝ }
 {
-    let u = grave(
-        rules,
-        index,
-        classes,
-        alphas,
-        code,
-        line,
-        kinds,
-        n,
-        slots,
-        room,
-        count,
-        starts,
-        o,
-        w,
-    );
-    let x = small_y(
-        rules,
-        index,
-        classes,
-        alphas,
-        code,
-        line,
-        kinds,
-        n,
-        slots,
-        room,
-        count,
-        starts,
-        o,
-        u,
-    );
-    steps::finish(line, kinds, n, x)
+    let u = grave(rules, ready, code, line, places, o, w);
+    let x = small_y(rules, ready, code, line, places, o, u);
+    steps::finish(line, x)
 }
 
-// Does what stands behind `p` end in a consonant, y not counted?
-fn ends_beside(slots: &[u8], room: &[u8], count: usize, p: usize) -> bool
-    requires { ⌜ Readable (now slots) (now room) count ⌝ }
-    ensures { λ r. ⌜ ((ks : List Class) → r ≡ last-is o-ang-side (view ks (edges-of (now (room .entry)) count (now (slots .entry))) .behind p)) ⌝ }
-{
-    let BestEdge::At(slot) = edge::find_rom_edge_path_backwards(slots, count, p) else {
-        return false;
-    };
-    rom::last_in(edge::edge_text(slots, room, slot), rom::O_ANG_SIDE)
-}
-
-// Is a text one or more of such consonants?
+// Is a text one or more of the consonants beside which O ang is spoken?
 fn is_beside(text: &[u8]) -> bool
     ensures { λ r. ⌜ r ≡ beside (now (text .entry)) ⌝ }
 {
@@ -365,47 +275,35 @@ fn is_beside(text: &[u8]) -> bool
 }
 
 // Is what the first rule of a character says?
-fn starts_beside(rules: &[u8], index: &[u32], c: u32) -> bool
-    requires { ⌜ Ready (now rules) (now index) ⌝ }
+fn starts_beside(rules: &[u8], ready: &[u32], c: u32) -> bool
+    requires { ⌜ Prepared (now rules) (now ready) ⌝ }
     ensures { λ r. ⌜ r ≡ is beside (first-rule (rules-of (now (rules .entry))) (c ∷ [])) ⌝ }
 {
-    let target = rules::romanization_by_first_rule(rules, index, &[c]);
+    let target = rules::romanization_by_first_rule(rules, ready, &[c]);
     is_beside(rules::chosen_text(rules, target))
 }
 
 // Are both neighbours of the span Thai?
-fn is_in_thai(kinds: &[u32], w: Work) -> bool
-    requires { ⌜ (w .from ≤ most-characters) × (w .to ≤ most-characters) ⌝ }
-    ensures { λ r. ⌜ ((classes line : List ℕ) (n : ℕ) → Lined classes line (now (kinds .entry)) n → w .from ≤ n → w .to ≤ n
-        → r ≡ (eqb (script (classes-of classes) (prev (text-in line n) (w .from))) script-thai
-        && eqb (script (classes-of classes) (at (text-in line n) (w .to))) script-thai)) ⌝ }
+fn is_in_thai(line: &[u32], w: Work) -> bool
+    requires { ⌜ (w .from ≤ w .to) × (w .to ≤ size-in (now line)) × (1 ≤ w .to) ⌝ }
+    ensures { λ r. ⌜ ((x : World) → Lined x (now (line .entry))
+        → r ≡ (eqb (script (kinds x) (prev (x .text) (w .from))) script-thai && eqb (script (kinds x) (at (x .text) (w .to))) script-thai)) ⌝ }
 {
-    if classes::script(words::number_at(kinds, w.from)) == classes::THAI {
-        return classes::script(words::number_at(kinds, w.to + 1)) == classes::THAI;
+    if classes::script(words::kind_at(line, w.from)) == classes::THAI {
+        return classes::script(words::kind_at(line, w.to + 1)) == classes::THAI;
     }
     false
 }
 
 // Does the span stand between Thai consonants?
-fn is_between(
-    rules: &[u8],
-    index: &[u32],
-    line: &[u32],
-    kinds: &[u32],
-    n: usize,
-    slots: &[u8],
-    room: &[u8],
-    count: usize,
-    w: Work,
-) -> bool
-    requires { ⌜ Ready (now rules) (now index) × Readable (now slots) (now room) count × (w .from ≤ n) × (w .to ≤ n) × (n ≤ most-characters) ⌝ }
-    ensures { λ r. ⌜ ((classes : List ℕ) → Lined classes (now (line .entry)) (now (kinds .entry)) n
-        → r ≡ between (rules-of (now (rules .entry))) (classes-of classes) (text-in (now (line .entry)) n)
-        (view-of classes (now (slots .entry)) (now (room .entry)) count) (work-of w)) ⌝ }
+fn is_between(rules: &[u8], ready: &[u32], line: &[u32], places: &[u32], w: Work) -> bool
+    requires { ⌜ Prepared (now rules) (now ready) × (w .from ≤ w .to) × (w .to ≤ size-in (now line)) × (1 ≤ w .to) ⌝ }
+    ensures { λ r. ⌜ ((x : World) → Lent x (now (line .entry)) (now (places .entry))
+        → r ≡ between (rules-of (now (rules .entry))) (kinds x) (x .text) (seen x) (work-of w)) ⌝ }
 {
-    if is_in_thai(kinds, w) {
-        if ends_beside(slots, room, count, w.from) {
-            return starts_beside(rules, index, words::number_at(line, w.to + 1));
+    if is_in_thai(line, w) {
+        if places::is_after_side(places, w.from) {
+            return starts_beside(rules, ready, words::number_at(line, w.to + 1));
         }
         return false;
     }
@@ -413,26 +311,14 @@ fn is_between(
 }
 
 // O ang alone is silent unless it stands so.
-fn is_silent(
-    rules: &[u8],
-    index: &[u32],
-    line: &[u32],
-    kinds: &[u32],
-    n: usize,
-    slots: &[u8],
-    room: &[u8],
-    count: usize,
-    o: usize,
-    w: Work,
-) -> bool
-    requires { ⌜ Ready (now rules) (now index) × Readable (now slots) (now room) count × (w .from ≤ n) × (w .to ≤ n) × (n ≤ most-characters) × (o ≤ n) ⌝ }
-    ensures { λ r. ⌜ ((classes : List ℕ) → Lined classes (now (line .entry)) (now (kinds .entry)) n
-        → r ≡ silent (rules-of (now (rules .entry))) (classes-of classes) (text-in (now (line .entry)) n)
-        (view-of classes (now (slots .entry)) (now (room .entry)) count) o (work-of w)) ⌝ }
+fn is_silent(rules: &[u8], ready: &[u32], line: &[u32], places: &[u32], o: usize, w: Work) -> bool
+    requires { ⌜ Prepared (now rules) (now ready) × (w .from ≤ w .to) × (w .to ≤ size-in (now line)) × (1 ≤ w .to) × (o ≤ size-in (now line)) ⌝ }
+    ensures { λ r. ⌜ ((x : World) → Lent x (now (line .entry)) (now (places .entry))
+        → r ≡ silent (rules-of (now (rules .entry))) (kinds x) (x .text) (seen x) o (work-of w)) ⌝ }
 {
     if words::number_at(line, o + 1) == O_ANG {
         if w.from + 1 == w.to {
-            if is_between(rules, index, line, kinds, n, slots, room, count, w) {
+            if is_between(rules, ready, line, places, w) {
                 return false;
             }
             return true;
@@ -445,26 +331,19 @@ fn is_silent(
 // A silent O ang is deleted.
 fn o_ang_step(
     rules: &[u8],
-    index: &[u32],
-    classes: &[u8],
-    alphas: &[u8],
+    ready: &[u32],
     code: &[u8],
     line: &[u32],
-    kinds: &[u32],
-    n: usize,
-    slots: &[u8],
-    room: &[u8],
-    count: usize,
-    starts: &mut [u8],
+    places: &mut [u32],
     o: usize,
     w: Work,
 ) -> Work
-    requires { ⌜ Lent (now rules) (now index) (now classes) (now alphas) (now line) (now kinds) (now slots) (now room) n count
-        × Clean (w .rom) × (w .rom .len + most-target < most-bytes) × (o ≤ w .to) × (w .from ≤ w .to) × (w .to ≤ n) ⌝ }
-    ensures { λ r. ⌜ Did (o-ang-step (lexicon-of (now (rules .entry)) (now (classes .entry)) (now (code .entry))) (text-in (now (line .entry)) n)
-        (view-of (now (classes .entry)) (now (slots .entry)) (now (room .entry)) count) o (work-of w) (now (starts .entry))) (work-of r) (now (starts .exit)) × Clean (r .rom) ⌝ }
+    requires { ⌜ Prepared (now rules) (now ready) × Clean (w .rom) × (w .rom .len + most-target < most-bytes)
+        × (o ≤ w .to) × (w .from < w .to) × (w .to ≤ size-in (now line)) ⌝ }
+    ensures { λ r. ⌜ Answers (now (rules .entry)) (now (ready .entry)) (now (code .entry)) (now (line .entry)) (now (places .entry)) (now (places .exit))
+        (λ L t v. o-ang-step L t v o (work-of w)) (work-of r) × Clean (r .rom) ⌝ }
 {
-    if is_silent(rules, index, line, kinds, n, slots, room, count, o, w) {
+    if is_silent(rules, ready, line, places, o, w) {
         return Work {
             rom: rom::new(),
             from: w.from,
@@ -472,174 +351,77 @@ fn o_ang_step(
             note: edge::DELETED,
         };
     }
-    rest(
-        rules,
-        index,
-        classes,
-        alphas,
-        code,
-        line,
-        kinds,
-        n,
-        slots,
-        room,
-        count,
-        starts,
-        o,
-        w,
-    )
+    rest(rules, ready, code, line, places, o, w)
 }
 
 // Thai: the pattern ends the expansion; else the vowel written before, then O ang.
 fn thai(
     rules: &[u8],
-    index: &[u32],
-    classes: &[u8],
-    alphas: &[u8],
+    ready: &[u32],
     code: &[u8],
     line: &[u32],
-    kinds: &[u32],
-    n: usize,
-    slots: &[u8],
-    room: &[u8],
-    count: usize,
-    starts: &mut [u8],
+    places: &mut [u32],
     o: usize,
     w: Work,
 ) -> Work
-    requires { ⌜ Lent (now rules) (now index) (now classes) (now alphas) (now line) (now kinds) (now slots) (now room) n count
-        × Clean (w .rom) × (w .rom .len + most-target + most-target < most-bytes) × (o ≤ w .to) × (w .from ≤ w .to) × (w .to ≤ n) ⌝ }
-    ensures { λ r. ⌜ Did (thai (lexicon-of (now (rules .entry)) (now (classes .entry)) (now (code .entry))) (text-in (now (line .entry)) n)
-        (view-of (now (classes .entry)) (now (slots .entry)) (now (room .entry)) count) o (work-of w) (now (starts .entry))) (work-of r) (now (starts .exit)) × Clean (r .rom) ⌝ }
+    requires { ⌜ Prepared (now rules) (now ready) × Clean (w .rom) × (w .rom .len + most-target + most-target < most-bytes)
+        × (o ≤ w .to) × (w .from < w .to) × (w .to ≤ size-in (now line)) ⌝ }
+    ensures { λ r. ⌜ Answers (now (rules .entry)) (now (ready .entry)) (now (code .entry)) (now (line .entry)) (now (places .entry)) (now (places .exit))
+        (λ L t v. thai L t v o (work-of w)) (work-of r) × Clean (r .rom) ⌝ }
 {
-    let tried = steps::around(rules, index, line, kinds, n, w);
+    let tried = steps::around(rules, ready, line, w);
     if tried.done {
         return tried.work;
     }
-    let u = steps::before(rules, index, line, kinds, n, w);
-    o_ang_step(
-        rules,
-        index,
-        classes,
-        alphas,
-        code,
-        line,
-        kinds,
-        n,
-        slots,
-        room,
-        count,
-        starts,
-        o,
-        u,
-    )
+    let u = steps::before(rules, ready, line, w);
+    o_ang_step(rules, ready, code, line, places, o, u)
 }
 
 // By the script of the span's first character, at `o`.
 fn by_script(
     rules: &[u8],
-    index: &[u32],
-    classes: &[u8],
-    alphas: &[u8],
+    ready: &[u32],
     code: &[u8],
     line: &[u32],
-    kinds: &[u32],
-    n: usize,
-    slots: &[u8],
-    room: &[u8],
-    count: usize,
-    starts: &mut [u8],
+    places: &mut [u32],
     o: usize,
     w: Work,
 ) -> Work
-    requires { ⌜ Lent (now rules) (now index) (now classes) (now alphas) (now line) (now kinds) (now slots) (now room) n count
-        × Clean (w .rom) × (w .rom .len + most-target + most-target < most-bytes) × (o ≤ w .to) × (w .from ≤ w .to) × (w .to ≤ n) ⌝ }
-    ensures { λ r. ⌜ Did (by-script (lexicon-of (now (rules .entry)) (now (classes .entry)) (now (code .entry))) (text-in (now (line .entry)) n)
-        (view-of (now (classes .entry)) (now (slots .entry)) (now (room .entry)) count) o (work-of w) (now (starts .entry))) (work-of r) (now (starts .exit)) × Clean (r .rom) ⌝ }
+    requires { ⌜ Prepared (now rules) (now ready) × Clean (w .rom) × (w .rom .len + most-target + most-target < most-bytes)
+        × (o ≤ w .to) × (w .from < w .to) × (w .to ≤ size-in (now line)) ⌝ }
+    ensures { λ r. ⌜ Answers (now (rules .entry)) (now (ready .entry)) (now (code .entry)) (now (line .entry)) (now (places .entry)) (now (places .exit))
+        (λ L t v. by-script L t v o (work-of w)) (work-of r) × Clean (r .rom) ⌝ }
 {
-    if classes::script(words::number_at(kinds, o + 1)) == classes::THAI {
-        return thai(
-            rules,
-            index,
-            classes,
-            alphas,
-            code,
-            line,
-            kinds,
-            n,
-            slots,
-            room,
-            count,
-            starts,
-            o,
-            w,
-        );
+    if classes::script(words::kind_at(line, o + 1)) == classes::THAI {
+        return thai(rules, ready, code, line, places, o, w);
     }
-    rest(
-        rules,
-        index,
-        classes,
-        alphas,
-        code,
-        line,
-        kinds,
-        n,
-        slots,
-        room,
-        count,
-        starts,
-        o,
-        w,
-    )
+    rest(rules, ready, code, line, places, o, w)
 }
 
 // An empty romanization is not expanded; another is doubled first.
 pub fn expand_rom_with_special_chars(
     rules: &[u8],
-    index: &[u32],
-    classes: &[u8],
-    alphas: &[u8],
+    ready: &[u32],
     code: &[u8],
     line: &[u32],
-    kinds: &[u32],
-    n: usize,
-    slots: &[u8],
-    room: &[u8],
-    count: usize,
-    starts: &mut [u8],
+    places: &mut [u32],
     r: Rom,
-    s: usize,
-    e: usize,
+    span: Span,
 ) -> Work
-    requires { ⌜ Lent (now rules) (now index) (now classes) (now alphas) (now line) (now kinds) (now slots) (now room) n count
-        × Clean r × (r .len ≤ most-target + most-vowel) × (s < e) × (e ≤ n) ⌝ }
-    ensures { λ w. ⌜ Did (expand (lexicon-of (now (rules .entry)) (now (classes .entry)) (now (code .entry))) (text-in (now (line .entry)) n)
-        (view-of (now (classes .entry)) (now (slots .entry)) (now (room .entry)) count) (text r) s e (now (starts .entry))) (work-of w) (now (starts .exit)) × Clean (w .rom) ⌝ }
+    requires { ⌜ Prepared (now rules) (now ready) × Clean r × (r .len ≤ most-target + most-vowel)
+        × (span .from < span .to) × (span .to ≤ size-in (now line)) ⌝ }
+    ensures { λ w. ⌜ Answers (now (rules .entry)) (now (ready .entry)) (now (code .entry)) (now (line .entry)) (now (places .entry)) (now (places .exit))
+        (λ L t v. expand L t v (text r) (span .from) (span .to)) (work-of w) × Clean (w .rom) ⌝ }
 {
     let w = Work {
         rom: r,
-        from: s,
-        to: e,
+        from: span.from,
+        to: span.to,
         note: edge::UNTOUCHED,
     };
     if r.len == 0 {
         return w;
     }
-    let u = steps::double(line, kinds, n, s, w);
-    by_script(
-        rules,
-        index,
-        classes,
-        alphas,
-        code,
-        line,
-        kinds,
-        n,
-        slots,
-        room,
-        count,
-        starts,
-        s,
-        u,
-    )
+    let u = steps::double(line, span.from, w);
+    by_script(rules, ready, code, line, places, span.from, u)
 }

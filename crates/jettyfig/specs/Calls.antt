@@ -11,8 +11,8 @@ use Rattle.base.specs.Lists.{or-else}
 use Rattle.base.specs.Alls.{All}
 use Rattle.definition.specs.Limits.{slot-bytes}
 use Rattle.definition.specs.Texts.{Text}
-use Rattle.definition.specs.Tables.{Tables}
-use Rattle.definition.specs.Edges.{Mem, State}
+use Rattle.definition.specs.Tables.{Class, Tables}
+use Rattle.definition.specs.Edges.{State}
 use Rattle.definition.specs.Building.{lattice}
 use Rattle.definition.specs.Bounds.{Sound}
 use Rattle.definition.specs.Listing.{shown}
@@ -82,19 +82,19 @@ module _ (i : Inputs) (D : Tables) (t : Text) where
   built-all e = sym (ap (within-room i D t (lattice D t)) e)
 
 -- a lattice that is in the slots has found room
-module _ {S R S′ R′ : List ℕ} {m : Mem} {most : ℕ} {st : State} {n u : ℕ} (b : Reached S R S′ R′ m most st (Fits n u)) where
+module _ {ks : List Class} {n : ℕ} {S R S′ R′ P′ : List ℕ} {most : ℕ} {st : State} {c u : ℕ} (b : Reached ks n S R S′ R′ P′ most st (Fits c u)) where
   pub reached-fits : misfit (length S / slot-bytes) (length R) (st .0) ≡ none
   reached-fits =
-      ap (λ (s : State). misfit (length S / slot-bytes) (length R) (s .0)) (sym (b .told .0))
-      ∙ ap (λ (k : ℕ). misfit (k / slot-bytes) (length R) (edges-of R′ n S′)) (sym (b .slots))
-      ∙ ap (λ (k : ℕ). misfit (length S′ / slot-bytes) k (edges-of R′ n S′)) (sym (b .room))
-      ∙ stored-fits S′ R′ n u (b .told .1)
+      ap (misfit (length S / slot-bytes) (length R)) (sym (b .came .0 .edges))
+      ∙ ap (λ (k : ℕ). misfit (k / slot-bytes) (length R) (edges-of R′ c S′)) (sym (b .slots))
+      ∙ ap (λ (k : ℕ). misfit (length S′ / slot-bytes) k (edges-of R′ c S′)) (sym (b .room))
+      ∙ stored-fits S′ R′ c u (b .came .0 .stored)
 
-  pub reached-count : n ≡ length (st .0)
-  reached-count = sym (edge-count S′ R′ n) ∙ ap (λ (s : State). length (s .0)) (b .told .0)
+  pub reached-count : c ≡ length (st .0)
+  reached-count = sym (edge-count S′ R′ c) ∙ ap length (b .came .0 .edges)
 
-  pub reached-sound : (k : ℕ) → All (Sound k) (st .0) → All (Sound k) (edges-of R′ n S′)
-  reached-sound k h = subst (λ (s : State). All (Sound k) (s .0)) (sym (b .told .0)) h
+  pub reached-sound : (k : ℕ) → All (Sound k) (st .0) → All (Sound k) (edges-of R′ c S′)
+  reached-sound k h = subst (All (Sound k)) (sym (b .came .0 .edges)) h
 
 -- What is read, and what is checked before
 module _ (i : Inputs) where

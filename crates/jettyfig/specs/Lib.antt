@@ -1,3 +1,4 @@
 pub mod Verdicts
+pub mod Steps
 pub mod Calls
 pub mod Endings

@@ -1,27 +1,37 @@
 // The call: a text romanized by three lent tables and a language code, in lent slots and text room, into a lent output; or
 // one numbered refusal. Nothing is assumed of what is lent.
-ghost use mathlib.Core.List.{List};
+ghost use mathlib.Core.List.{_++_};
 ghost use mathlib.Core.Option.{none};
 ghost use mathlib.Core.Path.{_≡_};
-ghost use Prim.Native.Nat.{ℕ, _*_, _≤_};
-ghost use lib.ListN.{length, replicate};
-ghost use Rattle.base.specs.Alls.{All};
-ghost use Rattle.definition.specs.Limits.{most-characters, most-edges};
+ghost use Prim.Native.Nat.{ℕ, _+_, _*_, _≤_};
+ghost use lib.ListN.{length, take, replicate};
+ghost use Rattle.definition.specs.Limits.{most-characters};
 ghost use Rattle.definition.specs.Utf8.{decoded};
-ghost use Rattle.definition.specs.Bounds.{Sound};
-ghost use Rattle.definition.specs.Listing.{shown};
-ghost use Rattle.definition.specs.Call.{Inputs, tables-of, refusal, written, accepted, unless-refused, called};
-ghost use Rattle.utf8.specs.Read.{text-refusal};
-ghost use Rattle.utf8.specs.Lines.{framed};
+ghost use Rattle.definition.specs.ClassRows.{class-fault};
+ghost use Rattle.definition.specs.Call.{Inputs, tables-of, refusal, accepted, unless-refused, called};
+ghost use Rattle.utf8.specs.Read.{refused as refused-text, text-refusal};
+ghost use Rattle.classes.specs.Told.{alphas-of};
 ghost use Rattle.vowelrows.specs.Told.{FineVowels};
-ghost use Rattle.edge.specs.Slots.{edges-of};
-ghost use Rattle.words.specs.Given.{text-in};
-ghost use Rattle.rules.specs.Lent.{Read, Lent};
-ghost use Rattle.lattice.specs.Fallback.{Own};
+ghost use Rattle.dicts.specs.Index.{index-entries, index-of};
+ghost use Rattle.words.specs.Given.{Prepared};
+ghost use Rattle.lattice.specs.Fallback.{Own, chars-in};
+ghost use Rattle.output.specs.Whole.{Whole};
 ghost use Rattle.jettyfig.specs.Verdicts.{refusal-of, given, returned, by-code, by-vowels, by-classes, by-tables, before-text};
+ghost use Rattle.jettyfig.specs.Steps.{with-kinds, Readied, Writes, Romanizes};
 use blocks::TableRead;
 use edge::Added;
+use output::Built;
 use utf8::TextRead;
+
+// What is prepared for a text of the most characters: the text between spaces and the classes of its characters; an
+// entry for each position, its end too; and of the tables 128 ASCII letters and the index, of every 16th rule.
+const MOST_CHARACTERS: usize = 512;
+
+const LINE: usize = 2 * (MOST_CHARACTERS + 3);
+
+const MOST_PLACES: usize = MOST_CHARACTERS + 1;
+
+const READY: usize = 128 + 512;
 
 // What a call returns: 0, the output's length and the number of edges; or a refusal's number and its place.
 #[repr(C)]
@@ -108,42 +118,31 @@ fn check(mode: u8, rules: &[u8], classes: &[u8], vowels: &[u8], code: &[u8]) -> 
 
 // 11, or done: what the mode shows.
 fn show(
-    mode: u8,
     rules: &[u8],
-    index: &[u32],
-    classes: &[u8],
-    alphas: &[u8],
+    ready: &[u32],
     code: &[u8],
     line: &[u32],
-    kinds: &[u32],
-    n: usize,
     slots: &[u8],
-    room: &[u8],
-    count: usize,
-    starts: &mut [u8],
+    room: &mut [u8],
+    places: &mut [u32],
+    starts: &[u32],
+    built: Built,
     out: &mut [u8],
 ) -> Answer
-    requires { ⌜ Lent (now rules) (now index) (now classes) (now alphas) (now line) (now kinds) (now slots) (now room) n count
-        × All (Sound n) (edges-of (now room) count (now slots)) × (count ≤ most-edges * most-characters) × (mode ≤ 3)
-        × (now out ≡ replicate (length (now out)) 0) ⌝ }
-    ensures { λ r. ⌜ ((vowels : List ℕ) (i : Inputs) → i .out ≡ length (now (out .entry)) → returned r (now (out .exit)) ≡ written i count
-        (shown (tables-of (now (rules .entry)) (now (classes .entry)) vowels (now (code .entry))) (text-in (now (line .entry)) n) mode
-        (edges-of (now (room .entry)) count (now (slots .entry)), now (starts .entry)))) ⌝ }
+    requires { ⌜ Whole (now rules) (now ready) (now line) (now slots) (now room) (now places) (now starts) built × (now out ≡ replicate (length (now out)) 0) ⌝ }
+    ensures { λ r. ⌜ ((i : Inputs) → i .out ≡ length (now (out .entry)) → Writes i (now (rules .entry)) (now (ready .entry)) (now (code .entry)) (now (line .entry))
+        (now (slots .entry)) (now (room .entry)) (now (places .entry)) built (returned r (now (out .exit)))) ⌝ }
 {
     let needed = output::put_shown(
-        mode,
         rules,
-        index,
-        classes,
-        alphas,
+        ready,
         code,
         line,
-        kinds,
-        n,
         slots,
         room,
-        count,
+        places,
         starts,
+        built,
         out,
     );
     if out.len() < needed {
@@ -154,63 +153,60 @@ fn show(
         number: 0,
         place: 0,
         length: needed as u64,
-        edges: count as u64,
+        edges: built.count as u64,
     }
 }
 
-// 9 and 10, or what is shown of the lattice.
+// An entry for each position, nothing noted yet.
+fn no_entries() -> [u32; MOST_PLACES]
+    ensures { λ r. ⌜ r ≡ replicate (most-characters + 1) 0 ⌝ }
+{
+    [0u32; MOST_PLACES]
+}
+
+// 9 and 10, or what is shown of the lattice. What is kept by position and by start while it is built begins as zeros.
 fn romanize<'a>(
     mode: u8,
     rules: &'a [u8],
-    index: &[u32],
-    classes: &[u8],
-    alphas: &[u8],
+    ready: &[u32],
     vowels: &[u8],
     code: &[u8],
     text: &'a [u8],
     line: &[u32],
-    kinds: &[u32],
-    n: usize,
     slots: &mut [u8],
     room: &mut [u8],
-    starts: &mut [u8],
     out: &mut [u8],
 ) -> Answer
-    requires { ⌜ Read (now rules) (now index) (now classes) (now alphas) (now line) (now kinds) n × FineVowels (now vowels)
-        × Own (now text) (text-in (now line) n) × (now starts ≡ replicate n 0) × (mode ≤ 3) × (now out ≡ replicate (length (now out)) 0) ⌝ }
-    ensures { λ r. ⌜ returned r (now (out .exit)) ≡ accepted (given mode (now (rules .entry)) (now (classes .entry)) (now (vowels .entry)) (now (code .entry)) (now (text .entry))
-        (length (now (slots .entry))) (length (now (room .entry))) (length (now (out .entry))))
-        (tables-of (now (rules .entry)) (now (classes .entry)) (now (vowels .entry)) (now (code .entry))) (text-in (now (line .entry)) n) ⌝ }
+    requires { ⌜ Prepared (now rules) (now ready) × FineVowels (now vowels) × Own (now text) (chars-in (now line)) × Readied (now ready) (now line)
+        × (mode ≤ 3) × (now out ≡ replicate (length (now out)) 0) ⌝ }
+    ensures { λ r. ⌜ Romanizes mode (now (rules .entry)) (now (ready .entry)) (now (vowels .entry)) (now (code .entry)) (now (text .entry)) (now (line .entry))
+        (length (now (slots .entry))) (length (now (room .entry))) (length (now (out .entry))) (returned r (now (out .exit))) ⌝ }
 {
+    let end = words::text_len(line) + 1;
+    let mut places = no_entries();
+    let mut starts = no_entries();
     match lattice::build_lattice(
         rules,
-        index,
-        classes,
-        alphas,
+        ready,
         vowels,
         code,
         text,
         line,
-        kinds,
-        n,
         slots,
         room,
-        starts,
+        &mut places[..end],
+        &mut starts[..end],
     ) {
-        Added::Fits { count, used: _ } => show(
-            mode,
+        Added::Fits { count, used } => show(
             rules,
-            index,
-            classes,
-            alphas,
+            ready,
             code,
             line,
-            kinds,
-            n,
             slots,
             room,
-            count,
-            starts,
+            &mut places[..end],
+            &starts[..end],
+            Built { mode, count, used },
             out,
         ),
         Added::NoSlot(p) => refuse(9, p as u64),
@@ -218,7 +214,16 @@ fn romanize<'a>(
     }
 }
 
-// The same, with what the engine is lent made ready: classes told, index filled, nothing remembered.
+// What the engine asks of the tables besides their rows: the ASCII letters, then the index of the rule table.
+fn make_ready(rules: &[u8], classes: &[u8], ready: &mut [u32])
+    requires { ⌜ (class-fault (now classes) ≡ none) × (now ready ≡ replicate (128 + index-entries) 0) ⌝ }
+    ensures { λ _. ⌜ now (ready .exit) ≡ alphas-of (now (classes .entry)) ++ index-of (now (rules .entry)) ⌝ }
+{
+    classes::classify_ascii(classes, &mut ready[..128]);
+    dicts::fill_index(rules, &mut ready[128..]);
+}
+
+// The same, with what the engine is lent made ready.
 fn prepare<'a>(
     mode: u8,
     rules: &'a [u8],
@@ -227,41 +232,49 @@ fn prepare<'a>(
     code: &[u8],
     text: &'a [u8],
     line: &[u32],
-    n: usize,
     slots: &mut [u8],
     room: &mut [u8],
     out: &mut [u8],
 ) -> Answer
     requires { ⌜ (refusal (given mode (now rules) (now classes) (now vowels) (now code) (now text) 0 0 0) ≡ none)
-        × (now line ≡ framed (decoded (now text))) × (n ≡ length (decoded (now text))) × (now out ≡ replicate (length (now out)) 0) ⌝ }
+        × (now line ≡ with-kinds (now classes) (decoded (now text))) × (now out ≡ replicate (length (now out)) 0) ⌝ }
     ensures { λ r. ⌜ returned r (now (out .exit)) ≡ accepted (given mode (now (rules .entry)) (now (classes .entry)) (now (vowels .entry)) (now (code .entry)) (now (text .entry))
         (length (now (slots .entry))) (length (now (room .entry))) (length (now (out .entry))))
         (tables-of (now (rules .entry)) (now (classes .entry)) (now (vowels .entry)) (now (code .entry))) (decoded (now (text .entry))) ⌝ }
 {
-    let mut kinds = [0u32; 515];
-    classes::classify(classes, line, &mut kinds);
-    let mut alphas = [0u8; 128];
-    classes::classify_ascii(classes, &mut alphas);
-    let mut index = [0u32; 512];
-    dicts::fill_index(rules, &mut index);
-    let mut starts = [0u8; 512];
+    let mut ready = [0u32; READY];
+    make_ready(rules, classes, &mut ready);
     romanize(
         mode,
         rules,
-        &index,
-        classes,
-        &alphas,
+        &ready,
         vowels,
         code,
         text,
         line,
-        &kinds,
-        n,
         slots,
         room,
-        &mut starts[..n],
         out,
     )
+}
+
+// The text between spaces, and behind it the class of each of its characters.
+fn lay_out(classes: &[u8], text: &[u8], line: &mut [u32]) -> TextRead
+    requires { ⌜ (class-fault (now classes) ≡ none) × (length (now line) ≡ 2 * (most-characters + 3)) ⌝ }
+    ensures refusal { λ r. ⌜ refused-text r ≡ text-refusal (now (text .entry)) ⌝ }
+    ensures line { λ r. ⌜ ((n : ℕ) → r ≡ TextRead.Characters n → (n ≡ length (decoded (now (text .entry)))) × (n ≤ most-characters)
+        × (take (2 * (n + 3)) (now (line .exit)) ≡ with-kinds (now (classes .entry)) (decoded (now (text .entry))))) ⌝ }
+{
+    let read = utf8::read_line(text, line);
+    match read {
+        TextRead::Characters(n) => {
+            classes::classify(classes, &mut line[..2 * (n + 3)]);
+            read
+        }
+        TextRead::NotUtf8(_) => read,
+        TextRead::TooLong => read,
+        TextRead::LeftOut(_) => read,
+    }
 }
 
 // 6, 7 and 8, or the text romanized.
@@ -280,8 +293,8 @@ fn read<'a>(
     ensures { λ r. ⌜ returned r (now (out .exit)) ≡ unless-refused (given mode (now (rules .entry)) (now (classes .entry)) (now (vowels .entry)) (now (code .entry)) (now (text .entry))
         (length (now (slots .entry))) (length (now (room .entry))) (length (now (out .entry)))) (text-refusal (now (text .entry))) ⌝ }
 {
-    let mut line = [0u32; 515];
-    match utf8::read_line(text, &mut line) {
+    let mut line = [0u32; LINE];
+    match lay_out(classes, text, &mut line) {
         TextRead::Characters(n) => prepare(
             mode,
             rules,
@@ -289,14 +302,13 @@ fn read<'a>(
             vowels,
             code,
             text,
-            &line,
-            n,
+            &line[..2 * (n + 3)],
             slots,
             room,
             out,
         ),
         TextRead::NotUtf8(at) => refuse(6, at as u64),
-        TextRead::TooLong => refuse(7, 512),
+        TextRead::TooLong => refuse(7, MOST_CHARACTERS as u64),
         TextRead::LeftOut(p) => refuse(8, p as u64),
     }
 }

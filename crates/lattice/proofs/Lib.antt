@@ -1,1 +1,5 @@
+pub mod Spans
+pub mod Rising
+pub mod Passes
 pub mod Falls
+pub mod Falling

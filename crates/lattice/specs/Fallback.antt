@@ -8,7 +8,7 @@ use native.Mathlib.Omega.{arith}
 use native.Mathlib.Numerals.{add-one}
 use lib.Dec.{eqb, ltb}
 use lib.ListN.{length, getD, take, drop, length-append, length-drop}
-use lib.Seq.{drop-cons, drop-drop, take-append-seam, drop-append-seam}
+use lib.Seq.{take-all, drop-cons, drop-drop, take-append-seam, drop-append-seam}
 use borrow.Author.Tests.{eq-eqb, ne-eqb}
 use Rattle.base.specs.Pick.{pick, pick-all}
 use Rattle.base.specs.Lists.{has, maybe}
@@ -21,15 +21,19 @@ use Rattle.definition.specs.Roundtrip.{decoded-encoded}
 use Rattle.definition.specs.Tables.{Lexicon, category-Mn, category-Cf, category-Co, category-Zs}
 use Rattle.definition.specs.Classes.{class}
 use Rattle.definition.specs.Shorts.{Low, Short, short-wide, short-tail, encode-length}
-use Rattle.definition.specs.Edges.{Edge, View, Mem, M, ret, _>>=_}
+use Rattle.definition.specs.Edges.{Edge, View, Mem, M, covered, ret, _>>=_}
 use Rattle.definition.specs.Rules.{simple}
 use Rattle.definition.specs.Building.{single, fallback-plus, fallback-by, fallback-edge}
 use Rattle.utf8.specs.Encodings.{Scalars, TextBytes, encoded-bytes, low-bytes, low-decoded}
 use Rattle.edge.specs.declared.Numbers.{Numbers}
-use Rattle.edge.specs.Slots.{edge-by}
-use Rattle.edge.specs.Adding.{Writable}
+use Rattle.edge.specs.Slots.{edge-by, edges-of}
+use Rattle.edge.specs.declared.Filled.{Filled}
+use Rattle.edge.specs.Adding.{there, Writable}
+use Rattle.standing.specs.Fallen.{fallback-fresh}
 use Rattle.words.specs.Did.{Did, did, outcome}
+use Rattle.words.specs.Given.{World, size-in, Lined, line-size, part-at}
 use Rattle.spans.specs.Spans.{plus-dropped, fallback-bytes, category-note}
+use Rattle.lattice.specs.declared.Here.{Here}
 
 -- the numbers of an edge over one character
 unfoldable pub single-numbers : ℕ → ℕ → Numbers
@@ -144,6 +148,31 @@ pub record Own (text : List ℕ) (t : Text) : Type 0 where
   pub bytes : text ≡ encoded t
   pub scalars : Scalars t
 
+-- the characters in a line
+abbrev pub chars-in : List ℕ → Text
+chars-in line = take (size-in line) (drop 1 line)
+
+pub chars-are : {w : World} {line : List ℕ} → Lined w line → chars-in line ≡ w .text
+chars-are {w} {line} g =
+    part-at g 0 (length (w .text)) 1 (size-in line) (omega arith) (omega arith) refl (omega (arith, line-size g))
+    ∙ ap (λ (k : ℕ). take k (w .text)) {x = length (w .text) - 0} {y = length (w .text)} (omega arith) ∙ take-all (length (w .text)) (w .text) (omega arith)
+
+-- a position of the text, and the offset of its bytes
+pub record At (text line : List ℕ) (here : Here) : Type 0 where
+  pub own : Own text (chars-in line)
+  pub inside : here .p < size-in line
+  pub bytes : drop (here .at) text ≡ encoded (drop (here .p) (chars-in line))
+
+-- no edge goes over the one character at `p`, so that a fallback there needs no comparison
+pub record Bare (slots room : List ℕ) (filled : Filled) (p : ℕ) : Type 0 where
+  pub all : filled .since ≡ filled .count
+  pub uncovered : covered (edges-of room (filled .count) slots) p ≡ false
+
+pub bare-new : {slots room : List ℕ} {filled : Filled} {p : ℕ} → Bare slots room filled p → (x : Edge) → x .from ≡ p → x .to ≡ p + 1
+    → there (edges-of room (filled .since) slots) x ≡ false
+bare-new {slots} {room} {filled} {p} b x f h =
+    ap (λ (c : ℕ). there (edges-of room c slots) x) (b .all) ∙ fallback-fresh (edges-of room (filled .count) slots) p x (b .uncovered) f h
+
 encode-some : (c : ℕ) → 1 ≤ length (encode c)
 unfolding encode pick
 encode-some c = go (ltb c 0x80) (ltb c 0x800) (ltb c 0x10000)
@@ -188,12 +217,12 @@ module _ (text : List ℕ) (t : Text) (p from : ℕ) (h : p < length t) (e : dro
     unfolding encoded
     own-text = subst TextBytes (append-nil own) (encoded-bytes (at t p ∷ []) scalar-here)
 
-    own-decoded : decoded own ≡ at t p ∷ []
+    pub own-decoded : decoded own ≡ at t p ∷ []
     unfolding encoded
     own-decoded = ap decoded (sym (append-nil own)) ∙ decoded-encoded (at t p ∷ []) scalar-here
 
     module _ (used : ℕ) (few : p < most-characters) (u : used < 4294967296) where
-      dropped-short : (w : Text) → Short most-target w → Short most-target (plus-dropped w)
+      pub dropped-short : (w : Text) → Short most-target w → Short most-target (plus-dropped w)
       unfolding plus-dropped
       dropped-short w s = pick-all (Short most-target) (fallback-plus w) (short-wide (most-target - 1) (omega arith) (short-tail most-target s)) s
 

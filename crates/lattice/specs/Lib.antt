@@ -1,4 +1,6 @@
 pub mod Reached
 pub mod Turns
-pub mod Fallback
+pub mod Endings
 pub mod Spelling
+pub mod Fallback
+pub mod Starts

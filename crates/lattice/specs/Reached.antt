@@ -1,101 +1,155 @@
--- How far building has come: a state's edges in slots and room, or the refusal that the scan of its edges gives.
-use Prim.Native.Nat.{ℕ, _+_, _-_, _/_, _≤_}
+-- How far building has come: slots, room and places keep a state of the definition, or there is the refusal that the scan
+-- of its edges gives.
+use Prim.Native.Nat.{ℕ, _+_, _/_, _≤_, _<_}
 use mathlib.Core.List.{List, []}
 use mathlib.Core.Option.{some}
 use mathlib.Core.Path.{_≡_, refl, sym, ap, _∙_, subst}
 use native.Mathlib.Omega.{arith}
 use lib.ListN.{length}
 use Rattle.definition.specs.Limits.{slot-bytes}
+use Rattle.definition.specs.Texts.{Text}
+use Rattle.definition.specs.Tables.{Class, Tables}
 use Rattle.definition.specs.Edges.{Edge, Mem, State, add}
 use Rattle.definition.specs.Capacity.{Refusal, refuse, misfit}
 use Rattle.definition.specs.Growth.{Added, misfit-grown}
+use Rattle.definition.specs.Call.{tables-of}
 use Rattle.edge.specs.declared.Numbers.{Numbers}
+use Rattle.edge.specs.declared.Filled.{Filled}
 use Rattle.edge.specs.declared.Added.{Added as Answer}
 use Rattle.edge.specs.declared.Added.the-variants.{Fits, NoSlot, NoRoom}
 use Rattle.edge.specs.Slots.{edge-by, edges-of}
 use Rattle.edge.specs.Stored.{Stored}
-use Rattle.edge.specs.Adding.{added, slots-after, room-after, Writable, grown, slots-after-length, room-after-length, added-used}
+use Rattle.edge.specs.Adding.{added, slots-after, room-after, Writable, slots-after-length, room-after-length, added-used}
 use Rattle.edge.specs.Fitting.{Told as Fitted, stopped}
+use Rattle.places.specs.declared.Ending.{Ending}
+use Rattle.places.specs.Shows.{Ends, memory}
+use Rattle.noting.specs.Noting.{places-after}
+use Rattle.noting.specs.Keeps.{Keeps, keeps-added}
+use Rattle.words.specs.Given.{World, kinds, size, Told, Lined, Lent}
 
--- From slots `S` and room `R` to `S′` and `R′`, with `m` remembered and `most` bytes used at most
-module _ (S R S′ R′ : List ℕ) (m : Mem) (most : ℕ) (st : State) where
-  abbrev Told : Answer → Type 0
-  Told (Fits n u) = (_≡_ {A = State} (edges-of R′ n S′, m) st) × Stored S′ R′ n u × (u ≤ most)
-  Told (NoSlot p) = misfit (length S / slot-bytes) (length R) (st .0) ≡ some (refuse 9 p)
-  Told (NoRoom p) = misfit (length S / slot-bytes) (length R) (st .0) ≡ some (refuse 10 p)
+-- an offset into the text room has four bytes
+abbrev pub addressable : ℕ
+addressable = 4294967296
+
+-- no edges yet
+abbrev pub nothing : Filled
+nothing = record { count = 0; used = 0; since = 0 }
+
+-- A world whose edges stand in slots and room: what all that is lent stands for while the lattice is built
+pub record Over (w : World) (ready line slots room places : List ℕ) (filled : Filled) : Type 0 where
+  pub told : Told w ready
+  pub lent : Lent w line places
+  pub stored : Stored slots room (filled .count) (filled .used)
+  pub edges : edges-of room (filled .count) slots ≡ w .edges
+
+-- there is one
+pub record Somewhere (ready line slots room places : List ℕ) (filled : Filled) : Type 0 where
+  pub world : World
+  pub over : Over world ready line slots room places filled
+
+-- its state
+abbrev pub state-of : World → List ℕ → State
+state-of w places = (w .edges, memory (size w) places)
+
+pub over-keeps : {w : World} {ready line slots room places : List ℕ} {filled : Filled} → Over w ready line slots room places filled
+    → Keeps (kinds w) (size w) slots room places (filled .count) (filled .used) (state-of w places)
+over-keeps o = record { stored = o .stored; edges = o .edges; shown = o .lent .edges; remembered = refl }
+
+-- a state is what slots, room and places keep of it
+pub keeps-state : {ks : List Class} {n : ℕ} {S R P : List ℕ} {c u : ℕ} (st : State) → Keeps ks n S R P c u st
+    → _≡_ {A = State} (edges-of R c S, memory n P) st
+keeps-state {ks} {n} {S} {R} {P} {c} {u} st k =
+    ap (λ (es : List Edge). (es, memory n P)) (k .edges) ∙ ap (λ (m : Mem). (st .0, m)) (k .remembered)
+
+-- the same world with other edges
+abbrev pub with-edges : World → List Edge → World
+with-edges w es = record { classes = w .classes; text = w .text; edges = es }
+
+pub over-now : {w : World} {ready line : List ℕ} → Told w ready → Lined w line → (slots room places : List ℕ) (filled : Filled) (st : State)
+    → Keeps (kinds w) (size w) slots room places (filled .count) (filled .used) st → Over (with-edges w (st .0)) ready line slots room places filled
+over-now t g slots room places filled st k = record {
+  told = t;
+  lent = record { text = record { fine = g .fine; few = g .few; is = g .is }; edges = k .shown };
+  stored = k .stored;
+  edges = k .edges;
+}
+
+-- From slots `S` and room `R` to `S′`, `R′` and places `P′`, with `most` bytes used at most
+module _ (ks : List Class) (n : ℕ) (S R S′ R′ P′ : List ℕ) (most : ℕ) (st : State) where
+  abbrev Came : Answer → Type 0
+  Came (Fits c u) = Keeps ks n S′ R′ P′ c u st × (u ≤ most)
+  Came (NoSlot p) = misfit (length S / slot-bytes) (length R) (st .0) ≡ some (refuse 9 p)
+  Came (NoRoom p) = misfit (length S / slot-bytes) (length R) (st .0) ≡ some (refuse 10 p)
 
   pub record Reached (r : Answer) : Type 0 where
     pub slots : length S′ ≡ length S
     pub room : length R′ ≡ length R
-    pub told : Told r
+    pub came : Came r
 
--- What goes on where nothing was refused, and what was refused
-abbrev pub Going : List ℕ → List ℕ → ℕ → Answer → Type 0
-Going S R most (Fits n u) = Stored S R n u × (u ≤ most)
-Going S R most (NoSlot p) = Unit {0}
-Going S R most (NoRoom p) = Unit {0}
+-- slots, room and places
+abbrev pub Rooms : Type 0
+Rooms = List ℕ × List ℕ × List ℕ
+
+-- What a step of building promises: of every world over what was lent, it reaches where the definition's step `f` leads
+abbrev pub Reaches : List ℕ → List ℕ → List ℕ → List ℕ → List ℕ → Rooms → Rooms → Filled → ℕ → (Tables → Text → State → State) → Answer → Type 0
+Reaches rules ready vowels code line before after filled most f r =
+    (w : World) → Over w ready line (before .0) (before .1) (before .2) filled
+    → Reached (kinds w) (size w) (before .0) (before .1) (after .0) (after .1) (after .2) most
+    (f (tables-of rules (w .classes) vowels code) (w .text) (state-of w (before .2))) r
 
 abbrev pub Refused : Answer → Type 0
 Refused (Fits n u) = ⊥
 Refused (NoSlot p) = Unit {0}
 Refused (NoRoom p) = Unit {0}
 
-module _ {S R S′ R′ : List ℕ} {m : Mem} {most : ℕ} {st : State} where
-  pub reached-going : (r : Answer) → Reached S R S′ R′ m most st r → Going S′ R′ most r
-  reached-going (Fits n u) a = (a .told .1, a .told .2)
-  reached-going (NoSlot p) a = tt
-  reached-going (NoRoom p) a = tt
-
-  pub reached-wide : (more : ℕ) → most ≤ more → (r : Answer) → Reached S R S′ R′ m most st r → Reached S R S′ R′ m more st r
-  reached-wide more l (Fits n u) a =
-      record { slots = a .slots; room = a .room; told = (a .told .0, a .told .1, (let k = a .told .2 in omega arith)) }
-  reached-wide more l (NoSlot p) a = record { slots = a .slots; room = a .room; told = a .told }
-  reached-wide more l (NoRoom p) a = record { slots = a .slots; room = a .room; told = a .told }
+module _ {ks : List Class} {n : ℕ} {S R S′ R′ P′ : List ℕ} {most : ℕ} {st : State} where
+  pub reached-wide : (more : ℕ) → most ≤ more → (r : Answer) → Reached ks n S R S′ R′ P′ most st r → Reached ks n S R S′ R′ P′ more st r
+  reached-wide more l (Fits c u) a =
+      record { slots = a .slots; room = a .room; came = (a .came .0, (let k = a .came .1 in omega arith)) }
+  reached-wide more l (NoSlot p) a = record { slots = a .slots; room = a .room; came = a .came }
+  reached-wide more l (NoRoom p) a = record { slots = a .slots; room = a .room; came = a .came }
 
   -- a refusal stays, whatever comes after
   pub reached-refused : (P : Edge → Type 0) (more : ℕ) (st′ : State) → Added P (st .0) (st′ .0)
-      → (r : Answer) → Refused r → Reached S R S′ R′ m most st r → Reached S R S′ R′ m more st′ r
-  reached-refused P more st′ g r h a = go r h (a .told)
+      → (r : Answer) → Refused r → Reached ks n S R S′ R′ P′ most st r → Reached ks n S R S′ R′ P′ more st′ r
+  reached-refused P more st′ g r h a = go r h (a .came)
     where
       stays : (x : Refusal) → misfit (length S / slot-bytes) (length R) (st .0) ≡ some x
           → misfit (length S / slot-bytes) (length R) (st′ .0) ≡ some x
       stays x q = ap (misfit (length S / slot-bytes) (length R)) (g .is) ∙ misfit-grown (length S / slot-bytes) (length R) (st .0) (g .more) x q
 
-      go : (r : Answer) → Refused r → Told S R S′ R′ m most st r → Reached S R S′ R′ m more st′ r
-      go (Fits n u) h t = absurd h
-      go (NoSlot p) h t = record { slots = a .slots; room = a .room; told = stays (refuse 9 p) t }
-      go (NoRoom p) h t = record { slots = a .slots; room = a .room; told = stays (refuse 10 p) t }
+      go : (r : Answer) → Refused r → Came ks n S R S′ R′ P′ most st r → Reached ks n S R S′ R′ P′ more st′ r
+      go (Fits c u) h t = absurd h
+      go (NoSlot p) h t = record { slots = a .slots; room = a .room; came = stays (refuse 9 p) t }
+      go (NoRoom p) h t = record { slots = a .slots; room = a .room; came = stays (refuse 10 p) t }
 
   -- a state that is equal
-  pub reached-as : (st′ : State) → st ≡ st′ → (r : Answer) → Reached S R S′ R′ m most st r → Reached S R S′ R′ m most st′ r
-  reached-as st′ e r a = subst (λ (s : State). Reached S R S′ R′ m most s r) e a
+  pub reached-as : (st′ : State) → st ≡ st′ → (r : Answer) → Reached ks n S R S′ R′ P′ most st r → Reached ks n S R S′ R′ P′ most st′ r
+  reached-as st′ e r a = subst (λ (s : State). Reached ks n S R S′ R′ P′ most s r) e a
+
+  -- slots and room that were as long before
+  pub reached-since : (S₀ R₀ : List ℕ) → length S ≡ length S₀ → length R ≡ length R₀ → (r : Answer)
+      → Reached ks n S R S′ R′ P′ most st r → Reached ks n S₀ R₀ S′ R′ P′ most st r
+  reached-since S₀ R₀ a b r x = go r (x .came)
+    where
+      fitted : (y : Refusal) → misfit (length S / slot-bytes) (length R) (st .0) ≡ some y → misfit (length S₀ / slot-bytes) (length R₀) (st .0) ≡ some y
+      fitted y q = ap (λ k. misfit (k / slot-bytes) (length R₀) (st .0)) (sym a) ∙ ap (λ k. misfit (length S / slot-bytes) k (st .0)) (sym b) ∙ q
+
+      go : (r : Answer) → Came ks n S R S′ R′ P′ most st r → Reached ks n S₀ R₀ S′ R′ P′ most st r
+      go (Fits c u) t = record { slots = x .slots ∙ a; room = x .room ∙ b; came = t }
+      go (NoSlot p) t = record { slots = x .slots ∙ a; room = x .room ∙ b; came = fitted (refuse 9 p) t }
+      go (NoRoom p) t = record { slots = x .slots ∙ a; room = x .room ∙ b; came = fitted (refuse 10 p) t }
 
 -- what is there
-pub reached-here : (S R : List ℕ) (m : Mem) (n u most : ℕ) → Stored S R n u → u ≤ most → Reached S R S R m most (edges-of R n S, m) (Fits n u)
-reached-here S R m n u most s l = record { slots = refl; room = refl; told = (refl, s, l) }
-
--- one step after another
-module _ {S R S₁ R₁ : List ℕ} {m₁ : Mem} {most₁ : ℕ} {st : State} {n u : ℕ} (a : Reached S R S₁ R₁ m₁ most₁ st (Fits n u)) where
-  pub reached-then : (f : State → State) {S₂ R₂ : List ℕ} {m₂ : Mem} {most : ℕ} (r : Answer)
-      → Reached S₁ R₁ S₂ R₂ m₂ most (f (edges-of R₁ n S₁, m₁)) r → Reached S R S₂ R₂ m₂ most (f st) r
-  reached-then f {S₂} {R₂} {m₂} {most} r b = go r (b .told)
-    where
-      fitted : (x : Refusal) → misfit (length S₁ / slot-bytes) (length R₁) (f (edges-of R₁ n S₁, m₁) .0) ≡ some x
-          → misfit (length S / slot-bytes) (length R) (f st .0) ≡ some x
-      fitted x q =
-          ap (λ (s : State). misfit (length S / slot-bytes) (length R) (f s .0)) (sym (a .told .0))
-          ∙ ap (λ k. misfit (k / slot-bytes) (length R) (f (edges-of R₁ n S₁, m₁) .0)) (sym (a .slots))
-          ∙ ap (λ k. misfit (length S₁ / slot-bytes) k (f (edges-of R₁ n S₁, m₁) .0)) (sym (a .room)) ∙ q
-
-      go : (r : Answer) → Told S₁ R₁ S₂ R₂ m₂ most (f (edges-of R₁ n S₁, m₁)) r → Reached S R S₂ R₂ m₂ most (f st) r
-      go (Fits k v) t = record { slots = b .slots ∙ a .slots; room = b .room ∙ a .room; told = (t .0 ∙ ap f (a .told .0), t .1, t .2) }
-      go (NoSlot p) t = record { slots = b .slots ∙ a .slots; room = b .room ∙ a .room; told = fitted (refuse 9 p) t }
-      go (NoRoom p) t = record { slots = b .slots ∙ a .slots; room = b .room ∙ a .room; told = fitted (refuse 10 p) t }
+pub reached-here : {ks : List Class} {n : ℕ} {S R P : List ℕ} {c u : ℕ} {st : State} (most : ℕ) → Keeps ks n S R P c u st → u ≤ most
+    → Reached ks n S R S R P most st (Fits c u)
+reached-here most k l = record { slots = refl; room = refl; came = (k, l) }
 
 -- One edge more
-module _ (S R : List ℕ) (count used : ℕ) (e : Numbers) (w : List ℕ) (st : Stored S R count used) (ok : Writable used e w) (m : Mem) where
+module _ {ks : List Class} {n : ℕ} {S R P : List ℕ} {count used : ℕ} {st : State} (k : Keeps ks n S R P count used st) (e : Numbers) (w : List ℕ)
+    (ok : Writable used e w) (end : Ending) (ends : Ends ks (edge-by e w) end) (h : e .from < e .to) (l : e .to ≤ n) where
   abbrev after : State
-  after = (add (edges-of R count S) (some (edge-by e w)), m)
+  after = (add (st .0) (some (edge-by e w)), st .1)
 
   abbrev slots′ : List ℕ
   slots′ = slots-after S R count used e w
@@ -103,50 +157,53 @@ module _ (S R : List ℕ) (count used : ℕ) (e : Numbers) (w : List ℕ) (st : 
   abbrev room′ : List ℕ
   room′ = room-after S R count used e w
 
-  reached-by : (r : Answer) → r ≡ added S R count used e w
-      → Reached S R slots′ room′ m (used + length w) after r
+  reached-by : (r : Answer) → r ≡ added S R count used e w → Reached ks n S R slots′ room′ (places-after r count e end P) (used + length w) after r
   reached-by r q = go r q
     where
-      made : (r : Answer) → Told S R slots′ room′ m (used + length w) after r → Reached S R slots′ room′ m (used + length w) after r
-      made r t = record { slots = slots-after-length S R count used e w st ok; room = room-after-length S R count used e w st ok; told = t }
+      made : (r : Answer) → Came ks n S R slots′ room′ (places-after r count e end P) (used + length w) after r
+          → Reached ks n S R slots′ room′ (places-after r count e end P) (used + length w) after r
+      made r t = record { slots = slots-after-length S R count used e w (k .stored) ok; room = room-after-length S R count used e w (k .stored) ok; came = t }
 
-      go : (r : Answer) → r ≡ added S R count used e w → Reached S R slots′ room′ m (used + length w) after r
-      go (Fits n u) q =
-          let g = grown S R count used e w st ok n u (sym q) in
-          made (Fits n u) (ap (λ (l : List Edge). (l, m)) (g .0), g .1, added-used S R count used e w st ok n u (sym q))
+      as-kept : (es : List Edge) → misfit (length S / slot-bytes) (length R) (add (edges-of R count S) (some (edge-by e w)))
+          ≡ misfit (length S / slot-bytes) (length R) (add (st .0) (some (edge-by e w)))
+      as-kept es = ap (λ (es : List Edge). misfit (length S / slot-bytes) (length R) (add es (some (edge-by e w)))) (k .edges)
+
+      go : (r : Answer) → r ≡ added S R count used e w → Reached ks n S R slots′ room′ (places-after r count e end P) (used + length w) after r
+      go (Fits c u) q =
+          made (Fits c u) (keeps-added k e w ok end ends h l c u (sym q), added-used S R count used e w (k .stored) ok c u (sym q))
       go (NoSlot p) q =
-          let s = subst (Fitted S R count used e w st ok) (sym q) (stopped S R count used e w st ok) in
-          made (NoSlot p) (ap (misfit (length S / slot-bytes) (length R)) (s .1 .new) ∙ s .1 .scan [] ∙ ap (λ k. some (refuse 9 k)) (sym (s .0)))
+          let s = subst (Fitted S R count used e w (k .stored) ok) (sym q) (stopped S R count used e w (k .stored) ok) in
+          made (NoSlot p) (sym (as-kept []) ∙ ap (misfit (length S / slot-bytes) (length R)) (s .1 .new) ∙ s .1 .scan [] ∙ ap (λ k. some (refuse 9 k)) (sym (s .0)))
       go (NoRoom p) q =
-          let s = subst (Fitted S R count used e w st ok) (sym q) (stopped S R count used e w st ok) in
-          made (NoRoom p) (ap (misfit (length S / slot-bytes) (length R)) (s .1 .new) ∙ s .1 .scan [] ∙ ap (λ k. some (refuse 10 k)) (sym (s .0)))
+          let s = subst (Fitted S R count used e w (k .stored) ok) (sym q) (stopped S R count used e w (k .stored) ok) in
+          made (NoRoom p) (sym (as-kept []) ∙ ap (misfit (length S / slot-bytes) (length R)) (s .1 .new) ∙ s .1 .scan [] ∙ ap (λ k. some (refuse 10 k)) (sym (s .0)))
 
-  pub reached-add : (S′ R′ : List ℕ) (r : Answer) → r ≡ added S R count used e w → S′ ≡ slots′ → R′ ≡ room′
-      → Reached S R S′ R′ m (used + length w) after r
-  reached-add S′ R′ r q p o =
-      subst (λ (l : List ℕ). Reached S R l R′ m (used + length w) after r) (sym p)
-      (subst (λ (l : List ℕ). Reached S R slots′ l m (used + length w) after r) (sym o) (reached-by r q))
+  pub reached-add : (S′ R′ P′ : List ℕ) (r : Answer) → r ≡ added S R count used e w → S′ ≡ slots′ → R′ ≡ room′ → P′ ≡ places-after r count e end P
+      → Reached ks n S R S′ R′ P′ (used + length w) after r
+  reached-add S′ R′ P′ r q a b c =
+      subst (λ (l : List ℕ). Reached ks n S R l R′ P′ (used + length w) after r) (sym a)
+      (subst (λ (l : List ℕ). Reached ks n S R slots′ l P′ (used + length w) after r) (sym b)
+      (subst (λ (l : List ℕ). Reached ks n S R slots′ room′ l (used + length w) after r) (sym c) (reached-by r q)))
 
--- A pass in the middle: what its slots and room hold, as long as at its start
-pub record Holds (S₀ R₀ S R : List ℕ) (n u : ℕ) : Type 0 where
-  pub stored : Stored S R n u
+-- A pass in the middle: what its slots, room and places keep, slots and room as long as at its start
+pub record Holds (ks : List Class) (n : ℕ) (S₀ R₀ S R P : List ℕ) (c u : ℕ) (st : State) : Type 0 where
+  pub keeps : Keeps ks n S R P c u st
   pub slots : length S ≡ length S₀
   pub room : length R ≡ length R₀
 
-module _ {S₀ R₀ S R : List ℕ} {n u : ℕ} (h : Holds S₀ R₀ S R n u) (m : Mem) where
+module _ {ks : List Class} {n : ℕ} {S₀ R₀ S R P : List ℕ} {c u : ℕ} {st : State} (h : Holds ks n S₀ R₀ S R P c u st) where
   -- it may end there
-  pub ends-here : (most : ℕ) (whole : State) → u ≤ most → _≡_ {A = State} (edges-of R n S, m) whole → Reached S₀ R₀ S R m most whole (Fits n u)
-  ends-here most whole l e = record { slots = h .slots; room = h .room; told = (e, h .stored, l) }
+  pub ends-here : (most : ℕ) (whole : State) → u ≤ most → st ≡ whole → Reached ks n S₀ R₀ S R P most whole (Fits c u)
+  ends-here most whole l e =
+      reached-as whole e (Fits c u) (record { slots = h .slots; room = h .room; came = (h .keeps, l) })
 
-  module _ (f : State → State) {S′ R′ : List ℕ} {m′ : Mem} {most : ℕ} where
+  module _ (f : State → State) {S′ R′ P′ : List ℕ} {most : ℕ} where
     -- by a refusal, whatever the rest of the pass would add
     pub ends-refused : (P : Edge → Type 0) (rest : State → State) → ((st : State) → Added P (st .0) (rest st .0)) → (more : ℕ) (whole : State)
-        → rest (f (edges-of R n S, m)) ≡ whole → (r : Answer) → Refused r
-        → Reached S R S′ R′ m′ most (f (edges-of R n S, m)) r → Reached S₀ R₀ S′ R′ m′ more whole r
-    ends-refused P rest g more whole e r q b = reached-as whole e r
-        (reached-refused P more (rest (f (edges-of R n S, m))) (g (f (edges-of R n S, m))) r q
-        (reached-then (ends-here u (edges-of R n S, m) (omega arith) refl) f r b))
+        → rest (f st) ≡ whole → (r : Answer) → Refused r → Reached ks n S R S′ R′ P′ most (f st) r → Reached ks n S₀ R₀ S′ R′ P′ more whole r
+    ends-refused P rest g more whole e r q b =
+        reached-as whole e r (reached-refused P more (rest (f st)) (g (f st)) r q (reached-since S₀ R₀ (h .slots) (h .room) r b))
 
     -- and else it goes on
-    pub goes-on : (k v : ℕ) → Reached S R S′ R′ m′ most (f (edges-of R n S, m)) (Fits k v) → Holds S₀ R₀ S′ R′ k v
-    goes-on k v b = record { stored = b .told .1; slots = b .slots ∙ h .slots; room = b .room ∙ h .room }
+    pub goes-on : (k v : ℕ) → Reached ks n S R S′ R′ P′ most (f st) (Fits k v) → Holds ks n S₀ R₀ S′ R′ P′ k v (f st)
+    goes-on k v b = record { keeps = b .came .0; slots = b .slots ∙ h .slots; room = b .room ∙ h .room }

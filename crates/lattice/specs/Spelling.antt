@@ -14,6 +14,8 @@ use Rattle.definition.specs.Edges.{View, Mem}
 use Rattle.definition.specs.Shorts.{Short}
 use Rattle.definition.specs.Bounds.{Bounded, Sound, Spelt}
 use Rattle.definition.specs.Bounds as bounds
+use Rattle.definition.specs.Near.{Near}
+use Rattle.definition.specs.Near as nearness
 use Rattle.definition.specs.Building.{span-edge}
 use Rattle.words.specs.Did.{Did}
 use Rattle.definition.specs.Tables.{Tables}
@@ -50,3 +52,8 @@ module _ (r : Spanned) where
       → Did (span-edge D t v s e m) (found r) m₁ → r .there ≡ true → Sound (length t) (edge-with (r .numbers) w) × Short most-bytes w
   span-spelt D ok t v s e m l k d h =
       subst (Opt (Spelt D ok t)) (sym (d .value) ∙ found-there r h) (bounds.span-spelt D ok t v s e l k .gives m)
+
+  -- and starts near
+  pub span-near : (D : Tables) (t : Text) (v : View) (s e : ℕ) (m : Mem) {m₁ : Mem}
+      → Did (span-edge D t v s e m) (found r) m₁ → r .there ≡ true → Near s (edge-with (r .numbers) w)
+  span-near D t v s e m d h = subst (Opt (Near s)) (sym (d .value) ∙ found-there r h) (nearness.span-near D t v s e .gives m)

@@ -1,146 +1,153 @@
 // Building the lattice (romanize.rs, lattice/mod.rs): from each start the edges of its spans, then a fallback for each
 // character that no edge covers. The first edge that finds no slot or no room ends it.
 ghost use mathlib.Core.Path.{_≡_};
-ghost use mathlib.Core.List.{List, []};
+ghost use mathlib.Core.List.{List};
 ghost use Prim.Native.Nat.{ℕ, _+_, _*_, _≤_, _<_};
 ghost use lib.ListN.{length, drop, replicate};
-ghost use Rattle.definition.specs.Limits.{most-characters};
-ghost use Rattle.definition.specs.Texts.{Text};
-ghost use Rattle.definition.specs.Utf8.{encoded};
-ghost use Rattle.definition.specs.RuleRows.{rules-of};
-ghost use Rattle.definition.specs.Rules.{is-prefix};
-ghost use Rattle.definition.specs.Building.{each, build, fall, lattice};
-ghost use Rattle.definition.specs.Call.{tables-of};
+ghost use lib.Dec.{ltb};
+ghost use mathlib.Core.Bool.{_||_};
+ghost use Rattle.base.specs.Pick.{pick};
+ghost use Rattle.base.specs.Lists.{has};
+ghost use Rattle.definition.specs.Texts.{last-is};
+ghost use Rattle.definition.specs.Classes.{alpha};
+ghost use Rattle.definition.specs.Limits.{most-source, most-bytes, most-edges, most-characters};
+ghost use Rattle.definition.specs.Utf8.{decoded, encoded};
+ghost use Rattle.definition.specs.Edges.{Edge};
+ghost use Rattle.definition.specs.Building.{each, build, fall};
+ghost use Rattle.utf8.specs.Encodings.{TextBytes};
 ghost use Rattle.vowelrows.specs.Told.{FineVowels};
-ghost use Rattle.dicts.specs.Index.{Ready};
-ghost use Rattle.edge.specs.Slots.{edges-of};
-ghost use Rattle.edge.specs.Stored.{Stored};
-ghost use Rattle.words.specs.Given.{text-in, Lined};
-ghost use Rattle.rules.specs.Lent.{Read};
+ghost use Rattle.places.specs.Shows.{Ends};
+ghost use Rattle.words.specs.Given.{World, kinds, size-in, kind-in, alpha-kind, Prepared};
+ghost use Rattle.words.specs.Goes.{letter-byte};
+ghost use Rattle.words.specs.Looks.{Looked};
 ghost use Rattle.rules.specs.Chosen.{said};
-ghost use Rattle.lattice.specs.Reached.{Reached};
+ghost use Rattle.standing.specs.Stands.{Stands};
+ghost use Rattle.lattice.specs.Reached.{addressable, nothing, Somewhere, Reaches};
 ghost use Rattle.lattice.specs.Turns.{put-span, put-fallback};
-ghost use Rattle.lattice.specs.Fallback.{search-note, single-numbers, Own};
+ghost use Rattle.lattice.specs.Endings.{last-letter};
+ghost use Rattle.lattice.specs.Fallback.{search-note, single-numbers, chars-in, Own, At, Bare};
+ghost use Rattle.lattice.specs.Starts.{Fresh, Began, Standing, Lattice};
 use edge::Added;
+use edge::Filled;
 use edge::Numbers;
+use places::Ending;
 use rules::Chosen;
+use words::Look;
+use words::Span;
 
-// Is what stands from `s` to `e` the beginning of a source? Past the text it is none.
-fn is_prefix(rules: &[u8], index: &[u32], line: &[u32], n: usize, s: usize, e: usize) -> bool
-    requires { ⌜ Ready (now rules) (now index) × (n < length (now line)) × (s < e) × (s ≤ n) ⌝ }
-    ensures { λ r. ⌜ ((classes kinds : List ℕ) → Lined classes (now (line .entry)) kinds n
-        → r ≡ is-prefix (rules-of (now (rules .entry))) (text-in (now (line .entry)) n) s e) ⌝ }
+// No source is longer.
+const MOST_SOURCE: usize = 16;
+
+// A position of the text, and where its bytes begin.
+pub struct Here {
+    pub p: usize,
+    pub at: usize,
+}
+
+// Does an ASCII text end in a letter or mark?
+fn ends_in_letter(ready: &[u32], text: &[u8]) -> bool
+    ensures { λ r. ⌜ r ≡ last-letter (now (ready .entry)) (now (text .entry)) ⌝ }
 {
-    if n < e {
+    if text.len() == 0 {
         return false;
     }
-    dicts::is_prefix(rules, index, &line[s + 1..e + 1])
+    words::number_at(ready, base::byte(text, text.len() - 1) as usize) == 1
+}
+
+// Is the span a source, or the start of one?
+fn is_known(look: Look) -> bool
+    ensures { λ r. ⌜ r ≡ (ltb 0 (look .count) || look .more) ⌝ }
+{
+    if 0 < look.count {
+        return true;
+    }
+    look.more
 }
 
 // The edge of one span, where it has one, is added.
 fn add_span(
     rules: &[u8],
-    index: &[u32],
-    classes: &[u8],
-    alphas: &[u8],
+    ready: &[u32],
     vowels: &[u8],
     code: &[u8],
     line: &[u32],
-    kinds: &[u32],
-    n: usize,
     slots: &mut [u8],
     room: &mut [u8],
-    count: usize,
-    used: usize,
-    starts: &mut [u8],
-    s: usize,
-    e: usize,
+    places: &mut [u32],
+    filled: Filled,
+    look: Look,
 ) -> Added
-    requires { ⌜ Read (now rules) (now index) (now classes) (now alphas) (now line) (now kinds) n × FineVowels (now vowels)
-        × Stored (now slots) (now room) count used × (used < 4294967296) × (s < e) × (e ≤ n) ⌝ }
-    ensures { λ r. ⌜ Reached (now (slots .entry)) (now (room .entry)) (now (slots .exit)) (now (room .exit)) (now (starts .exit)) (used + 198)
-        (put-span (tables-of (now (rules .entry)) (now (classes .entry)) (now (vowels .entry)) (now (code .entry))) (text-in (now (line .entry)) n) s e
-        (edges-of (now (room .entry)) count (now (slots .entry)), now (starts .entry))) r ⌝ }
+    requires { ⌜ Prepared (now rules) (now ready) × FineVowels (now vowels) × Looked (now rules) (now line) look
+        × Somewhere (now ready) (now line) (now slots) (now room) (now places) filled × Fresh (look .from) (now slots) (now room) filled
+        × (filled .used < addressable) ⌝ }
+    ensures { λ r. ⌜ Reaches (now (rules .entry)) (now (ready .entry)) (now (vowels .entry)) (now (code .entry)) (now (line .entry))
+        (now (slots .entry), now (room .entry), now (places .entry)) (now (slots .exit), now (room .exit), now (places .exit))
+        filled (filled .used + most-bytes) (λ D t. put-span D t (look .from) (look .to)) r ⌝ }
 {
-    let found = spans::span_edge(
-        rules,
-        index,
-        classes,
-        alphas,
-        vowels,
-        code,
-        line,
-        kinds,
-        n,
-        slots,
-        room,
-        count,
-        starts,
-        s,
-        e,
-    );
+    let found = spans::span_edge(rules, ready, vowels, code, line, places, look);
     if found.there {
-        let text = found.rom.bytes;
-        return edge::add_edge(
-            slots,
-            room,
-            count,
-            used,
-            found.numbers,
-            &text[..found.rom.len],
-        );
+        let bytes = found.rom.bytes;
+        let text = &bytes[..found.rom.len];
+        let end = noting::ending_of(text, ends_in_letter(ready, text));
+        return noting::add_edge(slots, room, places, filled, found.numbers, text, end);
     }
-    Added::Fits { count, used }
+    Added::Fits {
+        count: filled.count,
+        used: filled.used,
+    }
 }
 
-// `add_romanization` from one start: its ends rise while the span is a prefix of a source, which has 16 characters at
-// most.
+// `add_romanization` from one start: its ends rise while the span is a prefix of a source.
 fn add_from(
     rules: &[u8],
-    index: &[u32],
-    classes: &[u8],
-    alphas: &[u8],
+    ready: &[u32],
     vowels: &[u8],
     code: &[u8],
     line: &[u32],
-    kinds: &[u32],
-    n: usize,
     slots: &mut [u8],
     room: &mut [u8],
-    count: usize,
-    used: usize,
-    starts: &mut [u8],
+    places: &mut [u32],
+    filled: Filled,
     s: usize,
 ) -> Added
-    requires { ⌜ Read (now rules) (now index) (now classes) (now alphas) (now line) (now kinds) n × FineVowels (now vowels)
-        × Stored (now slots) (now room) count used × (used < 4294960000) × (s < n) ⌝ }
-    ensures { λ r. ⌜ Reached (now (slots .entry)) (now (room .entry)) (now (slots .exit)) (now (room .exit)) (now (starts .exit)) (used + 3168)
-        (build (tables-of (now (rules .entry)) (now (classes .entry)) (now (vowels .entry)) (now (code .entry))) (text-in (now (line .entry)) n) s
-        (edges-of (now (room .entry)) count (now (slots .entry)), now (starts .entry))) r ⌝ }
+    requires { ⌜ Prepared (now rules) (now ready) × FineVowels (now vowels) × (s < size-in (now line))
+        × Somewhere (now ready) (now line) (now slots) (now room) (now places) filled × Fresh s (now slots) (now room) filled
+        × (filled .used + most-source * most-bytes < addressable) ⌝ }
+    ensures { λ r. ⌜ Reaches (now (rules .entry)) (now (ready .entry)) (now (vowels .entry)) (now (code .entry)) (now (line .entry))
+        (now (slots .entry), now (room .entry), now (places .entry)) (now (slots .exit), now (room .exit), now (places .exit))
+        filled (filled .used + most-source * most-bytes) (λ D t. build D t s) r ⌝ }
 {
-    let mut edges = count;
-    let mut bytes = used;
+    let n = words::text_len(line);
+    let since = filled.since;
+    let mut edges = filled.count;
+    let mut bytes = filled.used;
     let mut e = s + 1;
-    let mut left: usize = 16;
+    let mut left: usize = MOST_SOURCE;
     while 0 < left {
-        if is_prefix(rules, index, line, n, s, e) {
+        if n < e {
+            return Added::Fits {
+                count: edges,
+                used: bytes,
+            };
+        }
+        let look = words::look_up(rules, ready, line, Span { from: s, to: e });
+        if is_known(look) {
+            let so_far = Filled {
+                count: edges,
+                used: bytes,
+                since,
+            };
             let done = add_span(
                 rules,
-                index,
-                classes,
-                alphas,
+                ready,
                 vowels,
                 code,
                 line,
-                kinds,
-                n,
                 slots,
                 room,
-                edges,
-                bytes,
-                starts,
-                s,
-                e,
+                places,
+                so_far,
+                look,
             );
             match done {
                 Added::Fits { count, used } => {
@@ -154,8 +161,16 @@ fn add_from(
                     return done;
                 }
             }
-            e += 1;
-            left -= 1;
+            // no longer source: the next span is none's start
+            if look.more {
+                e += 1;
+                left -= 1;
+            } else {
+                return Added::Fits {
+                    count: edges,
+                    used: bytes,
+                };
+            }
         } else {
             return Added::Fits {
                 count: edges,
@@ -169,45 +184,46 @@ fn add_from(
     }
 }
 
-// From every start, with no edge before.
+// From every start, with no edge before. Of each start it is kept how many edges there were when the search came to it.
 fn add_romanization(
     rules: &[u8],
-    index: &[u32],
-    classes: &[u8],
-    alphas: &[u8],
+    ready: &[u32],
     vowels: &[u8],
     code: &[u8],
     line: &[u32],
-    kinds: &[u32],
-    n: usize,
     slots: &mut [u8],
     room: &mut [u8],
-    starts: &mut [u8],
+    places: &mut [u32],
+    starts: &mut [u32],
 ) -> Added
-    requires { ⌜ Read (now rules) (now index) (now classes) (now alphas) (now line) (now kinds) n × FineVowels (now vowels) ⌝ }
-    ensures { λ r. ⌜ Reached (now (slots .entry)) (now (room .entry)) (now (slots .exit)) (now (room .exit)) (now (starts .exit)) (n * 3168)
-        (each (build (tables-of (now (rules .entry)) (now (classes .entry)) (now (vowels .entry)) (now (code .entry))) (text-in (now (line .entry)) n)) n 0
-        ([], now (starts .entry))) r ⌝ }
+    requires { ⌜ Prepared (now rules) (now ready) × FineVowels (now vowels) × (now starts ≡ replicate (size-in (now line) + 1) 0)
+        × Somewhere (now ready) (now line) (now slots) (now room) (now places) nothing ⌝ }
+    ensures built { λ r. ⌜ Reaches (now (rules .entry)) (now (ready .entry)) (now (vowels .entry)) (now (code .entry)) (now (line .entry))
+        (now (slots .entry), now (room .entry), now (places .entry)) (now (slots .exit), now (room .exit), now (places .exit))
+        nothing (size-in (now (line .entry)) * (most-source * most-bytes)) (λ D t. each (build D t) (length t) 0) r ⌝ }
+    ensures starts { λ r. ⌜ Began (now (slots .exit)) (now (room .exit)) (size-in (now (line .entry))) (now (starts .exit)) r ⌝ }
 {
+    let n = words::text_len(line);
     let mut edges: usize = 0;
     let mut bytes: usize = 0;
     let mut s: usize = 0;
     while s < n {
+        standing::begin_at(starts, s, edges);
+        let filled = Filled {
+            count: edges,
+            used: bytes,
+            since: standing::since(starts, s),
+        };
         let done = add_from(
             rules,
-            index,
-            classes,
-            alphas,
+            ready,
             vowels,
             code,
             line,
-            kinds,
-            n,
             slots,
             room,
-            edges,
-            bytes,
-            starts,
+            places,
+            filled,
             s,
         );
         match done {
@@ -224,6 +240,7 @@ fn add_romanization(
         }
         s += 1;
     }
+    standing::begin_at(starts, n, edges);
     Added::Fits {
         count: edges,
         used: bytes,
@@ -253,170 +270,178 @@ fn single(p: usize, note: u8) -> Numbers
     }
 }
 
-// The fallback of one character (`get_fallback_rom_and_annot`), whose own bytes stand in the text from `at` on: by its
-// category, else by simple search, else the character itself.
+// Does the text of a fallback end in a letter: a target, which is ASCII, or else the character itself?
+fn falls_on_letter(ready: &[u32], line: &[u32], chosen: Chosen, text: &[u8], p: usize) -> bool
+    requires { ⌜ p < size-in (now line) ⌝ }
+    ensures { λ r. ⌜ ((rules : List ℕ) → r ≡ pick (has (said rules chosen)) (last-letter (now (ready .entry)) (now (text .entry)))
+        (alpha-kind (kind-in (now (line .entry)) (p + 1)))) ⌝ }
+{
+    if rules::is_told(chosen) {
+        return ends_in_letter(ready, text);
+    }
+    words::is_alpha_at(line, p + 1)
+}
+
+// The fallback of one character (`get_fallback_rom_and_annot`): by its category, else by simple search, else the
+// character itself. No edge equals it: none goes over this one character.
 fn add_fallback<'a>(
     rules: &'a [u8],
-    index: &[u32],
-    classes: &[u8],
-    alphas: &[u8],
-    vowels: &[u8],
+    ready: &[u32],
     code: &[u8],
     text: &'a [u8],
     line: &[u32],
-    kinds: &[u32],
-    n: usize,
     slots: &mut [u8],
     room: &mut [u8],
-    count: usize,
-    used: usize,
-    starts: &mut [u8],
-    p: usize,
-    at: usize,
+    places: &mut [u32],
+    filled: Filled,
+    here: Here,
 ) -> Added
-    requires { ⌜ Read (now rules) (now index) (now classes) (now alphas) (now line) (now kinds) n × FineVowels (now vowels)
-        × Stored (now slots) (now room) count used × (used < 4294967296) × Own (now text) (text-in (now line) n) × (p < n)
-        × (drop at (now text) ≡ encoded (drop p (text-in (now line) n))) ⌝ }
-    ensures { λ r. ⌜ Reached (now (slots .entry)) (now (room .entry)) (now (slots .exit)) (now (room .exit)) (now (starts .exit)) (used + 198)
-        (put-fallback (tables-of (now (rules .entry)) (now (classes .entry)) (now (vowels .entry)) (now (code .entry))) (text-in (now (line .entry)) n) p
-        (edges-of (now (room .entry)) count (now (slots .entry)), now (starts .entry))) r ⌝ }
+    requires { ⌜ Prepared (now rules) (now ready) × At (now text) (now line) here × (filled .used < addressable)
+        × Somewhere (now ready) (now line) (now slots) (now room) (now places) filled × Bare (now slots) (now room) filled (here .p) ⌝ }
+    ensures { λ r. ⌜ ((vowels : List ℕ) → Reaches (now (rules .entry)) (now (ready .entry)) vowels (now (code .entry)) (now (line .entry))
+        (now (slots .entry), now (room .entry), now (places .entry)) (now (slots .exit), now (room .exit), now (places .exit))
+        filled (filled .used + most-bytes) (λ D t. put-fallback D t (here .p)) r) ⌝ }
 {
-    let note = spans::category_note(classes::category(words::number_at(kinds, p + 1)));
+    let note = spans::category_note(classes::category(words::kind_at(line, here.p + 1)));
+    let numbers = single(here.p, note);
     if note == edge::ZS {
-        return edge::add_edge(slots, room, count, used, single(p, note), b" ");
+        return noting::add_edge(
+            slots,
+            room,
+            places,
+            filled,
+            numbers,
+            b" ",
+            noting::ending_of(b" ", false),
+        );
     }
     if note != edge::UNTOUCHED {
-        return edge::add_edge(slots, room, count, used, single(p, note), b"");
+        return noting::add_edge(
+            slots,
+            room,
+            places,
+            filled,
+            numbers,
+            b"",
+            noting::ending_of(b"", false),
+        );
     }
+    let span = Span {
+        from: here.p,
+        to: here.p + 1,
+    };
     let chosen = rules::simple_top_romanization_candidate_for_span(
         rules,
-        index,
-        classes,
-        alphas,
+        ready,
         code,
         line,
-        kinds,
-        n,
-        slots,
-        room,
-        count,
-        starts,
-        p,
-        p + 1,
+        places,
+        span,
     );
-    let len = utf8::encoded_len(words::number_at(line, p + 1));
-    let own = spans::fallback_text(rules, text, chosen, at, len);
-    edge::add_edge(
+    let len = utf8::encoded_len(words::number_at(line, here.p + 1));
+    let own = spans::fallback_text(rules, text, chosen, here.at, len);
+    let end = noting::ending_of(own, falls_on_letter(ready, line, chosen, own, here.p));
+    noting::add_edge(
         slots,
         room,
-        count,
-        used,
-        single(p, search_note(chosen)),
+        places,
+        filled,
+        single(here.p, search_note(chosen)),
         own,
+        end,
     )
 }
 
 // One start of the second pass: a fallback, unless an edge goes over the one character there.
 fn fall_back_at<'a>(
     rules: &'a [u8],
-    index: &[u32],
-    classes: &[u8],
-    alphas: &[u8],
-    vowels: &[u8],
+    ready: &[u32],
     code: &[u8],
     text: &'a [u8],
     line: &[u32],
-    kinds: &[u32],
-    n: usize,
     slots: &mut [u8],
     room: &mut [u8],
-    count: usize,
-    used: usize,
-    starts: &mut [u8],
-    p: usize,
-    at: usize,
+    places: &mut [u32],
+    filled: Filled,
+    here: Here,
 ) -> Added
-    requires { ⌜ Read (now rules) (now index) (now classes) (now alphas) (now line) (now kinds) n × FineVowels (now vowels)
-        × Stored (now slots) (now room) count used × (used < 4294967296) × Own (now text) (text-in (now line) n) × (p < n)
-        × (drop at (now text) ≡ encoded (drop p (text-in (now line) n))) ⌝ }
-    ensures { λ r. ⌜ Reached (now (slots .entry)) (now (room .entry)) (now (slots .exit)) (now (room .exit)) (now (starts .exit)) (used + 198)
-        (fall (tables-of (now (rules .entry)) (now (classes .entry)) (now (vowels .entry)) (now (code .entry))) (text-in (now (line .entry)) n) p
-        (edges-of (now (room .entry)) count (now (slots .entry)), now (starts .entry))) r ⌝ }
+    requires { ⌜ Prepared (now rules) (now ready) × At (now text) (now line) here × (filled .used < addressable)
+        × Somewhere (now ready) (now line) (now slots) (now room) (now places) filled × (filled .since ≡ filled .count) ⌝ }
+    ensures { λ r. ⌜ ((vowels : List ℕ) → Reaches (now (rules .entry)) (now (ready .entry)) vowels (now (code .entry)) (now (line .entry))
+        (now (slots .entry), now (room .entry), now (places .entry)) (now (slots .exit), now (room .exit), now (places .exit))
+        filled (filled .used + most-bytes) (λ D t. fall D t (here .p)) r) ⌝ }
 {
-    if edge::is_covered(slots, count, p) {
-        return Added::Fits { count, used };
+    if places::is_covered(places, here.p) {
+        return Added::Fits {
+            count: filled.count,
+            used: filled.used,
+        };
     }
     add_fallback(
         rules,
-        index,
-        classes,
-        alphas,
-        vowels,
+        ready,
         code,
         text,
         line,
-        kinds,
-        n,
         slots,
         room,
-        count,
-        used,
-        starts,
-        p,
-        at,
+        places,
+        filled,
+        here,
     )
 }
 
-// `add_rom_fall_back_singles`: from every start, behind the edges that are there.
+// `add_rom_fall_back_singles`: from every start, behind the edges that are there. Of each start it is kept which
+// fallback is its own.
 fn add_rom_fall_back_singles<'a>(
     rules: &'a [u8],
-    index: &[u32],
-    classes: &[u8],
-    alphas: &[u8],
-    vowels: &[u8],
+    ready: &[u32],
     code: &[u8],
     text: &'a [u8],
     line: &[u32],
-    kinds: &[u32],
-    n: usize,
     slots: &mut [u8],
     room: &mut [u8],
-    count: usize,
-    used: usize,
-    starts: &mut [u8],
+    places: &mut [u32],
+    starts: &mut [u32],
+    filled: Filled,
 ) -> Added
-    requires { ⌜ Read (now rules) (now index) (now classes) (now alphas) (now line) (now kinds) n × FineVowels (now vowels)
-        × Stored (now slots) (now room) count used × (used < 4294800000) × Own (now text) (text-in (now line) n) ⌝ }
-    ensures { λ r. ⌜ Reached (now (slots .entry)) (now (room .entry)) (now (slots .exit)) (now (room .exit)) (now (starts .exit)) (used + n * 198)
-        (each (fall (tables-of (now (rules .entry)) (now (classes .entry)) (now (vowels .entry)) (now (code .entry))) (text-in (now (line .entry)) n)) n 0
-        (edges-of (now (room .entry)) count (now (slots .entry)), now (starts .entry))) r ⌝ }
+    requires { ⌜ Prepared (now rules) (now ready) × Own (now text) (chars-in (now line)) × (filled .used + size-in (now line) * most-bytes < addressable)
+        × Somewhere (now ready) (now line) (now slots) (now room) (now places) filled
+        × Began (now slots) (now room) (size-in (now line)) (now starts) (Added.Fits (filled .count) (filled .used)) ⌝ }
+    ensures built { λ r. ⌜ ((vowels : List ℕ) → Reaches (now (rules .entry)) (now (ready .entry)) vowels (now (code .entry)) (now (line .entry))
+        (now (slots .entry), now (room .entry), now (places .entry)) (now (slots .exit), now (room .exit), now (places .exit))
+        filled (filled .used + size-in (now (line .entry)) * most-bytes) (λ D t. each (fall D t) (length t) 0) r) ⌝ }
+    ensures starts { λ r. ⌜ Standing (now (slots .exit)) (now (starts .exit)) r ⌝ }
 {
-    let mut edges = count;
-    let mut bytes = used;
+    let n = words::text_len(line);
+    let first = filled.count;
+    let mut edges = filled.count;
+    let mut bytes = filled.used;
     let mut p: usize = 0;
     let mut at: usize = 0;
     while p < n {
+        let so_far = Filled {
+            count: edges,
+            used: bytes,
+            since: edges,
+        };
         let done = fall_back_at(
             rules,
-            index,
-            classes,
-            alphas,
-            vowels,
+            ready,
             code,
             text,
             line,
-            kinds,
-            n,
             slots,
             room,
-            edges,
-            bytes,
-            starts,
-            p,
-            at,
+            places,
+            so_far,
+            Here { p, at },
         );
         match done {
             Added::Fits { count, used } => {
+                if edges < count {
+                    standing::fall_at(starts, p, edges - first);
+                }
                 edges = count;
                 bytes = used;
             }
@@ -440,55 +465,50 @@ fn add_rom_fall_back_singles<'a>(
 // the first that finds no slot, or a slot but too little room.
 pub fn build_lattice<'a>(
     rules: &'a [u8],
-    index: &[u32],
-    classes: &[u8],
-    alphas: &[u8],
+    ready: &[u32],
     vowels: &[u8],
     code: &[u8],
     text: &'a [u8],
     line: &[u32],
-    kinds: &[u32],
-    n: usize,
     slots: &mut [u8],
     room: &mut [u8],
-    starts: &mut [u8],
+    places: &mut [u32],
+    starts: &mut [u32],
 ) -> Added
-    requires { ⌜ Read (now rules) (now index) (now classes) (now alphas) (now line) (now kinds) n × FineVowels (now vowels)
-        × Own (now text) (text-in (now line) n) × (now starts ≡ replicate n 0) ⌝ }
-    ensures { λ r. ⌜ Reached (now (slots .entry)) (now (room .entry)) (now (slots .exit)) (now (room .exit)) (now (starts .exit)) 1723392
-        (lattice (tables-of (now (rules .entry)) (now (classes .entry)) (now (vowels .entry)) (now (code .entry))) (text-in (now (line .entry)) n)) r ⌝ }
+    requires { ⌜ Prepared (now rules) (now ready) × FineVowels (now vowels) × Own (now text) (chars-in (now line))
+        × Somewhere (now ready) (now line) (now slots) (now room) (now places) nothing
+        × (now places ≡ replicate (size-in (now line) + 1) 0) × (now starts ≡ replicate (size-in (now line) + 1) 0) ⌝ }
+    ensures built { λ r. ⌜ Lattice (now (rules .entry)) (now (ready .entry)) (now (vowels .entry)) (now (code .entry)) (now (line .entry))
+        (now (slots .entry), now (room .entry), now (places .entry)) (now (slots .exit), now (room .exit), now (places .exit)) r ⌝ }
+    ensures starts { λ r. ⌜ Standing (now (slots .exit)) (now (starts .exit)) r ⌝ }
 {
     let done = add_romanization(
         rules,
-        index,
-        classes,
-        alphas,
+        ready,
         vowels,
         code,
         line,
-        kinds,
-        n,
         slots,
         room,
+        places,
         starts,
     );
     match done {
         Added::Fits { count, used } => add_rom_fall_back_singles(
             rules,
-            index,
-            classes,
-            alphas,
-            vowels,
+            ready,
             code,
             text,
             line,
-            kinds,
-            n,
             slots,
             room,
-            count,
-            used,
+            places,
             starts,
+            Filled {
+                count,
+                used,
+                since: count,
+            },
         ),
         Added::NoSlot(_) => done,
         Added::NoRoom(_) => done,

@@ -45,6 +45,13 @@ pub record Tells (x : Edge) (r : Rule) (o : Offers) : Type 0 where
   pub cored : o .cored ≡ is (cored x) (r .target)
   pub target : o .target ≡ (has (r .target) && is (λ u. same u (x .text)) (r .end-target))
 
+-- so many alternatives at most, since their number is a byte; with the target, so many offers
+abbrev pub most-others : ℕ
+most-others = 255
+
+abbrev pub most-offers : ℕ
+most-offers = most-others + 1
+
 unfoldable pub count-of : Offers → ℕ
 count-of o = o .others + pick (o .target) 1 0
 
@@ -151,7 +158,7 @@ module _ {x : Edge} {r : Rule} {o : Offers} (h : Tells x r o) where
   pub texts-count : length (texts (offers x r)) ≡ count-of o
   texts-count = length-map (offers x r) (λ (c : Edge). c .text) ∙ sym count-is
 
-  pub texts-few : o .others ≤ 255 → length (texts (offers x r)) ≤ 256
+  pub texts-few : o .others ≤ most-others → length (texts (offers x r)) ≤ most-offers
   unfolding count-of
   texts-few l = omega (arith, l, texts-count, pick-all (λ n. n ≤ 1) (o .target) {x = 1} {y = 0} (omega arith) (omega arith))
 

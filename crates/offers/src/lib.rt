@@ -18,9 +18,20 @@ ghost use Rattle.utf8.specs.Encodings.{TextBytes};
 ghost use Rattle.rom.specs.Rom.{rom};
 ghost use Rattle.edge.specs.Slots.{edge-by};
 ghost use Rattle.words.specs.Found.{Row, Rows};
-ghost use Rattle.offers.specs.Texts.{texts, Spoken, Tells, count-of, holding};
+ghost use Rattle.offers.specs.Texts.{texts, Spoken, Tells, most-others, most-offers, count-of, holding};
 use edge::Numbers;
 use rom::Rom;
+
+// A row offers this many texts at most: its alternatives, whose number is a byte, and its target.
+const MOST_OFFERS: usize = 256;
+
+// What was asked of an edge's span: is it at a start of word, at an end of word, and which row of the rule table is its
+// first?
+pub struct Asked {
+    pub start: bool,
+    pub end: bool,
+    pub first: usize,
+}
 
 // What a row offers for an edge: how many of its alternatives, with the edge's vowel behind them or not, and its target
 // where its end-of-syllable target was taken.
@@ -66,7 +77,7 @@ fn is_at_end(rules: &[u8], row: usize, text: &[u8]) -> bool
 // What a row offers.
 pub fn offers_of(rules: &[u8], row: usize, e: Numbers, text: &[u8]) -> Offers
     requires { ⌜ Row (drop row (now rules)) × Spoken e (now text) ⌝ }
-    ensures { λ r. ⌜ Tells (edge-by e (now (text .entry))) (rule-of (drop row (now (rules .entry)))) r × (r .others ≤ 255) ⌝ }
+    ensures { λ r. ⌜ Tells (edge-by e (now (text .entry))) (rule-of (drop row (now (rules .entry)))) r × (r .others ≤ most-others) ⌝ }
 {
     if rulerow::flag(rules, row, rulerow::TARGET_BIT) {
         let w = rulerow::target_text(rules, row);
@@ -94,7 +105,7 @@ pub fn offers_of(rules: &[u8], row: usize, e: Numbers, text: &[u8]) -> Offers
 
 // How many texts that are.
 pub fn offers_count(o: Offers) -> usize
-    requires { ⌜ o .others ≤ 255 ⌝ }
+    requires { ⌜ o .others ≤ most-others ⌝ }
     ensures { λ r. ⌜ r ≡ count-of o ⌝ }
 {
     if o.target {
@@ -120,11 +131,11 @@ pub fn offer_text(rules: &[u8], row: usize, o: Offers, e: Numbers, text: &[u8], 
     rom::bytes_of(rulerow::target_text(rules, row))
 }
 
-// Is a text among the first `most` that a row offers? It offers 256 at most.
+// Is a text among the first `most` that a row offers?
 pub fn row_offers(rules: &[u8], row: usize, e: Numbers, text: &[u8], most: usize, w: &[u8]) -> bool
     requires { ⌜ Row (drop row (now rules)) × Spoken e (now text) ⌝ }
     ensures { λ r. ⌜ (r ≡ any (same (now (w .entry))) (take most (texts (offers (edge-by e (now (text .entry))) (rule-of (drop row (now (rules .entry))))))))
-        × (length (texts (offers (edge-by e (now (text .entry))) (rule-of (drop row (now (rules .entry)))))) ≤ 256) ⌝ }
+        × (length (texts (offers (edge-by e (now (text .entry))) (rule-of (drop row (now (rules .entry)))))) ≤ most-offers) ⌝ }
 {
     let o = offers_of(rules, row, e, text);
     let n = offers_count(o);
@@ -147,19 +158,18 @@ pub fn row_offers(rules: &[u8], row: usize, e: Numbers, text: &[u8], most: usize
 fn holding_row_offers(
     rules: &[u8],
     code: &[u8],
-    start: bool,
-    end: bool,
+    asked: Asked,
     row: usize,
     e: Numbers,
     text: &[u8],
     w: &[u8],
 ) -> bool
     requires { ⌜ Row (drop row (now rules)) × Spoken e (now text) ⌝ }
-    ensures { λ r. ⌜ r ≡ (holds-at (now (code .entry)) start end (rule-of (drop row (now (rules .entry))))
+    ensures { λ r. ⌜ r ≡ (holds-at (now (code .entry)) (asked .start) (asked .end) (rule-of (drop row (now (rules .entry))))
         && any (same (now (w .entry))) (texts (offers (edge-by e (now (text .entry))) (rule-of (drop row (now (rules .entry))))))) ⌝ }
 {
-    if rules::holds(rules, code, row, start, end) {
-        return row_offers(rules, row, e, text, 256, w);
+    if rules::holds(rules, code, row, asked.start, asked.end) {
+        return row_offers(rules, row, e, text, MOST_OFFERS, w);
     }
     false
 }
@@ -168,21 +178,20 @@ fn holding_row_offers(
 pub fn rows_offer(
     rules: &[u8],
     code: &[u8],
-    start: bool,
-    end: bool,
-    first: usize,
+    asked: Asked,
     rows: usize,
     e: Numbers,
     text: &[u8],
     w: &[u8],
 ) -> bool
-    requires { ⌜ Rows (now rules) first rows × Spoken e (now text) ⌝ }
-    ensures { λ r. ⌜ r ≡ any (same (now (w .entry))) (texts (all-offers (edge-by e (now (text .entry))) (holding (now (code .entry)) start end (now (rules .entry)) first rows))) ⌝ }
+    requires { ⌜ Rows (now rules) (asked .first) rows × Spoken e (now text) ⌝ }
+    ensures { λ r. ⌜ r ≡ any (same (now (w .entry))) (texts (all-offers (edge-by e (now (text .entry)))
+        (holding (now (code .entry)) (asked .start) (asked .end) (now (rules .entry)) (asked .first) rows))) ⌝ }
 {
-    let mut row = first;
+    let mut row = asked.first;
     let mut left = rows;
     while 0 < left {
-        if holding_row_offers(rules, code, start, end, row, e, text, w) {
+        if holding_row_offers(rules, code, asked, row, e, text, w) {
             return true;
         }
         row += rulerow::size(rules, row);

@@ -1,67 +1,61 @@
 // What a call shows of a built lattice, by its mode: the path's string, or a listing of edges. It is written where it
 // fits; how much it needs is told in any case.
-ghost use mathlib.Core.Bool.{true};
-ghost use mathlib.Core.List.{List, _∷_};
+ghost use mathlib.Core.List.{_∷_};
 ghost use mathlib.Core.Path.{_≡_};
-ghost use Prim.Native.Nat.{ℕ, _-_, _*_, _≤_};
+ghost use Prim.Native.Nat.{_-_, _≤_};
 ghost use lib.Dec.{leb};
 ghost use lib.ListN.{length};
 ghost use Rattle.base.specs.Pick.{pick};
 ghost use Rattle.base.specs.Big.{four};
-ghost use Rattle.base.specs.Alls.{All};
-ghost use Rattle.definition.specs.Limits.{most-characters, most-edges};
-ghost use Rattle.definition.specs.Bounds.{Sound};
-ghost use Rattle.definition.specs.Listing.{shown};
-ghost use Rattle.definition.specs.Call.{tables-of};
 ghost use Rattle.room.specs.Puts.{put-at};
-ghost use Rattle.edge.specs.Slots.{edges-of};
-ghost use Rattle.listing.specs.Items.{put-items};
-ghost use Rattle.words.specs.Given.{text-in};
-ghost use Rattle.rules.specs.Lent.{Lent};
-ghost use Rattle.output.specs.Shows.{Shows, listed};
+ghost use Rattle.output.specs.Whole.{Whole, RowsPut, ShownPut};
+use alternatives::Listed;
+
+// What is shown of a lattice: its mode; and how many edges it has, and how much text room they take.
+pub struct Built {
+    pub mode: u8,
+    pub count: usize,
+    pub used: usize,
+}
 
 // The rows of a listing, behind its header.
 fn put_rows(
-    mode: u8,
     rules: &[u8],
-    index: &[u32],
-    classes: &[u8],
-    alphas: &[u8],
+    ready: &[u32],
     code: &[u8],
     line: &[u32],
-    kinds: &[u32],
-    n: usize,
     slots: &[u8],
-    room: &[u8],
-    count: usize,
-    starts: &mut [u8],
+    room: &mut [u8],
+    places: &mut [u32],
+    starts: &[u32],
+    built: Built,
     out: &mut [u8],
 ) -> usize
-    requires { ⌜ Lent (now rules) (now index) (now classes) (now alphas) (now line) (now kinds) (now slots) (now room) n count
-        × All (Sound n) (edges-of (now room) count (now slots)) × (count ≤ most-edges * most-characters) × (mode ≤ 3) ⌝ }
-    ensures { λ r. ⌜ ((vowels : List ℕ) → (r, now (out .exit)) ≡ put-items true (listed (tables-of (now (rules .entry)) (now (classes .entry)) vowels (now (code .entry)))
-        (text-in (now (line .entry)) n) mode (edges-of (now (room .entry)) count (now (slots .entry)), now (starts .entry))) (5, now (out .entry))) ⌝ }
+    requires { ⌜ Whole (now rules) (now ready) (now line) (now slots) (now room) (now places) (now starts) built ⌝ }
+    ensures { λ r. ⌜ RowsPut (now (rules .entry)) (now (ready .entry)) (now (code .entry)) (now (line .entry)) (now (slots .entry)) (now (room .entry))
+        (now (places .entry)) built (now (out .entry)) (now (out .exit)) r ⌝ }
 {
-    if mode == 3 {
-        return paths::put_all_edges(out, 5, slots, room, count, n);
+    if built.mode == 3 {
+        return paths::put_all_edges(out, 5, slots, room, starts, built.count);
     }
-    let end = paths::put_path(out, 5, slots, room, count, n, true);
-    if mode == 2 {
+    let end = paths::put_path(out, 5, slots, room, starts, built.count, true);
+    if built.mode == 2 {
+        let listed = Listed {
+            at: end,
+            count: built.count,
+            used: built.used,
+        };
         return alternatives::put_alternatives(
             out,
-            end,
             rules,
-            index,
-            classes,
-            alphas,
+            ready,
             code,
             line,
-            kinds,
-            n,
             slots,
             room,
-            count,
+            places,
             starts,
+            listed,
         );
     }
     end
@@ -78,45 +72,37 @@ fn put_head(out: &mut [u8], end: usize)
     listing::put_header(out, end - 5);
 }
 
-// What a mode shows: how many bytes that are, and they are written where they fit.
+// What a mode shows: how many bytes that are, and they are written where they fit. The text room is free afterwards:
+// alternatives keep a filter in what the edges leave of it.
 pub fn put_shown(
-    mode: u8,
     rules: &[u8],
-    index: &[u32],
-    classes: &[u8],
-    alphas: &[u8],
+    ready: &[u32],
     code: &[u8],
     line: &[u32],
-    kinds: &[u32],
-    n: usize,
     slots: &[u8],
-    room: &[u8],
-    count: usize,
-    starts: &mut [u8],
+    room: &mut [u8],
+    places: &mut [u32],
+    starts: &[u32],
+    built: Built,
     out: &mut [u8],
 ) -> usize
-    requires { ⌜ Lent (now rules) (now index) (now classes) (now alphas) (now line) (now kinds) (now slots) (now room) n count
-        × All (Sound n) (edges-of (now room) count (now slots)) × (count ≤ most-edges * most-characters) × (mode ≤ 3) ⌝ }
-    ensures { λ r. ⌜ ((vowels : List ℕ) → Shows (shown (tables-of (now (rules .entry)) (now (classes .entry)) vowels (now (code .entry)))
-        (text-in (now (line .entry)) n) mode (edges-of (now (room .entry)) count (now (slots .entry)), now (starts .entry))) (now (out .entry)) (now (out .exit)) r) ⌝ }
+    requires { ⌜ Whole (now rules) (now ready) (now line) (now slots) (now room) (now places) (now starts) built ⌝ }
+    ensures { λ r. ⌜ ShownPut (now (rules .entry)) (now (ready .entry)) (now (code .entry)) (now (line .entry)) (now (slots .entry)) (now (room .entry))
+        (now (places .entry)) built (now (out .entry)) (now (out .exit)) r ⌝ }
 {
-    if mode == 0 {
-        return paths::put_path(out, 0, slots, room, count, n, false);
+    if built.mode == 0 {
+        return paths::put_path(out, 0, slots, room, starts, built.count, false);
     }
     let end = put_rows(
-        mode,
         rules,
-        index,
-        classes,
-        alphas,
+        ready,
         code,
         line,
-        kinds,
-        n,
         slots,
         room,
-        count,
+        places,
         starts,
+        built,
         out,
     );
     put_head(out, end);

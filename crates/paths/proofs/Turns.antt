@@ -1,17 +1,24 @@
 -- One turn of each loop: what it finds or writes, and what is left.
-use Prim.Native.Nat.{ℕ, suc, _+_, _-_, _<_}
+use Prim.Native.Nat.{ℕ, suc, _+_, _-_, _*_, _<_}
 use mathlib.Core.Bool.{Bool, true}
 use mathlib.Core.List.{List, [], _∷_, _++_}
 use mathlib.Core.Path.{_≡_, refl, sym, ap, _∙_}
 use native.Mathlib.Omega.{arith}
-use lib.ListN.{drop}
+use lib.ListN.{length, drop}
 use Rattle.base.specs.Pick.{pick}
 use Rattle.base.specs.Rows.{counted-some}
 use Rattle.definition.specs.Limits.{slot-bytes}
 use Rattle.definition.specs.Edges.{Edge}
 use Rattle.definition.specs.Paths.{longer, sorted}
+use Rattle.edge.specs.declared.BestEdge.{BestEdge}
 use Rattle.edge.specs.Slots.{edge-of, edges-of}
 use Rattle.listing.specs.Items.{Written, put-items, put-items-append}
+use Rattle.standing.specs.declared.Stretch.{Stretch}
+use Rattle.standing.specs.Starts.{stretch-of, fallback-of}
+use Rattle.standing.specs.Stands.{Stands, fallen-of}
+use Rattle.standing.specs.Right.{fallback-list}
+use Rattle.paths.specs.Steps.{best-list}
+use Rattle.paths.specs.Nearby.{longer-by-stretch}
 use Rattle.paths.specs.Orders.{farther, last-end, over, over-append, longer-here}
 
 -- the last end so far, and those still to come
@@ -55,3 +62,20 @@ module _ (es : List Edge) (p : ℕ) (w v : Written) where
 
       split : (k : ℕ) → k ≡ suc (n - (p + 1)) → sorted es k p ≡ longer es p k ++ sorted es (n - (p + 1)) (p + 1)
       split k e = ap (λ k. sorted es k p) e ∙ sorted-next (n - (p + 1)) ∙ ap (λ k. longer es p k ++ sorted es (n - (p + 1)) (p + 1)) (sym e)
+
+-- the edges of a start: its stretch's, then its fallback
+module _ (slots starts : List ℕ) (count : ℕ) (s : Stands slots starts count) (p : ℕ) (l : p + 1 < length starts) where
+  pub start-on : (room : List ℕ) (n : ℕ) → p < n → (near : List ℕ) (x : Stretch) → x ≡ stretch-of starts p → near ≡ drop (x .first * slot-bytes) slots
+      → (b : BestEdge) → b ≡ fallback-of starts p → (v w u : Written)
+      → w ≡ put-items true (longer (edges-of room (x .end - x .first) near) p (n - p)) v → u ≡ put-items true (best-list room slots b) w
+      → u ≡ put-items true (longer (edges-of room count slots) p (n - p)) v
+  start-on room n h near x e f b g v w u i j =
+      let whole = longer (edges-of room count slots) p (n - p) in
+      let single = fallen-of slots starts count s p l room in
+      let some-of : Stretch → List Edge = λ y. longer (edges-of room (y .end - y .first) (drop (y .first * slot-bytes) slots)) p (n - p) in
+      let k : longer (edges-of room (x .end - x .first) near) p (n - p) ≡ some-of (stretch-of starts p) =
+      ap (λ (r : List ℕ). longer (edges-of room (x .end - x .first) r) p (n - p)) f ∙ ap some-of e in
+      let m : best-list room slots b ≡ single = ap (best-list room slots) g ∙ fallback-list slots starts count s p l room in
+      j ∙ ap (λ (r : List Edge). put-items true r w) m
+      ∙ on (some-of (stretch-of starts p)) single whole w v (longer-by-stretch slots starts count s p l room n h)
+      (i ∙ ap (λ (r : List Edge). put-items true r v) k)

@@ -1,2 +1,4 @@
 pub mod Steps
 pub mod Orders
+pub mod Ahead
+pub mod Nearby

@@ -1,4 +1,5 @@
-// The path and all edges in order (paths.rs), written one behind the other where they fit, or counted.
+// The path and all edges in order (paths.rs), written one behind the other where they fit, or counted. The edges of a
+// start are looked for only where they may stand (crate standing): in its stretch of the slots, and as its fallback.
 ghost use mathlib.Core.Path.{_≡_};
 ghost use mathlib.Core.Bool.{true};
 ghost use mathlib.Core.List.{List, [], _∷_};
@@ -11,6 +12,8 @@ ghost use Rattle.edge.specs.Stored.{Slot};
 ghost use Rattle.edge.specs.Asked.{Readable};
 ghost use Rattle.edge.specs.Best.{edge-at, Found};
 ghost use Rattle.listing.specs.Items.{put-items};
+ghost use Rattle.standing.specs.Starts.{end-of};
+ghost use Rattle.standing.specs.Stands.{Stands};
 ghost use Rattle.paths.specs.Steps.{best-list};
 ghost use Rattle.paths.specs.Orders.{farther, last-end, over};
 use edge::BestEdge;
@@ -46,28 +49,29 @@ pub fn next_from(slots: &[u8], best: BestEdge, p: usize) -> usize
     }
 }
 
-// `best_rom_edge_path`: the longest edge at each position, of its span the first added.
+// `best_rom_edge_path`: the longest edge at each position, of its span the first added. Each goes forward, within the text.
 pub fn put_path(
     out: &mut [u8],
     at: usize,
     slots: &[u8],
     room: &[u8],
+    starts: &[u32],
     count: usize,
-    n: usize,
     rows: bool,
 ) -> usize
-    requires { ⌜ Readable (now slots) (now room) count × (n ≤ most-characters) × (at < 4294967296) ⌝ }
-    ensures { λ r. ⌜ ((r, now (out .exit)) ≡ put-items rows (path-from n 0 (edges-of (now (room .entry)) count (now (slots .entry)))) (at, now (out .entry)))
-        × (r ≤ at + n * 65543) ⌝ }
+    requires { ⌜ Readable (now slots) (now room) count × Stands (now slots) (now starts) count
+        × (length (now starts) ≤ most-characters + 1) × (at < 4294967296) ⌝ }
+    ensures { λ r. ⌜ ((r, now (out .exit))
+        ≡ put-items rows (path-from (end-of (now (starts .entry))) 0 (edges-of (now (room .entry)) count (now (slots .entry)))) (at, now (out .entry)))
+        × (r ≤ at + end-of (now (starts .entry)) * 65543) ⌝ }
 {
+    let n = starts.len() - 1;
     let mut end = at;
     let mut p: usize = 0;
-    let mut left = n;
-    while 0 < left {
-        let best = edge::best_right_neighbor_edge(slots, count, p);
+    while p < n {
+        let best = standing::best_right_neighbor_edge(slots, starts, count, p);
         end = put_best(out, end, slots, room, count, best, rows);
         p = next_from(slots, best, p);
-        left -= 1;
     }
     end
 }
@@ -173,22 +177,60 @@ fn put_longer(
     end
 }
 
+// The slots of a stretch, which stand one behind the other.
+fn slots_from(slots: &[u8], first: usize) -> &[u8]
+    requires { ⌜ first * slot-bytes ≤ length (now slots) ⌝ }
+    ensures { λ r. ⌜ now r ≡ drop (first * slot-bytes) (now (slots .entry)) ⌝ }
+{
+    let at = first * 12;
+    &slots[at..]
+}
+
+// The edges from `p`: of its stretch, longer first, then as added; and its fallback, which is the shortest and added
+// last. Its bytes are bounded by those that `put_longer` may write, and a row more.
+fn put_start(
+    out: &mut [u8],
+    at: usize,
+    slots: &[u8],
+    room: &[u8],
+    starts: &[u32],
+    count: usize,
+    p: usize,
+) -> usize
+    requires { ⌜ Readable (now slots) (now room) count × Stands (now slots) (now starts) count × (count ≤ most-edges * most-characters)
+        × (length (now starts) ≤ most-characters + 1) × (p + 1 < length (now starts)) × (at < 2305843009213693952) ⌝ }
+    ensures { λ r. ⌜ ((r, now (out .exit))
+        ≡ put-items true (longer (edges-of (now (room .entry)) count (now (slots .entry))) p (end-of (now (starts .entry)) - p)) (at, now (out .entry)))
+        × (r ≤ at + 292089036807) ⌝ }
+{
+    let n = starts.len() - 1;
+    let within = standing::stretch_at(starts, p);
+    let first = within.first;
+    let near = slots_from(slots, first);
+    let end = put_longer(out, at, near, room, within.end - first, n, p);
+    let single = standing::fallback(starts, p);
+    put_best(out, end, slots, room, count, single, true)
+}
+
 // `all_edges`: by start, longer first, then as added.
 pub fn put_all_edges(
     out: &mut [u8],
     at: usize,
     slots: &[u8],
     room: &[u8],
+    starts: &[u32],
     count: usize,
-    n: usize,
 ) -> usize
-    requires { ⌜ Readable (now slots) (now room) count × (count ≤ most-edges * most-characters) × (n ≤ most-characters) × (at < 4294967296) ⌝ }
-    ensures { λ r. ⌜ (r, now (out .exit)) ≡ put-items true (sorted (edges-of (now (room .entry)) count (now (slots .entry))) n 0) (at, now (out .entry)) ⌝ }
+    requires { ⌜ Readable (now slots) (now room) count × Stands (now slots) (now starts) count × (count ≤ most-edges * most-characters)
+        × (length (now starts) ≤ most-characters + 1) × (at < 4294967296) ⌝ }
+    ensures { λ r. ⌜ (r, now (out .exit))
+        ≡ put-items true (sorted (edges-of (now (room .entry)) count (now (slots .entry))) (end-of (now (starts .entry))) 0) (at, now (out .entry)) ⌝ }
 {
+    let n = starts.len() - 1;
     let mut end = at;
     let mut p = 0;
     while p < n {
-        end = put_longer(out, end, slots, room, count, n, p);
+        end = put_start(out, end, slots, room, starts, count, p);
         p += 1;
     }
     end

@@ -65,7 +65,7 @@ fn between(low: u32, c: u32, high: u32) -> bool
 }
 
 // A byte of a target text.
-fn printable(c: u32) -> bool
+pub fn printable(c: u32) -> bool
     ensures { λ r. ⌜ r ≡ printable c ⌝ }
 {
     between(0x20, c, 0x7E)

@@ -15,8 +15,7 @@ use Rattle.definition.specs.Rules.{higher, targeted, first-rule, choose, simple
 use Rattle.dicts.specs.Doors.{with-source}
 use Rattle.dicts.specs.Seek.{first-at, equal-rows}
 use Rattle.words.specs.Did.{Did}
-use Rattle.words.specs.Found.{Row, none-in, one-in, row-read}
-use Rattle.words.proofs.Ends.{found-at}
+use Rattle.words.specs.Found.{Row, none-in, one-in, row-read, found-at}
 use Rattle.rules.specs.declared.Choice.{Choice}
 use Rattle.rules.specs.declared.Choice.the-variants.{Matched}
 use Rattle.rules.specs.Chosen.{chosen}
@@ -80,14 +79,15 @@ module _ (R : List ℕ) (choice : Choice) (row : ℕ) (e : choice ≡ Matched ro
   unfolding text-where pick
   without-target f = by-flag (drop row R) false f ∙ chosen-target
 
--- simple search
-pub simply : (L : Lexicon) (t : Text) (v : View) (s e : ℕ) (m n : Mem) (o : Option Rule) → Did (choose L t v s e m) o n
+-- simple search, by the ends that were looked up
+pub simply : (L : Lexicon) (t : Text) (v : View) (a b s e : ℕ) → a ≡ s → b ≡ e → (m n : Mem) (o : Option Rule) → Did (choose L t v a b m) o n
     → (z : Option Text) → z ≡ bind o (λ x. x .target) → Did (simple L t v s e m) z n
 unfolding simple ret _>>=_
-simply L t v s e m n o d z h = record {
-  value = h ∙ ap (λ (o : Option Rule). bind o (λ x. x .target)) (d .value);
-  memory = d .memory;
-}
+simply L t v a b s e i j m n o d z h =
+    let k = ap (λ (x : ℕ). choose L t v x b m) i ∙ ap (λ (x : ℕ). choose L t v s x m) j in record {
+      value = h ∙ ap (λ (o : Option Rule). bind o (λ x. x .target)) (d .value ∙ ap (λ (y : Option Rule × Mem). y .0) k);
+      memory = d .memory ∙ ap (λ (y : Option Rule × Mem). y .1) k;
+    }
 
 -- the first row with a source
 module _ (b : List ℕ) (w : Text) (e : rule-fault b ≡ none) (at n : ℕ) (p : at ≡ first-at b w) (q : n ≡ equal-rows b w) where

@@ -3,18 +3,17 @@ use mathlib.Core.Bool.{Bool, true, false}
 use mathlib.Core.List.{List}
 use mathlib.Core.Option.{Option, none, some}
 use mathlib.Core.Path.{_≡_, sym, ap, _∙_}
-use Prim.Native.Nat.{ℕ, _+_, _-_, _<_, _≤_}
+use Prim.Native.Nat.{ℕ, _+_, _-_, _<_}
 use lib.ListN.{length, drop}
 use Rattle.base.specs.Pick.{pick}
+use Rattle.base.specs.Lists.{keep}
 use Rattle.definition.specs.Texts.{Text}
 use Rattle.definition.specs.Tables.{Rule, Lexicon}
 use Rattle.definition.specs.Edges.{View, Mem, ret}
 use Rattle.definition.specs.RuleRows.{rule-size, rule-of}
-use Rattle.definition.specs.Rules.{valid, choose}
-use Rattle.dicts.specs.Doors.{with-source}
+use Rattle.definition.specs.Rules.{spans, valid, choose}
 use Rattle.words.specs.Did.{Did, outcome}
-use Rattle.words.specs.Given.{part}
-use Rattle.words.specs.Spans.{spanning, spanning-past}
+use Rattle.words.specs.Spans.{spanning-past}
 use Rattle.words.specs.Found.{Rows, rules-in, none-in, one-in}
 use Rattle.rules.specs.Fold.{beats, improve, consider, choose-from, choose-is}
 
@@ -43,12 +42,8 @@ module _ (L : Lexicon) (t : Text) (v : View) (s e : ℕ) (m : Mem) where
   unfolding choose-from ret
   past h k = ap (λ (l : List Rule). choose-from L t v s e l none m) (sym (spanning-past (L .rules) t s e h k)) ∙ choose-is L t v s e m
 
-  pub begun : s ≤ e → e ≤ length t → (w : Text) → w ≡ part t s e → (l : List Rule) → l ≡ with-source w (L .rules)
-      → choose-from L t v s e l none m ≡ choose L t v s e m
-  begun h k w p l q =
-      ap (λ (l : List Rule). choose-from L t v s e l none m)
-      (q ∙ ap (λ w. with-source w (L .rules)) p ∙ sym (spanning (L .rules) t s e h k))
-      ∙ choose-is L t v s e m
+  pub begun : (l : List Rule) → l ≡ keep (spans t s e) (L .rules) → choose-from L t v s e l none m ≡ choose L t v s e m
+  begun l q = ap (λ (l : List Rule). choose-from L t v s e l none m) q ∙ choose-is L t v s e m
 
   module _ (R : List ℕ) (row left : ℕ) (o : Option Rule) where
     pub over : left ≡ 0 → choose-from L t v s e (rules-in R row left) o m ≡ (o, m)

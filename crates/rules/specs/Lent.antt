@@ -1,25 +1,18 @@
--- What the engine is lent, as the call has checked and prepared it, and what it stands for.
+-- What the engine answers: of every world that the lent slices stand for, what the definition does.
 use mathlib.Core.List.{List}
-use Prim.Native.Nat.{ℕ}
+use Rattle.definition.specs.Texts.{Text}
 use Rattle.definition.specs.Tables.{Lexicon}
 use Rattle.definition.specs.RuleRows.{rules-of}
-use Rattle.definition.specs.ClassRows.{classes-of}
-use Rattle.classes.specs.Told.{Alphas}
-use Rattle.dicts.specs.Index.{Ready}
-use Rattle.edge.specs.Asked.{Readable}
-use Rattle.words.specs.Given.{Lined}
-
--- the tables and the text
-pub record Read (rules index classes alphas line kinds : List ℕ) (n : ℕ) : Type 0 where
-  pub table : Ready rules index
-  pub letters : Alphas classes alphas
-  pub text : Lined classes line kinds n
-
--- and the edges so far
-pub record Lent (rules index classes alphas line kinds slots room : List ℕ) (n count : ℕ) : Type 0 where
-  pub read : Read rules index classes alphas line kinds n
-  pub edges : Readable slots room count
+use Rattle.definition.specs.Edges.{View, M}
+use Prim.Native.Nat.{ℕ}
+use Rattle.words.specs.Did.{Asked}
+use Rattle.words.specs.Given.{World, kinds, seen, Told, Lent}
 
 -- rules, classes and code as the definition has them
-abbrev pub lexicon-of : List ℕ → List ℕ → List ℕ → Lexicon
-lexicon-of rules classes code = record { rules = rules-of rules; classes = classes-of classes; code = code }
+abbrev pub lexicon-of : List ℕ → World → List ℕ → Lexicon
+lexicon-of rules w code = record { rules = rules-of rules; classes = kinds w; code = code }
+
+-- `f` is the definition's question, `r` the answer; `before` and `after` are the places
+abbrev pub Answers : {A : Type 0} → List ℕ → List ℕ → List ℕ → List ℕ → List ℕ → List ℕ → (Lexicon → Text → View → M A) → A → Type 0
+Answers rules ready code line before after f r =
+    (w : World) → Told w ready → Lent w line before → Asked w (f (lexicon-of rules w code) (w .text) (seen w)) before after r

@@ -8,16 +8,16 @@ ghost use Rattle.base.specs.Pick.{pick};
 ghost use Rattle.base.specs.Lists.{has, bind};
 ghost use Rattle.definition.specs.Texts.{Text};
 ghost use Rattle.definition.specs.RuleRows.{rule-flag, whole-word-bit, rule-of, rules-of};
-ghost use Rattle.definition.specs.ClassRows.{classes-of};
 ghost use Rattle.definition.specs.Boundaries.{word-end};
 ghost use Rattle.definition.specs.Rules.{higher, first-rule, lang, asks-start, holds-at, valid, choose, simple};
-ghost use Rattle.dicts.specs.Index.{Ready};
-ghost use Rattle.words.specs.Did.{Did};
-ghost use Rattle.words.specs.Given.{text-in, view-of};
+ghost use Rattle.words.specs.Given.{World, kinds, size-in, Prepared, Told, Lined};
 ghost use Rattle.words.specs.Found.{Row};
-ghost use Rattle.rules.specs.Lent.{Read, Lent, lexicon-of};
+ghost use Rattle.words.specs.Looks.{Looked};
+ghost use Rattle.rules.specs.Lent.{Answers};
 ghost use Rattle.rules.specs.Fold.{beats, improve};
 ghost use Rattle.rules.specs.Chosen.{chosen, Rowed, said, Said, or-nothing, allowed, start-holds, asks-end, end-holds};
+use words::Look;
+use words::Span;
 
 // The row of the rule that wins a span, if there is one.
 pub enum Choice {
@@ -117,30 +117,22 @@ fn end_holds(rules: &[u8], row: usize, end: bool) -> bool
 // is asked only where a flag asks it: it is the dear question, and remembers nothing.
 fn holds_at(
     rules: &[u8],
-    index: &[u32],
-    classes: &[u8],
-    alphas: &[u8],
+    ready: &[u32],
     line: &[u32],
-    kinds: &[u32],
-    n: usize,
     row: usize,
     spoken: bool,
     start: bool,
     e: usize,
 ) -> bool
-    requires { ⌜ Read (now rules) (now index) (now classes) (now alphas) (now line) (now kinds) n × (e ≤ n) ⌝ }
-    ensures { λ r. ⌜ ((code : Text) → spoken ≡ lang code (rule-of (drop row (now (rules .entry)))) → r ≡ holds-at code start
-        (word-end (rules-of (now (rules .entry))) (classes-of (now (classes .entry))) (text-in (now (line .entry)) n) e)
-        (rule-of (drop row (now (rules .entry))))) ⌝ }
+    requires { ⌜ Prepared (now rules) (now ready) × (0 < e) × (e ≤ size-in (now line)) ⌝ }
+    ensures { λ r. ⌜ ((w : World) (code : Text) → Told w (now (ready .entry)) → Lined w (now (line .entry))
+        → spoken ≡ lang code (rule-of (drop row (now (rules .entry)))) → r ≡ holds-at code start
+        (word-end (rules-of (now (rules .entry))) (kinds w) (w .text) e) (rule-of (drop row (now (rules .entry))))) ⌝ }
 {
     if spoken {
         if start_holds(rules, row, start) {
             if asks_end(rules, row) {
-                return end_holds(
-                    rules,
-                    row,
-                    words::is_at_end_of_word(rules, index, alphas, line, kinds, n, e),
-                );
+                return end_holds(rules, row, words::is_at_end_of_word(rules, ready, line, e));
             }
             return true;
         }
@@ -167,67 +159,24 @@ pub fn holds(rules: &[u8], code: &[u8], row: usize, start: bool, end: bool) -> b
 // foreign language code: it is remembered.
 pub fn cand_is_valid(
     rules: &[u8],
-    index: &[u32],
-    classes: &[u8],
-    alphas: &[u8],
+    ready: &[u32],
     code: &[u8],
     line: &[u32],
-    kinds: &[u32],
-    n: usize,
-    slots: &[u8],
-    room: &[u8],
-    count: usize,
-    starts: &mut [u8],
+    places: &mut [u32],
     row: usize,
-    s: usize,
-    e: usize,
+    span: Span,
 ) -> bool
-    requires { ⌜ Lent (now rules) (now index) (now classes) (now alphas) (now line) (now kinds) (now slots) (now room) n count
-        × Row (drop row (now rules)) × (s ≤ n) × (e ≤ n) ⌝ }
-    ensures { λ r. ⌜ Did (valid (lexicon-of (now (rules .entry)) (now (classes .entry)) (now (code .entry))) (text-in (now (line .entry)) n)
-        (view-of (now (classes .entry)) (now (slots .entry)) (now (room .entry)) count) s e (rule-of (drop row (now (rules .entry)))) (now (starts .entry)))
-        r (now (starts .exit)) ⌝ }
+    requires { ⌜ Prepared (now rules) (now ready) × Row (drop row (now rules)) × (span .from < span .to) × (span .to ≤ size-in (now line)) ⌝ }
+    ensures { λ r. ⌜ Answers (now (rules .entry)) (now (ready .entry)) (now (code .entry)) (now (line .entry)) (now (places .entry)) (now (places .exit))
+        (λ L t v. valid L t v (span .from) (span .to) (rule-of (drop row (now (rules .entry))))) r ⌝ }
 {
     let spoken = matches_lcode(rules, code, row);
     let asked = asks_start(rules, row);
     if asked {
-        let start = words::is_at_start_of_word(
-            classes,
-            alphas,
-            kinds,
-            slots,
-            room,
-            count,
-            starts,
-            s,
-        );
-        return holds_at(
-            rules,
-            index,
-            classes,
-            alphas,
-            line,
-            kinds,
-            n,
-            row,
-            spoken,
-            start,
-            e,
-        );
+        let start = words::is_at_start_of_word(line, places, span.from);
+        return holds_at(rules, ready, line, row, spoken, start, span.to);
     }
-    holds_at(
-        rules,
-        index,
-        classes,
-        alphas,
-        line,
-        kinds,
-        n,
-        row,
-        spoken,
-        false,
-        e,
-    )
+    holds_at(rules, ready, line, row, spoken, false, span.to)
 }
 
 // Has the rule in a row a higher count than the one in another?
@@ -266,55 +215,29 @@ fn improve(rules: &[u8], row: usize, valid: bool, best: Choice) -> Choice
     best
 }
 
-// The rule that wins a span: of the valid ones the earliest of the highest count among those with a target; without any
-// such, among all. A span past the text has none.
+// The rule that wins a span, by what was looked up of it: of the valid ones the earliest of the highest count among those
+// with a target; without any such, among all.
 pub fn top_rule(
     rules: &[u8],
-    index: &[u32],
-    classes: &[u8],
-    alphas: &[u8],
+    ready: &[u32],
     code: &[u8],
     line: &[u32],
-    kinds: &[u32],
-    n: usize,
-    slots: &[u8],
-    room: &[u8],
-    count: usize,
-    starts: &mut [u8],
-    s: usize,
-    e: usize,
+    places: &mut [u32],
+    look: Look,
 ) -> Choice
-    requires { ⌜ Lent (now rules) (now index) (now classes) (now alphas) (now line) (now kinds) (now slots) (now room) n count
-        × (s < e) ⌝ }
-    ensures { λ r. ⌜ Did (choose (lexicon-of (now (rules .entry)) (now (classes .entry)) (now (code .entry))) (text-in (now (line .entry)) n)
-        (view-of (now (classes .entry)) (now (slots .entry)) (now (room .entry)) count) s e (now (starts .entry)))
-        (chosen (now (rules .entry)) r) (now (starts .exit)) × Rowed (now (rules .entry)) r ⌝ }
+    requires { ⌜ Prepared (now rules) (now ready) × Looked (now rules) (now line) look ⌝ }
+    ensures { λ r. ⌜ Answers (now (rules .entry)) (now (ready .entry)) (now (code .entry)) (now (line .entry)) (now (places .entry)) (now (places .exit))
+        (λ L t v. choose L t v (look .from) (look .to)) (chosen (now (rules .entry)) r) × Rowed (now (rules .entry)) r ⌝ }
 {
-    if n < e {
-        return Choice::Nothing;
-    }
-    let found = dicts::find_rows(rules, index, &line[s + 1..e + 1]);
-    let mut row = found.first;
-    let mut left = found.count;
+    let mut row = look.first;
+    let mut left = look.count;
     let mut best = Choice::Nothing;
     while 0 < left {
-        let valid = cand_is_valid(
-            rules,
-            index,
-            classes,
-            alphas,
-            code,
-            line,
-            kinds,
-            n,
-            slots,
-            room,
-            count,
-            starts,
-            row,
-            s,
-            e,
-        );
+        let span = Span {
+            from: look.from,
+            to: look.to,
+        };
+        let valid = cand_is_valid(rules, ready, code, line, places, row, span);
         best = improve(rules, row, valid, best);
         row += rulerow::size(rules, row);
         left -= 1;
@@ -336,54 +259,33 @@ pub fn target_of(rules: &[u8], choice: Choice) -> Chosen
     Chosen::Untold
 }
 
-// Simple search: the winner's target.
+// Simple search: the winner's target. A span past the text has none.
 pub fn simple_top_romanization_candidate_for_span(
     rules: &[u8],
-    index: &[u32],
-    classes: &[u8],
-    alphas: &[u8],
+    ready: &[u32],
     code: &[u8],
     line: &[u32],
-    kinds: &[u32],
-    n: usize,
-    slots: &[u8],
-    room: &[u8],
-    count: usize,
-    starts: &mut [u8],
-    s: usize,
-    e: usize,
+    places: &mut [u32],
+    span: Span,
 ) -> Chosen
-    requires { ⌜ Lent (now rules) (now index) (now classes) (now alphas) (now line) (now kinds) (now slots) (now room) n count
-        × (s < e) ⌝ }
-    ensures { λ r. ⌜ Did (simple (lexicon-of (now (rules .entry)) (now (classes .entry)) (now (code .entry))) (text-in (now (line .entry)) n)
-        (view-of (now (classes .entry)) (now (slots .entry)) (now (room .entry)) count) s e (now (starts .entry)))
-        (said (now (rules .entry)) r) (now (starts .exit)) × Said (now (rules .entry)) r ⌝ }
+    requires { ⌜ Prepared (now rules) (now ready) × (span .from < span .to) ⌝ }
+    ensures { λ r. ⌜ Answers (now (rules .entry)) (now (ready .entry)) (now (code .entry)) (now (line .entry)) (now (places .entry)) (now (places .exit))
+        (λ L t v. simple L t v (span .from) (span .to)) (said (now (rules .entry)) r) × Said (now (rules .entry)) r ⌝ }
 {
-    let best = top_rule(
-        rules,
-        index,
-        classes,
-        alphas,
-        code,
-        line,
-        kinds,
-        n,
-        slots,
-        room,
-        count,
-        starts,
-        s,
-        e,
-    );
+    if words::text_len(line) < span.to {
+        return Chosen::Untold;
+    }
+    let look = words::look_up(rules, ready, line, span);
+    let best = top_rule(rules, ready, code, line, places, look);
     target_of(rules, best)
 }
 
 // The target of the first row with a source, whatever its codes and flags.
-pub fn romanization_by_first_rule(rules: &[u8], index: &[u32], source: &[u32]) -> Chosen
-    requires { ⌜ Ready (now rules) (now index) ⌝ }
+pub fn romanization_by_first_rule(rules: &[u8], ready: &[u32], source: &[u32]) -> Chosen
+    requires { ⌜ Prepared (now rules) (now ready) ⌝ }
     ensures { λ r. ⌜ (said (now (rules .entry)) r ≡ first-rule (rules-of (now (rules .entry))) (now (source .entry))) × Said (now (rules .entry)) r ⌝ }
 {
-    let found = dicts::find_rows(rules, index, source);
+    let found = dicts::look_up(rules, words::index_in(ready), source);
     if found.count == 0 {
         return Chosen::Untold;
     }

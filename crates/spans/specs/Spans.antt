@@ -8,11 +8,20 @@ use Rattle.base.specs.Lists.{tail, maybe}
 use Rattle.definition.specs.Texts.{Text}
 use Rattle.definition.specs.Notes.{note-none, note-Mn, note-Cf, note-Co, note-Zs}
 use Rattle.definition.specs.Tables.{category-Mn, category-Cf, category-Co, category-Zs}
-use Rattle.definition.specs.Edges.{Edge}
+use Rattle.definition.specs.Edges.{Edge, View, M}
+use Rattle.definition.specs.Tables.{Tables}
+use Rattle.definition.specs.Call.{tables-of}
 use Rattle.definition.specs.Building.{fallback-plus}
 use Rattle.rom.specs.Rom.{text}
+use Rattle.words.specs.Did.{Asked}
+use Rattle.words.specs.Given.{World, seen, Told, Lent}
 use Rattle.edge.specs.declared.Numbers.{Numbers}
 use Rattle.spans.specs.declared.Spanned.{Spanned}
+
+-- What a step that asks all tables answers: of every world that the lent slices stand for, what the definition does
+abbrev pub Finds : {A : Type 0} → List ℕ → List ℕ → List ℕ → List ℕ → List ℕ → List ℕ → List ℕ → (Tables → Text → View → M A) → A → Type 0
+Finds rules ready vowels code line before after f r =
+    (w : World) → Told w ready → Lent w line before → Asked w (f (tables-of rules (w .classes) vowels code) (w .text) (seen w)) before after r
 
 -- an edge by its numbers and its text
 abbrev pub edge-with : Numbers → Text → Edge

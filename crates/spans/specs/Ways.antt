@@ -1,15 +1,14 @@
 -- The edge of a span: one law for each way out, and the bytes of what full search answers.
 use mathlib.Core.Bool.{Bool, true, false}
+use mathlib.Core.List.{[], _∷_}
 use mathlib.Core.Option.{Option, none, some}
 use mathlib.Core.Path.{_≡_, refl, sym, ap, _∙_, subst}
 use Prim.Native.Nat.{ℕ, _≤_}
 use native.Mathlib.Omega.{arith}
 use lib.ListN.{length}
 use borrow.Author.Tests.{eq-eqb, ne-eqb}
-use Rattle.base.specs.Pick.{pick}
-use Rattle.base.specs.Lists.{has, maybe}
-use Rattle.base.specs.Alls.{Opt}
-use Rattle.definition.specs.Limits.{most-target}
+use Rattle.base.specs.Pick.{pick, pick-all}
+use Rattle.base.specs.Lists.{tail, has, maybe}
 use Rattle.definition.specs.Notes.{note-none, note-rom, note-core, note-tail}
 use Rattle.definition.specs.Texts.{Text}
 use Rattle.definition.specs.Tables.{Tables, lexicon}
@@ -18,8 +17,6 @@ use Rattle.definition.specs.Syllables.{full}
 use Rattle.definition.specs.Vowels.{vowel-step}
 use Rattle.definition.specs.Expansion.{Work, work, expand}
 use Rattle.definition.specs.Building.{is-tail, without-plus, grown, as-edge, edge-of, span-edge}
-use Rattle.definition.specs.Shorts.{Short}
-use Rattle.definition.specs.Bounds.{Bounded, full-short, plus-short}
 use Rattle.rom.specs.Rom.{text}
 use Rattle.words.specs.Did.{Did, did, did-by, outcome}
 use Rattle.rules.specs.Chosen.{or-nothing}
@@ -88,8 +85,11 @@ module _ (D : Tables) (t : Text) (v : View) where
       unfolding span-edge ret _>>=_ maybe
       span-told tail rom p q f = did (rw (outcome (did-by told-as d), sym p, sym q, outcome f))
 
-      -- its bytes are few
-      pub few-bytes : Bounded D → (rom : Text) → rom ≡ without-plus w → length rom ≤ most-target
-      few-bytes ok rom q =
-          let k = subst (Opt (Short most-target)) (sym (told-as ∙ d .value)) (full-short D ok t v s e .gives m) in
-          rw q (plus-short D ok t w k .long)
+-- a tail's bytes are no more without its plus
+pub plus-few : (w : Text) → length (without-plus w) ≤ length w
+unfolding without-plus
+plus-few w = pick-all (λ (u : Text). length u ≤ length w) (is-tail w) {x = tail w} {y = w} (shorter w) (omega arith)
+  where
+    shorter : (w : Text) → length (tail w) ≤ length w
+    shorter [] = omega arith
+    shorter (c ∷ w) = omega arith

@@ -8,17 +8,17 @@ ghost use Rattle.definition.specs.Limits.{most-target};
 ghost use Rattle.definition.specs.Texts.{Text};
 ghost use Rattle.definition.specs.Expansion.{work};
 ghost use Rattle.definition.specs.Building.{is-tail, without-plus, grown, as-edge, edge-of, span-edge, fallback-plus};
-ghost use Rattle.definition.specs.Call.{tables-of};
 ghost use Rattle.vowelrows.specs.Told.{FineVowels};
 ghost use Rattle.rom.specs.Rom.{text, Clean};
-ghost use Rattle.words.specs.Did.{Did};
-ghost use Rattle.words.specs.Given.{text-in, view-of};
-ghost use Rattle.rules.specs.Lent.{Lent};
+ghost use Rattle.words.specs.Given.{size-in, Prepared};
+ghost use Rattle.words.specs.Looks.{Looked};
 ghost use Rattle.rules.specs.Chosen.{said, Said};
-ghost use Rattle.spans.specs.Spans.{edge-with, found, plus-dropped, fallback-bytes, category-note};
+ghost use Rattle.spans.specs.Spans.{Finds, edge-with, found, plus-dropped, fallback-bytes, category-note};
 use edge::Numbers;
 use rom::Rom;
 use rules::Chosen;
+use words::Look;
+use words::Span;
 
 // A plus sign, and the letter n.
 const PLUS: u32 = 43;
@@ -108,68 +108,36 @@ fn as_edge(tail: bool, core: usize, grows: bool, from: usize, to: usize, note: u
 // The edge of a span with a romanization `w`: vowel step, then expansion.
 fn edge_of(
     rules: &[u8],
-    index: &[u32],
-    classes: &[u8],
-    alphas: &[u8],
+    ready: &[u32],
     vowels: &[u8],
     code: &[u8],
     line: &[u32],
-    kinds: &[u32],
-    n: usize,
-    slots: &[u8],
-    room: &[u8],
-    count: usize,
-    starts: &mut [u8],
+    places: &mut [u32],
     w: &[u8],
     tail: bool,
-    s: usize,
-    e: usize,
+    span: Span,
 ) -> Spanned
-    requires { ⌜ Lent (now rules) (now index) (now classes) (now alphas) (now line) (now kinds) (now slots) (now room) n count
-        × FineVowels (now vowels) × (length (now w) ≤ most-target) × (s < e) × (e ≤ n) ⌝ }
-    ensures { λ r. ⌜ Did (edge-of (tables-of (now (rules .entry)) (now (classes .entry)) (now (vowels .entry)) (now (code .entry))) (text-in (now (line .entry)) n)
-        (view-of (now (classes .entry)) (now (slots .entry)) (now (room .entry)) count) tail (now (w .entry)) s e (now (starts .entry)))
-        (edge-with (r .numbers) (text (r .rom))) (now (starts .exit)) × (r .there ≡ true) × Clean (r .rom) ⌝ }
+    requires { ⌜ Prepared (now rules) (now ready) × FineVowels (now vowels) × (length (now w) ≤ most-target)
+        × (span .from < span .to) × (span .to ≤ size-in (now line)) ⌝ }
+    ensures { λ r. ⌜ Finds (now (rules .entry)) (now (ready .entry)) (now (vowels .entry)) (now (code .entry)) (now (line .entry)) (now (places .entry)) (now (places .exit))
+        (λ D t v. edge-of D t v tail (now (w .entry)) (span .from) (span .to)) (edge-with (r .numbers) (text (r .rom)))
+        × (r .there ≡ true) × Clean (r .rom) ⌝ }
 {
     let core = w.len();
     let rom = rom::bytes_of(w);
     let v = vowels::add_default_abugida_vowel(
         rules,
-        index,
-        classes,
-        alphas,
+        ready,
         vowels,
         code,
         line,
-        kinds,
-        n,
-        slots,
-        room,
-        count,
-        starts,
+        places,
         rom,
         tail,
-        s,
-        e,
+        span,
     );
     let new = v.rom;
-    let x = expand::expand_rom_with_special_chars(
-        rules,
-        index,
-        classes,
-        alphas,
-        code,
-        line,
-        kinds,
-        n,
-        slots,
-        room,
-        count,
-        starts,
-        new,
-        s,
-        e,
-    );
+    let x = expand::expand_rom_with_special_chars(rules, ready, code, line, places, new, span);
     let whole = x.rom;
     Spanned {
         there: true,
@@ -181,70 +149,48 @@ fn edge_of(
 // The edge of a span, where full search answers a text.
 pub fn span_edge(
     rules: &[u8],
-    index: &[u32],
-    classes: &[u8],
-    alphas: &[u8],
+    ready: &[u32],
     vowels: &[u8],
     code: &[u8],
     line: &[u32],
-    kinds: &[u32],
-    n: usize,
-    slots: &[u8],
-    room: &[u8],
-    count: usize,
-    starts: &mut [u8],
-    s: usize,
-    e: usize,
+    places: &mut [u32],
+    look: Look,
 ) -> Spanned
-    requires { ⌜ Lent (now rules) (now index) (now classes) (now alphas) (now line) (now kinds) (now slots) (now room) n count
-        × FineVowels (now vowels) × (s < e) × (e ≤ n) ⌝ }
-    ensures { λ r. ⌜ Did (span-edge (tables-of (now (rules .entry)) (now (classes .entry)) (now (vowels .entry)) (now (code .entry))) (text-in (now (line .entry)) n)
-        (view-of (now (classes .entry)) (now (slots .entry)) (now (room .entry)) count) s e (now (starts .entry)))
-        (found r) (now (starts .exit)) × Clean (r .rom) ⌝ }
+    requires { ⌜ Prepared (now rules) (now ready) × FineVowels (now vowels) × Looked (now rules) (now line) look ⌝ }
+    ensures { λ r. ⌜ Finds (now (rules .entry)) (now (ready .entry)) (now (vowels .entry)) (now (code .entry)) (now (line .entry)) (now (places .entry)) (now (places .exit))
+        (λ D t v. span-edge D t v (look .from) (look .to)) (found r) × Clean (r .rom) ⌝ }
 {
+    let span = Span {
+        from: look.from,
+        to: look.to,
+    };
     let chosen = syllables::top_romanization_candidate_for_span(
         rules,
-        index,
-        classes,
-        alphas,
+        ready,
         code,
         line,
-        kinds,
-        n,
-        slots,
-        room,
-        count,
-        starts,
-        s,
-        e,
+        places,
+        look,
     );
     if rules::is_told(chosen) {
         let w = rules::chosen_text(rules, chosen);
         return edge_of(
             rules,
-            index,
-            classes,
-            alphas,
+            ready,
             vowels,
             code,
             line,
-            kinds,
-            n,
-            slots,
-            room,
-            count,
-            starts,
+            places,
             without_plus(w),
             is_tail(w),
-            s,
-            e,
+            span,
         );
     }
     Spanned {
         there: false,
         numbers: Numbers {
-            from: s,
-            to: e,
+            from: span.from,
+            to: span.to,
             note: edge::UNTOUCHED,
             core: 0,
         },

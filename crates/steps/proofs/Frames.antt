@@ -18,7 +18,7 @@ use Rattle.definition.specs.Expansion.{framed, widen, around-by}
 use Rattle.definition.specs.Expansion as expansion
 use Rattle.definition.specs.ExpandBounds.{framed-bound}
 use Rattle.rom.proofs.Walks.{left-cons}
-use Rattle.words.specs.Given.{text-in, part, Lined, line-length, char-before, part-at}
+use Rattle.words.specs.Given.{World, size, part, Lined, line-half, char-before, part-at}
 use Rattle.words.specs.Spans.{spans-is}
 
 -- a rule with a source
@@ -96,40 +96,37 @@ from-line line a b d p q h =
     ∙ ap (λ (i : ℕ). getD line b 0 ∷ drop i line) (sym q)
     ∙ ap (λ (l : List ℕ). getD line b 0 ∷ l) (left-cons line d h))
 
-source-is : {classes line kinds : List ℕ} {n : ℕ} (g : Lined classes line kinds n) (v k e : ℕ) → 1 ≤ k → k ≤ 3 → e + k ≤ n
+source-is : {u : World} {line : List ℕ} (g : Lined u line) (v k e : ℕ) → 1 ≤ k → k ≤ 3 → e + k ≤ size u
     → take (k + 2) (v ∷ en-dash ∷ getD line (e + 1) 0 ∷ getD line (e + 2) 0 ∷ getD line (e + 3) 0 ∷ [])
-    ≡ v ∷ en-dash ∷ part (text-in line n) e (e + k)
-source-is {classes} {line} {kinds} {n} g v k e h j l =
+    ≡ v ∷ en-dash ∷ part (u .text) e (e + k)
+source-is {u} {line} g v k e h j l =
     let m : k + 2 ≡ suc (suc k) = omega arith in
     let x = getD line (e + 1) 0 in
     let y = getD line (e + 2) 0 in
     let z = getD line (e + 3) 0 in
-    let f = g .few in
     ap (λ (i : ℕ). take i (v ∷ en-dash ∷ x ∷ y ∷ z ∷ [])) m
     ∙ ap (λ (u : Text). v ∷ en-dash ∷ u)
     (three k x y z (drop (e + 3 + 1) line) j
-    ∙ sym (ap (take k) (from-line line (e + 1) (e + 2) (e + 3) (omega arith) (omega arith) (omega (arith, line-length g))))
+    ∙ sym (ap (take k) (from-line line (e + 1) (e + 2) (e + 3) (omega arith) (omega arith) (omega (arith, line-half g))))
     ∙ part-at g e (e + k) (e + 1) k (omega arith) l (omega arith) (omega arith))
 
 -- What the pattern says of the `k` characters after the span
-module _ {classes line kinds : List ℕ} {n : ℕ} (g : Lined classes line kinds n) (rs : List Rule) (k : ℕ) (w : expansion.Work) where
+module _ {u : World} {line : List ℕ} (g : Lined u line) (rs : List Rule) (k : ℕ) (w : expansion.Work) where
   abbrev t : Text
-  t = text-in line n
+  t = u .text
 
-  pub frame-past : w .to ≤ n → n < w .to + k → around-by rs t k w ≡ none
+  pub frame-past : w .to ≤ size u → size u < w .to + k → around-by rs t k w ≡ none
   unfolding around-by widen
   frame-past h l =
-      let m = g .long in
       ap (widen k w) (framed-past t (prev t (w .from)) k (w .to) (omega arith) (omega arith) rs)
 
   -- by the numbers in the line, `o` being what the first rule with their text says
   module _ {v x y z : ℕ} (o : Option Text) (p : v ≡ getD line (w .from) 0) (d : x ≡ getD line (w .to + 1) 0)
       (e : y ≡ getD line (w .to + 2) 0) (f : z ≡ getD line (w .to + 3) 0) where
-    pub frame-first : w .from ≤ n → 1 ≤ k → k ≤ 3 → w .to + k ≤ n
+    pub frame-first : w .from ≤ size u → 1 ≤ k → k ≤ 3 → w .to + k ≤ size u
         → o ≡ first-rule rs (take (k + 2) (v ∷ en-dash ∷ x ∷ y ∷ z ∷ [])) → around-by rs t k w ≡ widen k w o
     unfolding around-by
     frame-first i h j l r =
-        let m = g .long in
         let c = prev t (w .from) in
         ap (widen k w) (framed-first t c k (w .to) (omega arith) rs
         ∙ sym (r ∙ ap (first-rule rs)

@@ -9,20 +9,19 @@ use lib.ListN.{length, getD}
 use borrow.Author.Tests.{lt-ltb, le-ltb}
 use Rattle.base.specs.Bools.{eqb-alike}
 use Rattle.definition.specs.Texts.{Text, the-space, at, stands}
-use Rattle.words.specs.Given.{text-in, Lined, char-at}
+use Rattle.words.specs.Given.{World, size, Lined, char-at}
 
-module _ {classes line kinds : List ℕ} {n : ℕ} (g : Lined classes line kinds n) (p : ℕ) where
+module _ {x : World} {line : List ℕ} (g : Lined x line) (p : ℕ) where
   abbrev t : Text
-  t = text-in line n
+  t = x .text
 
   -- does a space stand there?
-  pub space-told : p < n → {c : ℕ} → c ≡ getD line (p + 1) 0 → eqb c the-space ≡ stands t p the-space
+  pub space-told : p < size x → {c : ℕ} → c ≡ getD line (p + 1) 0 → eqb c the-space ≡ stands t p the-space
   unfolding stands
   space-told h {c} e =
-      let l = g .long in
       eqb-alike c the-space the-space (at t p) (λ k. sym k ∙ e ∙ char-at g p (omega arith)) (λ k. e ∙ char-at g p (omega arith) ∙ sym k)
       ∙ sym (ap (λ (b : Bool). b && eqb the-space (at t p)) (lt-ltb p (length t) (omega arith)))
 
-  pub no-space-past : n ≤ p → false ≡ stands t p the-space
+  pub no-space-past : size x ≤ p → false ≡ stands t p the-space
   unfolding stands
-  no-space-past h = let l = g .long in sym (ap (λ (b : Bool). b && eqb the-space (at t p)) (le-ltb p (length t) (omega arith)))
+  no-space-past h = sym (ap (λ (b : Bool). b && eqb the-space (at t p)) (le-ltb p (length t) (omega arith)))

@@ -68,6 +68,12 @@ unfolding widen maybe
 a-target w x k none e f = absurd (true≢false (sym e))
 a-target w x k (some y) e f = record { done = refl; work = f }
 
+-- it takes the character before the span, and with none after it ends where the span did
+pub behind-there : (w : expansion.Work) (o : Option Text) → (maybe (widen 0 w o) w (λ x. x) .from ≤ w .from) × (maybe (widen 0 w o) w (λ x. x) .to ≡ w .to)
+unfolding widen maybe
+behind-there w none = (omega arith, refl)
+behind-there w (some y) = (omega arith, add-zero (w .to))
+
 or-first : {A : Type 0} (a b : Option A) → has a ≡ true → or-else a b ≡ a
 or-first none b e = absurd (true≢false (sym e))
 or-first (some x) b e = refl

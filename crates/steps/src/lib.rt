@@ -1,20 +1,18 @@
 // Steps of the expansion (`expand_rom_with_special_chars`) that ask the text and the rule table alone: they remember nothing.
 ghost use mathlib.Core.Bool.{true};
-ghost use mathlib.Core.List.{List, _∷_, _++_, reverse};
+ghost use mathlib.Core.List.{_∷_, _++_, reverse};
 ghost use mathlib.Core.Path.{_≡_};
 ghost use Prim.Native.Nat.{ℕ, _+_, _-_, _/_, _%_, _<_, _≤_};
 ghost use lib.ListN.{take};
 ghost use Rattle.base.specs.Bits.{flagged};
 ghost use Rattle.base.specs.Lists.{has};
-ghost use Rattle.definition.specs.Limits.{most-characters, most-bytes, most-target};
+ghost use Rattle.definition.specs.Limits.{most-bytes, most-target};
 ghost use Rattle.definition.specs.Texts.{the-space, stands, vowels, last-is};
 ghost use Rattle.definition.specs.Notes.{note-exp};
 ghost use Rattle.definition.specs.RuleRows.{rules-of};
-ghost use Rattle.definition.specs.ClassRows.{classes-of};
 ghost use Rattle.definition.specs.Expansion.{work, small-tsu, doubled, double, widen, around-by, around, before, trim, finish};
-ghost use Rattle.dicts.specs.Index.{Ready};
 ghost use Rattle.rom.specs.Rom.{text, rom, Clean};
-ghost use Rattle.words.specs.Given.{text-in, Lined};
+ghost use Rattle.words.specs.Given.{World, kinds, size-in, Prepared, Lined};
 ghost use Rattle.rules.specs.Chosen.{said, Said};
 ghost use Rattle.steps.specs.Works.{work-of, Tries, first-of, last-of, letter-of, framed-by, before-by, kana, long-by, front-of, back-of};
 use rom::Rom;
@@ -123,19 +121,18 @@ fn put_front(w: Work, letter: u8) -> Work
 }
 
 // Doubling by the character before `o`, where the span starts, if it is of the script of the one at `o`.
-pub fn double(line: &[u32], kinds: &[u32], n: usize, o: usize, w: Work) -> Work
-    requires { ⌜ Clean (w .rom) × (w .rom .len < most-bytes) × (w .from ≡ o) × (o ≤ n) × (n ≤ most-characters) ⌝ }
-    ensures { λ r. ⌜ ((classes : List ℕ) → Lined classes (now (line .entry)) (now (kinds .entry)) n
-        → work-of r ≡ double (classes-of classes) (text-in (now (line .entry)) n) o (work-of w))
-        × Clean (r .rom) × (r .rom .len ≤ w .rom .len + 1) ⌝ }
+pub fn double(line: &[u32], o: usize, w: Work) -> Work
+    requires { ⌜ Clean (w .rom) × (w .rom .len < most-bytes) × (w .from ≡ o) × (o ≤ size-in (now line)) ⌝ }
+    ensures { λ r. ⌜ ((x : World) → Lined x (now (line .entry)) → work-of r ≡ double (kinds x) (x .text) o (work-of w))
+        × Clean (r .rom) × (r .rom .len ≤ w .rom .len + 1) × (r .from ≤ w .from) × (r .to ≡ w .to) ⌝ }
 {
     if o == 0 {
         return w;
     }
     let c = words::number_at(line, o);
     if is_small_tsu(c) {
-        let script = classes::script(words::number_at(kinds, o));
-        if script == classes::script(words::number_at(kinds, o + 1)) {
+        let script = classes::script(words::kind_at(line, o));
+        if script == classes::script(words::kind_at(line, o + 1)) {
             let old = w.rom;
             let letter = doubling_letter(c, old);
             if letter == 0 {
@@ -148,11 +145,10 @@ pub fn double(line: &[u32], kinds: &[u32], n: usize, o: usize, w: Work) -> Work
     w
 }
 
-// A target put behind, if there is one, over the character before the span and `k` after it.
-fn put_behind(rules: &[u8], target: Chosen, w: Work, k: usize) -> Tried
-    requires { ⌜ Said (now rules) target × Clean (w .rom) × (w .rom .len + most-target ≤ most-bytes)
-        × (0 < w .from) × (w .to ≤ most-characters) × (k ≤ 3) ⌝ }
-    ensures { λ r. ⌜ Tries w (widen k (work-of w) (said (now (rules .entry)) target)) r
+// A target put behind, if there is one, over the character before the span and those after it up to `to`.
+fn put_behind(rules: &[u8], target: Chosen, w: Work, to: usize) -> Tried
+    requires { ⌜ Said (now rules) target × Clean (w .rom) × (w .rom .len + most-target ≤ most-bytes) × (0 < w .from) ⌝ }
+    ensures { λ r. ⌜ ((k : ℕ) → to ≡ w .to + k → Tries w (widen k (work-of w) (said (now (rules .entry)) target)) r)
         × Clean (r .work .rom) × (r .work .rom .len ≤ w .rom .len + most-target) ⌝ }
 {
     if rules::is_told(target) {
@@ -161,7 +157,7 @@ fn put_behind(rules: &[u8], target: Chosen, w: Work, k: usize) -> Tried
         let work = Work {
             rom: made,
             from: w.from - 1,
-            to: w.to + k,
+            to,
             note: edge::EXPANDED,
         };
         return Tried { work, done: true };
@@ -174,7 +170,7 @@ fn put_behind(rules: &[u8], target: Chosen, w: Work, k: usize) -> Tried
 
 // Is the span one character, spoken as consonants, after a character of class `kind` that is written before its consonant?
 fn is_framed(kind: u32, w: Work) -> bool
-    requires { ⌜ Clean (w .rom) × (w .from ≤ most-characters) ⌝ }
+    requires { ⌜ Clean (w .rom) × (w .from < w .to) ⌝ }
     ensures { λ r. ⌜ r ≡ framed-by (flagged (kind / 1024) 6) (work-of w) ⌝ }
 {
     let old = w.rom;
@@ -190,15 +186,15 @@ fn is_framed(kind: u32, w: Work) -> bool
 }
 
 // The first rule of the character before the span, an en dash and the `k` characters after the span, if there are so many.
-fn around_by(rules: &[u8], index: &[u32], line: &[u32], n: usize, w: Work, k: usize) -> Tried
-    requires { ⌜ Ready (now rules) (now index) × Clean (w .rom) × (w .rom .len + most-target ≤ most-bytes)
-        × (0 < w .from) × (w .from ≤ n) × (w .to ≤ n) × (n ≤ most-characters) × (1 ≤ k) × (k ≤ 3) ⌝ }
-    ensures { λ r. ⌜ ((classes kinds : List ℕ) → Lined classes (now (line .entry)) kinds n
-        → Tries w (around-by (rules-of (now (rules .entry))) (text-in (now (line .entry)) n) k (work-of w)) r)
+fn around_by(rules: &[u8], ready: &[u32], line: &[u32], w: Work, k: usize) -> Tried
+    requires { ⌜ Prepared (now rules) (now ready) × Clean (w .rom) × (w .rom .len + most-target ≤ most-bytes)
+        × (0 < w .from) × (w .from ≤ size-in (now line)) × (w .to ≤ size-in (now line)) × (1 ≤ k) × (k ≤ 3) ⌝ }
+    ensures { λ r. ⌜ ((x : World) → Lined x (now (line .entry)) → Tries w (around-by (rules-of (now (rules .entry))) (x .text) k (work-of w)) r)
         × Clean (r .work .rom) × (r .work .rom .len ≤ w .rom .len + most-target) ⌝ }
 {
     let to = w.to;
-    if n < to + k {
+    let end = to + k;
+    if words::text_len(line) < end {
         return Tried {
             work: w,
             done: false,
@@ -210,16 +206,15 @@ fn around_by(rules: &[u8], index: &[u32], line: &[u32], n: usize, w: Work, k: us
     let three = words::number_at(line, to + 3);
     let source = [vowel, EN_DASH, one, two, three];
     let len = k + 2;
-    let target = rules::romanization_by_first_rule(rules, index, &source[..len]);
-    put_behind(rules, target, w, k)
+    let target = rules::romanization_by_first_rule(rules, ready, &source[..len]);
+    put_behind(rules, target, w, end)
 }
 
 // Thai pattern: a vowel written around its consonant, the longest first.
-pub fn around(rules: &[u8], index: &[u32], line: &[u32], kinds: &[u32], n: usize, w: Work) -> Tried
-    requires { ⌜ Ready (now rules) (now index) × Clean (w .rom) × (w .rom .len + most-target ≤ most-bytes)
-        × (w .from ≤ n) × (w .to ≤ n) × (n ≤ most-characters) ⌝ }
-    ensures { λ r. ⌜ ((classes : List ℕ) → Lined classes (now (line .entry)) (now (kinds .entry)) n
-        → Tries w (around (rules-of (now (rules .entry))) (classes-of classes) (text-in (now (line .entry)) n) (work-of w)) r)
+pub fn around(rules: &[u8], ready: &[u32], line: &[u32], w: Work) -> Tried
+    requires { ⌜ Prepared (now rules) (now ready) × Clean (w .rom) × (w .rom .len + most-target ≤ most-bytes)
+        × (w .from < w .to) × (w .to ≤ size-in (now line)) ⌝ }
+    ensures { λ r. ⌜ ((x : World) → Lined x (now (line .entry)) → Tries w (around (rules-of (now (rules .entry))) (kinds x) (x .text) (work-of w)) r)
         × Clean (r .work .rom) × (r .work .rom .len ≤ w .rom .len + most-target) ⌝ }
 {
     let from = w.from;
@@ -229,16 +224,16 @@ pub fn around(rules: &[u8], index: &[u32], line: &[u32], kinds: &[u32], n: usize
             done: false,
         };
     }
-    if is_framed(words::number_at(kinds, from), w) {
-        let three = around_by(rules, index, line, n, w, 3);
+    if is_framed(words::kind_at(line, from), w) {
+        let three = around_by(rules, ready, line, w, 3);
         if three.done {
             return three;
         }
-        let two = around_by(rules, index, line, n, w, 2);
+        let two = around_by(rules, ready, line, w, 2);
         if two.done {
             return two;
         }
-        return around_by(rules, index, line, n, w, 1);
+        return around_by(rules, ready, line, w, 1);
     }
     Tried {
         work: w,
@@ -261,22 +256,21 @@ fn is_before(kind: u32, r: Rom) -> bool
 }
 
 // Thai vowel that is written before its consonant and spoken behind it: what its first rule says is put behind.
-pub fn before(rules: &[u8], index: &[u32], line: &[u32], kinds: &[u32], n: usize, w: Work) -> Work
-    requires { ⌜ Ready (now rules) (now index) × Clean (w .rom) × (w .rom .len + most-target ≤ most-bytes)
-        × (w .from ≤ n) × (w .to ≤ n) × (n ≤ most-characters) ⌝ }
-    ensures { λ r. ⌜ ((classes : List ℕ) → Lined classes (now (line .entry)) (now (kinds .entry)) n
-        → work-of r ≡ before (rules-of (now (rules .entry))) (classes-of classes) (text-in (now (line .entry)) n) (work-of w))
-        × Clean (r .rom) × (r .rom .len ≤ w .rom .len + most-target) ⌝ }
+pub fn before(rules: &[u8], ready: &[u32], line: &[u32], w: Work) -> Work
+    requires { ⌜ Prepared (now rules) (now ready) × Clean (w .rom) × (w .rom .len + most-target ≤ most-bytes)
+        × (w .from < w .to) × (w .to ≤ size-in (now line)) ⌝ }
+    ensures { λ r. ⌜ ((x : World) → Lined x (now (line .entry)) → work-of r ≡ before (rules-of (now (rules .entry))) (kinds x) (x .text) (work-of w))
+        × Clean (r .rom) × (r .rom .len ≤ w .rom .len + most-target) × (r .from ≤ w .from) × (r .to ≡ w .to) ⌝ }
 {
     let from = w.from;
     if from == 0 {
         return w;
     }
     let old = w.rom;
-    if is_before(words::number_at(kinds, from), old) {
+    if is_before(words::kind_at(line, from), old) {
         let vowel = words::number_at(line, from);
-        let target = rules::romanization_by_first_rule(rules, index, &[vowel]);
-        let tried = put_behind(rules, target, w, 0);
+        let target = rules::romanization_by_first_rule(rules, ready, &[vowel]);
+        let tried = put_behind(rules, target, w, w.to);
         return tried.work;
     }
     w
@@ -335,27 +329,24 @@ fn trim_back(r: Rom, there: bool) -> Rom
 }
 
 // Does a space stand in the text at `p`? The end of the text is none.
-fn is_space_at(line: &[u32], n: usize, p: usize) -> bool
-    requires { ⌜ (p ≤ n) × (n ≤ most-characters) ⌝ }
-    ensures { λ r. ⌜ ((classes kinds : List ℕ) → Lined classes (now (line .entry)) kinds n
-        → r ≡ stands (text-in (now (line .entry)) n) p the-space) ⌝ }
+fn is_space_at(line: &[u32], p: usize) -> bool
+    ensures { λ r. ⌜ ((x : World) → Lined x (now (line .entry)) → r ≡ stands (x .text) p the-space) ⌝ }
 {
-    if p < n {
+    if p < words::text_len(line) {
         return words::number_at(line, p + 1) == SPACE;
     }
     false
 }
 
 // One space at each side goes, where the text has one there; its front counts as one.
-fn trim(line: &[u32], n: usize, w: Work) -> Work
-    requires { ⌜ Clean (w .rom) × (w .from ≤ n) × (w .to ≤ n) × (n ≤ most-characters) ⌝ }
-    ensures { λ r. ⌜ ((classes kinds : List ℕ) → Lined classes (now (line .entry)) kinds n
-        → work-of r ≡ trim (text-in (now (line .entry)) n) (work-of w))
+fn trim(line: &[u32], w: Work) -> Work
+    requires { ⌜ Clean (w .rom) × (w .from ≤ size-in (now line)) ⌝ }
+    ensures { λ r. ⌜ ((x : World) → Lined x (now (line .entry)) → work-of r ≡ trim (x .text) (work-of w))
         × Clean (r .rom) × (r .rom .len ≤ w .rom .len) ⌝ }
 {
     let old = w.rom;
     let front = trim_front(old, words::number_at(line, w.from));
-    let made = trim_back(front, is_space_at(line, n, w.to));
+    let made = trim_back(front, is_space_at(line, w.to));
     Work {
         rom: made,
         from: w.from,
@@ -364,10 +355,10 @@ fn trim(line: &[u32], n: usize, w: Work) -> Work
     }
 }
 
-// The last letter once more, over the mark after the span.
-fn lengthen(w: Work) -> Work
-    requires { ⌜ Clean (w .rom) × (w .rom .len < most-bytes) × (last-is vowels (text (w .rom)) ≡ true) × (w .to ≤ most-characters) ⌝ }
-    ensures { λ r. ⌜ (work-of r ≡ work (text (w .rom) ++ take 1 (reverse (text (w .rom)))) (w .from) (w .to + 1) note-exp)
+// The last letter once more, over the mark after the span, up to `to`.
+fn lengthen(w: Work, to: usize) -> Work
+    requires { ⌜ Clean (w .rom) × (w .rom .len < most-bytes) × (last-is vowels (text (w .rom)) ≡ true) ⌝ }
+    ensures { λ r. ⌜ (work-of r ≡ work (text (w .rom) ++ take 1 (reverse (text (w .rom)))) (w .from) to note-exp)
         × Clean (r .rom) × (r .rom .len ≡ w .rom .len + 1) ⌝ }
 {
     let old = w.rom;
@@ -375,26 +366,25 @@ fn lengthen(w: Work) -> Work
     Work {
         rom: made,
         from: w.from,
-        to: w.to + 1,
+        to,
         note: edge::EXPANDED,
     }
 }
 
 // What ends the expansion: a long mark that lengthens, or a virama, which is absorbed, or else spaces trimmed.
-pub fn finish(line: &[u32], kinds: &[u32], n: usize, w: Work) -> Work
-    requires { ⌜ Clean (w .rom) × (w .rom .len < most-bytes) × (w .from ≤ n) × (w .to ≤ n) × (n ≤ most-characters) ⌝ }
-    ensures { λ r. ⌜ ((classes : List ℕ) → Lined classes (now (line .entry)) (now (kinds .entry)) n
-        → work-of r ≡ finish (classes-of classes) (text-in (now (line .entry)) n) (work-of w))
+pub fn finish(line: &[u32], w: Work) -> Work
+    requires { ⌜ Clean (w .rom) × (w .rom .len < most-bytes) × (w .from < w .to) × (w .to ≤ size-in (now line)) ⌝ }
+    ensures { λ r. ⌜ ((x : World) → Lined x (now (line .entry)) → work-of r ≡ finish (kinds x) (x .text) (work-of w))
         × Clean (r .rom) × (r .rom .len ≤ w .rom .len + 1) ⌝ }
 {
     let to = w.to;
     let at = to + 1;
     let old = w.rom;
-    let script = classes::script(words::number_at(kinds, to));
+    let script = classes::script(words::kind_at(line, to));
     if lengthens(words::number_at(line, at), script, old) {
-        return lengthen(w);
+        return lengthen(w, at);
     }
-    if classes::class_flag(words::number_at(kinds, at), classes::VIRAMA) {
+    if classes::class_flag(words::kind_at(line, at), classes::VIRAMA) {
         return Work {
             rom: old,
             from: w.from,
@@ -402,5 +392,5 @@ pub fn finish(line: &[u32], kinds: &[u32], n: usize, w: Work) -> Work
             note: edge::EXPANDED,
         };
     }
-    trim(line, n, w)
+    trim(line, w)
 }

@@ -1,65 +1,60 @@
--- A text between spaces, as the definition reads it: one before it, two after it, and spaces in the room that it leaves.
-use mathlib.Core.Path.{_≡_, refl, ap, _∙_}
+-- A text between spaces, as the definition reads it: one before it and two after it.
+use mathlib.Core.Path.{_≡_, refl, sym, ap, _∙_}
 use mathlib.Core.List.{List, [], _∷_, _++_}
 use Prim.Native.Nat.{ℕ, zero, suc, _+_, _≤_}
-use native.Mathlib.Numerals.{add-one}
-use lib.ListN.{length, getD, take, drop, replicate, length-replicate}
-use lib.Seq.{take-all}
-use borrow.Rule.Slice.PartMut.{putMid, midOf}
-use Rattle.base.specs.Alls.{All}
-use Rattle.definition.specs.Limits.{most-characters}
-use Rattle.definition.specs.Texts.{Text, the-space, at, prev}
-use Rattle.utf8.specs.Puts.{puts, puts-all}
+use native.Mathlib.Omega.{arith}
+use lib.ListN.{length, take, drop, set, take-append-drop, length-append, length-drop}
+use lib.Seq.{take-append-le, length-take-le}
+use borrow.Rule.Slice.PartMut.{putMid, midOf, same-len-mid}
+use Rattle.definition.specs.Texts.{Text, the-space}
+use Rattle.utf8.specs.Puts.{puts, puts-length, puts-front}
 
-unfoldable pub framed : Text → List ℕ
-framed t = the-space ∷ (puts 0 t (replicate most-characters the-space) ++ the-space ∷ the-space ∷ [])
+unfoldable pub spaced : Text → List ℕ
+spaced t = the-space ∷ (t ++ the-space ∷ the-space ∷ [])
 
--- a list of nothing but spaces
-abbrev Spaces : List ℕ → Type 0
-Spaces = All (λ c. c ≡ the-space)
+-- two spaces put behind a text
+closed : (t r : List ℕ) → 2 ≤ length r
+    → take (suc (suc (length t))) (set (set (t ++ r) (length t) the-space) (suc (length t)) the-space) ≡ t ++ the-space ∷ the-space ∷ []
+closed [] [] h = absurd (omega arith)
+closed [] (a ∷ []) h = absurd (omega arith)
+closed [] (a ∷ b ∷ r) h = refl
+closed (c ∷ t) r h = ap (_∷_ c) (closed t r h)
 
-spaces : (n : ℕ) → Spaces (replicate n the-space)
-spaces zero = tt
-spaces (suc n) = (refl, spaces n)
+-- and one before it
+spaced-by : (t l : List ℕ) (n : ℕ) → n ≡ length t → n + 3 ≤ length l → take n (drop 1 l) ≡ t
+    → take (n + 3) (set (set (set l 0 the-space) (n + 1) the-space) (n + 2) the-space) ≡ spaced t
+unfolding spaced
+spaced-by t [] n e h q = absurd (omega arith)
+spaced-by t (x ∷ l) n e h q =
+    ap (λ (k : ℕ). take k (set (set (the-space ∷ l) (n + 1) the-space) (n + 2) the-space)) {x = n + 3} {y = suc (suc (suc (length t)))} (omega arith)
+    ∙ ap (λ (k : ℕ). take (suc (suc (suc (length t)))) (set (set (the-space ∷ l) k the-space) (n + 2) the-space)) {x = n + 1} {y = suc (length t)} (omega arith)
+    ∙ ap (λ (k : ℕ). take (suc (suc (suc (length t)))) (set (the-space ∷ set l (length t) the-space) k the-space)) {x = n + 2} {y = suc (suc (length t))} (omega arith)
+    ∙ ap (λ (m : List ℕ). the-space ∷ take (suc (suc (length t))) (set (set m (length t) the-space) (suc (length t)) the-space)) whole
+    ∙ ap (_∷_ the-space) (closed t (drop n l) (omega (arith, ap length whole, length-append t (drop n l))))
+  where
+    whole : l ≡ t ++ drop n l
+    whole = sym (take-append-drop n l) ∙ ap (λ (w : List ℕ). w ++ drop n l) q
 
-spaces-after : (n : ℕ) (l : List ℕ) → Spaces l → Spaces (drop n l)
-spaces-after zero l h = h
-spaces-after (suc n) [] h = tt
-spaces-after (suc n) (c ∷ l) h = spaces-after n l (h .1)
+-- a line whose middle was lent and has come back with the text's characters
+pub spaced-is : (t l back : List ℕ) (n m : ℕ) → n ≡ length t → n ≤ m → m + 3 ≤ length l → back ≡ puts 0 t (midOf 1 m l)
+    → take (n + 3) (set (set (set (putMid 1 m l back) 0 the-space) (n + 1) the-space) (n + 2) the-space) ≡ spaced t
+spaced-is t [] back n m e f h p = absurd (omega arith)
+spaced-is t (x ∷ l) back n m e f h p = spaced-by t (putMid 1 m (x ∷ l) back) n e long front
+  where
+    lent : length (take m l) ≡ m
+    lent = length-take-le m l (omega arith)
 
-space-at : (l : List ℕ) → Spaces l → (i : ℕ) → getD l i the-space ≡ the-space
-space-at [] h i = refl
-space-at (c ∷ l) h zero = h .0
-space-at (c ∷ l) h (suc i) = space-at l (h .1) i
+    came : length back ≡ m
+    came = ap length p ∙ puts-length 0 t (take m l) ∙ lent
 
--- spaces behind a text change nothing of what stands where
-behind : (t l : List ℕ) → Spaces l → (i : ℕ) → getD (t ++ l) i the-space ≡ getD t i the-space
-behind [] l h i = space-at l h i
-behind (c ∷ t) l h zero = refl
-behind (c ∷ t) l h (suc i) = behind t l h i
+    long : n + 3 ≤ length (putMid 1 m (x ∷ l) back)
+    long = omega (arith, came, length-append back (drop m l), length-drop m l)
 
-module _ (t : Text) (few : length t ≤ most-characters) where
-  put : puts 0 t (replicate most-characters the-space) ≡ t ++ drop (length t) (replicate most-characters the-space)
-  put = puts-all t (replicate most-characters the-space)
-      ∙ ap (λ w. w ++ drop (length t) (replicate most-characters the-space))
-      (ap (λ n. take n t) (length-replicate most-characters the-space) ∙ take-all most-characters t few)
+    front : take n (back ++ drop m l) ≡ t
+    front =
+        take-append-le n back (drop m l) (omega (arith, came))
+        ∙ ap (take n) p ∙ ap (λ (k : ℕ). take k (puts 0 t (take m l))) e ∙ puts-front t (take m l) (omega (arith, lent))
 
-  -- what stands at a place, and before it
-  pub framed-at : (i : ℕ) → getD (framed t) (i + 1) the-space ≡ at t i
-  unfolding framed at
-  framed-at i = rw add-one (ap (λ l. getD (l ++ the-space ∷ the-space ∷ []) i the-space) put
-      ∙ behind (t ++ drop (length t) (replicate most-characters the-space)) (the-space ∷ the-space ∷ []) (refl, (refl, tt)) i
-      ∙ behind t (drop (length t) (replicate most-characters the-space)) (spaces-after (length t) (replicate most-characters the-space) (spaces most-characters)) i)
-
-  pub framed-prev : (i : ℕ) → getD (framed t) i the-space ≡ prev t i
-  unfolding prev
-  framed-prev zero = unfold framed in refl
-  framed-prev (suc i) = rw add-one at (framed-at i)
-
--- a line of spaces whose middle was lent and has come back with the text's characters
-pub framed-is : (t l back : List ℕ) (n : ℕ) → n ≡ most-characters + 3 → l ≡ replicate n the-space
-    → back ≡ puts 0 t (midOf 1 most-characters l) → putMid 1 most-characters l back ≡ framed t
-unfolding framed
-framed-is t l back n e h p =
-    ap (putMid 1 most-characters l) p
-    ∙ ap (λ l. putMid 1 most-characters l (puts 0 t (midOf 1 most-characters l))) (h ∙ ap (λ n. replicate n the-space) e)
+-- which is as long as before
+pub lent-length : (t l back : List ℕ) (m : ℕ) → back ≡ puts 0 t (midOf 1 m l) → length (putMid 1 m l back) ≡ length l
+lent-length t l back m p = same-len-mid 1 m l back (ap length p ∙ puts-length 0 t (midOf 1 m l))

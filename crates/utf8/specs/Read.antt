@@ -1,11 +1,14 @@
 -- What the answers of this crate's functions say, in the definition's terms.
-use mathlib.Core.Bool.{not}
+use mathlib.Core.Bool.{Bool, true, false, not}
 use mathlib.Core.List.{List}
-use mathlib.Core.Path.{_≡_, refl}
+use mathlib.Core.Path.{_≡_, refl, sym, ap, _∙_}
 use mathlib.Core.Option.{Option, none, some}
-use Prim.Native.Nat.{ℕ}
+use Prim.Native.Nat.{ℕ, _≤_}
 use lib.Dec.{ltb}
 use lib.ListN.{length}
+use native.Mathlib.Omega.{arith}
+use borrow.Author.Tests.{ltb-false}
+use Rattle.base.specs.Pick.{pick}
 use Rattle.base.specs.Lists.{or-else}
 use Rattle.definition.specs.Limits.{most-characters}
 use Rattle.definition.specs.Utf8.{Read, char, bad, bad-sequence, decoded}
@@ -91,3 +94,19 @@ pub last-refusals : (i : Inputs)
     (or-else (when (not (code-right (i .code))) 5 0) (text-refusal (i .text))))))
 unfolding refusal characters text-refusal
 last-refusals i = refl
+
+-- a text that is not refused is not too long
+few-by : (o q : Option Refusal) (b : Bool) (k : ℕ) → or-else o (or-else (when b 7 k) q) ≡ none → b ≡ false
+unfolding when pick
+few-by none q true k e = absurd (let z : _≡_ {A = ℕ} 0 1 = cc in omega arith)
+few-by none q false k e = refl
+few-by (some x) q b k e = absurd (let z : _≡_ {A = ℕ} 0 1 = cc in omega arith)
+
+pub few-characters : (s : List ℕ) → text-refusal s ≡ none → length (decoded s) ≤ most-characters
+unfolding text-refusal
+few-characters s e =
+    let h = ltb-false most-characters (length (decoded s)) (few-by (placed 6 (bad-sequence s)) _ _ _ e) in omega arith
+
+pub few-read : (s : List ℕ) (r : TextRead) (n : ℕ) → r ≡ Text n → refused r ≡ text-refusal s → length (decoded s) ≤ most-characters
+unfolding refused
+few-read s r n e q = few-characters s (sym q ∙ ap refused e)

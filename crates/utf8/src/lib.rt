@@ -10,7 +10,7 @@ ghost use Rattle.definition.specs.Call.{left-out, first-left-out};
 ghost use Rattle.utf8.specs.Read.{told, place, last-of, answered, refused, text-refusal};
 ghost use Rattle.definition.specs.Texts.{the-space};
 ghost use Rattle.utf8.specs.Puts.{puts};
-ghost use Rattle.utf8.specs.Lines.{framed};
+ghost use Rattle.utf8.specs.Lines.{spaced};
 ghost use Rattle.utf8.specs.Encodings.{TextBytes, last-start};
 
 // Characters of a text, at most.
@@ -273,26 +273,26 @@ pub fn read_text(text: &[u8], chars: &mut [u32]) -> TextRead
     }
 }
 
-// Nothing but spaces.
-fn blank(line: &mut [u32])
-    ensures { λ _. ⌜ now (line .exit) ≡ replicate (length (now (line .entry))) the-space ⌝ }
-{
-    let mut i: usize = 0;
-    while i < line.len() {
-        line[i] = 0x20;
-        i += 1;
-    }
-}
-
-// The same, with the text between spaces: one before it and two after it, so that a reader need not ask for its ends.
+// The same, with the text between spaces: one before it and two after it, so that a reader need not ask for its ends. Of
+// a text that is refused nothing is said of the line.
 pub fn read_line(text: &[u8], line: &mut [u32]) -> TextRead
-    requires { ⌜ length (now line) ≡ most-characters + 3 ⌝ }
+    requires { ⌜ most-characters + 3 ≤ length (now line) ⌝ }
     ensures refusal { λ r. ⌜ refused r ≡ text-refusal (now (text .entry)) ⌝ }
     ensures count { λ r. ⌜ ((n : ℕ) → r ≡ TextRead.Characters n → n ≡ length (decoded (now (text .entry)))) ⌝ }
-    ensures room { λ _. ⌜ now (line .exit) ≡ framed (decoded (now (text .entry))) ⌝ }
+    ensures line { λ r. ⌜ ((n : ℕ) → r ≡ TextRead.Characters n → take (n + 3) (now (line .exit)) ≡ spaced (decoded (now (text .entry)))) ⌝ }
 {
-    blank(line);
-    read_text(text, &mut line[1..513])
+    let read = read_text(text, &mut line[1..513]);
+    match read {
+        TextRead::Characters(n) => {
+            line[0] = 0x20;
+            line[n + 1] = 0x20;
+            line[n + 2] = 0x20;
+            read
+        }
+        TextRead::NotUtf8(_) => read,
+        TextRead::TooLong => read,
+        TextRead::LeftOut(_) => read,
+    }
 }
 
 // Where the last character starts: from the text's end back, the first byte that is no continuation byte.

@@ -8,19 +8,18 @@ use lib.Dec.{eqb}
 use lib.ListN.{getD}
 use Rattle.definition.specs.Texts.{Text, at, khmer-yo}
 use Rattle.definition.specs.Tables.{Class}
-use Rattle.definition.specs.ClassRows.{classes-of}
 use Rattle.definition.specs.Classes.{class, mark}
 use Rattle.definition.specs.Vowels.{before-yo, bare}
 use Rattle.classes.specs.Packing.{Says}
-use Rattle.words.specs.Given.{text-in, Lined, char-at, kind-at}
+use Rattle.words.specs.Given.{World, kinds, size, kind-in, Lined, char-at, kind-at}
 use Rattle.vowels.specs.Ways.{silent}
 
-module _ {classes line kinds : List ℕ} {n : ℕ} (g : Lined classes line kinds n) (p : ℕ) where
+module _ {w : World} {line : List ℕ} (g : Lined w line) (p : ℕ) where
   abbrev ks : List Class
-  ks = classes-of classes
+  ks = kinds w
 
   abbrev t : Text
-  t = text-in line n
+  t = w .text
 
   -- a base is bare before the Khmer yo, or before what the classes tell
   regroup : (y a b c d e f : Bool) → (y || (a || (b || (c || (d || (e || f)))))) ≡ (y || a || b || c || d || e || f)
@@ -31,13 +30,13 @@ module _ {classes line kinds : List ℕ} {n : ℕ} (g : Lined classes line kinds
   regroup false false false false true e f = refl
   regroup false false false false false e f = refl
 
-  pub bare-told : (base : Text) → p ≤ n
-      → ((before-yo base && eqb (getD line (p + 1) 0) khmer-yo) || silent (getD kinds (p + 1) 0) (getD kinds (p + 2) 0)) ≡ bare ks t base p
+  pub bare-told : (base : Text) → p ≤ size w
+      → ((before-yo base && eqb (getD line (p + 1) 0) khmer-yo) || silent (kind-in line (p + 1)) (kind-in line (p + 2))) ≡ bare ks t base p
   unfolding bare silent mark
   bare-told base h =
       let k = kind-at g p (omega arith) in
       let i : p + 1 + 1 ≡ p + 2 = omega arith in
-      let j = subst (λ (x : ℕ). Says (getD kinds x 0) (class ks (at t (p + 1)))) i (kind-at g (p + 1) (omega arith)) in
+      let j = subst (λ (x : ℕ). Says (kind-in line x) (class ks (at t (p + 1)))) i (kind-at g (p + 1) (omega arith)) in
       rw (char-at g p (omega arith), k .sign, k .medial, k .subjoined, k .category, k .virama, j .sign, j .virama)
       (regroup (before-yo base && eqb (at t p) khmer-yo) (class ks (at t p) .sign) (class ks (at t p) .medial) (class ks (at t p) .subjoined)
       (mark ks (at t p) && class ks (at t (p + 1)) .sign) (class ks (at t p) .virama) (mark ks (at t p) && class ks (at t (p + 1)) .virama))

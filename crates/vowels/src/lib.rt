@@ -3,10 +3,10 @@ use ends::Forms;
 use ends::Which;
 use rom::Rom;
 use vowelrows::VowelOf;
+use words::Span;
 ghost use mathlib.Core.Path.{_≡_};
 ghost use mathlib.Core.Bool.{not, _&&_};
-ghost use mathlib.Core.List.{List};
-ghost use Prim.Native.Nat.{ℕ, _+_, _/_, _%_, _<_, _≤_};
+ghost use Prim.Native.Nat.{_+_, _/_, _%_, _<_, _≤_};
 ghost use lib.Dec.{eqb};
 ghost use lib.ListN.{length, getD, take};
 ghost use lib.Seq.{slice};
@@ -14,7 +14,6 @@ ghost use Rattle.base.specs.Lists.{any};
 ghost use Rattle.base.specs.Bits.{flagged};
 ghost use Rattle.definition.specs.Limits.{most-bytes, most-target, most-vowel};
 ghost use Rattle.definition.specs.Texts.{Text, khmer-yo, vowels};
-ghost use Rattle.definition.specs.ClassRows.{classes-of};
 ghost use Rattle.definition.specs.VowelRows.{vowels-of};
 ghost use Rattle.definition.specs.Vowels.{bases, consonant-only, before-yo, bare, keeps-end, vowel-by, vowel-step};
 ghost use Rattle.definition.specs.Building.{grown};
@@ -22,9 +21,8 @@ ghost use Rattle.vowelrows.specs.Told.{FineVowels};
 ghost use Rattle.rom.specs.Rom.{text, Clean};
 ghost use Rattle.ends.specs.Shown.{Within, shown, chosen};
 ghost use Rattle.ends.specs.Grew.{grew};
-ghost use Rattle.words.specs.Did.{Did};
-ghost use Rattle.words.specs.Given.{text-in, view-of, Lined};
-ghost use Rattle.rules.specs.Lent.{Read, Lent, lexicon-of};
+ghost use Rattle.words.specs.Given.{World, kinds, size-in, kind-in, Prepared, Told, Lined};
+ghost use Rattle.rules.specs.Lent.{Answers, lexicon-of};
 ghost use Rattle.vowels.specs.Ways.{keeping, silent, inside, settled};
 
 // U+1799, the Khmer yo.
@@ -100,77 +98,62 @@ fn is_silent(kind: u32, next: u32) -> bool
 
 // Does the Khmer yo follow a base that stays bare before it?
 fn is_before_yo(line: &[u32], bytes: &[u8], from: usize, to: usize, e: usize) -> bool
-    requires { ⌜ (from ≤ to) × (to ≤ length (now bytes)) × (e < 65536) ⌝ }
+    requires { ⌜ (from ≤ to) × (to ≤ length (now bytes)) × (e ≤ size-in (now line)) ⌝ }
     ensures { λ r. ⌜ r ≡ (before-yo (slice from to (now (bytes .entry))) && eqb (getD (now (line .entry)) (e + 1) 0) khmer-yo) ⌝ }
 {
     ends::stays_before_yo(bytes, from, to) && words::number_at(line, e + 1) == KHMER_YO
 }
 
 // Is no vowel spoken before what follows at `e`?
-fn is_bare(line: &[u32], kinds: &[u32], bytes: &[u8], from: usize, to: usize, e: usize) -> bool
-    requires { ⌜ (from ≤ to) × (to ≤ length (now bytes)) × (e < 65536) ⌝ }
-    ensures { λ r. ⌜ ((classes : List ℕ) (n : ℕ) → Lined classes (now (line .entry)) (now (kinds .entry)) n → e ≤ n
-        → r ≡ bare (classes-of classes) (text-in (now (line .entry)) n) (slice from to (now (bytes .entry))) e) ⌝ }
+fn is_bare(line: &[u32], bytes: &[u8], from: usize, to: usize, e: usize) -> bool
+    requires { ⌜ (from ≤ to) × (to ≤ length (now bytes)) × (0 < e) × (e ≤ size-in (now line)) ⌝ }
+    ensures { λ r. ⌜ ((w : World) → Lined w (now (line .entry)) → r ≡ bare (kinds w) (w .text) (slice from to (now (bytes .entry))) e) ⌝ }
 {
     if is_before_yo(line, bytes, from, to, e) {
         return true;
     }
-    is_silent(
-        words::number_at(kinds, e + 1),
-        words::number_at(kinds, e + 2),
-    )
+    is_silent(words::kind_at(line, e + 1), words::kind_at(line, e + 2))
 }
 
 // The script of the character at a place of the line.
-fn script_at(kinds: &[u32], i: usize) -> u32
-    ensures { λ r. ⌜ r ≡ getD (now (kinds .entry)) i 0 / 8 % 128 ⌝ }
+fn script_at(line: &[u32], i: usize) -> u32
+    requires { ⌜ i ≤ length (now line) / 2 ⌝ }
+    ensures { λ r. ⌜ r ≡ kind-in (now (line .entry)) i / 8 % 128 ⌝ }
 {
-    classes::script(words::number_at(kinds, i))
+    classes::script(words::kind_at(line, i))
 }
 
 // The form inside a word.
-fn form_inside(kinds: &[u32], s: usize, e: usize) -> Which
-    requires { ⌜ (s < 65536) × (e < 65536) ⌝ }
-    ensures { λ r. ⌜ ((classes line : List ℕ) (n : ℕ) → Lined classes line (now (kinds .entry)) n → s ≤ n → e ≤ n
-        → r ≡ inside (classes-of classes) (text-in line n) s e) ⌝ }
+fn form_inside(line: &[u32], span: Span) -> Which
+    requires { ⌜ (span .from < span .to) × (span .to ≤ size-in (now line)) ⌝ }
+    ensures { λ r. ⌜ ((w : World) → Lined w (now (line .entry)) → r ≡ inside (kinds w) (w .text) (span .from) (span .to)) ⌝ }
 {
-    let next = e + 1;
-    let script = script_at(kinds, s + 1);
-    if script_at(kinds, s) != script {
+    let script = script_at(line, span.from + 1);
+    if script_at(line, span.from) != script {
         return Which::Plus;
     }
-    if classes::class_flag(words::number_at(kinds, e), classes::VOCALIC) {
+    if classes::class_flag(words::kind_at(line, span.to), classes::VOCALIC) {
         return Which::Base;
     }
-    if script_at(kinds, next) == script {
+    if script_at(line, span.to + 1) == script {
         return Which::Plus;
     }
     Which::Rom
 }
 
 // The form once the start of word has not decided it. Its end is the dear question, and asked only here.
-fn form_settled(
-    rules: &[u8],
-    index: &[u32],
-    classes: &[u8],
-    alphas: &[u8],
-    code: &[u8],
-    line: &[u32],
-    kinds: &[u32],
-    n: usize,
-    s: usize,
-    e: usize,
-) -> Which
-    requires { ⌜ Read (now rules) (now index) (now classes) (now alphas) (now line) (now kinds) n × (s < e) × (e ≤ n) ⌝ }
-    ensures { λ r. ⌜ r ≡ settled (lexicon-of (now (rules .entry)) (now (classes .entry)) (now (code .entry))) (text-in (now (line .entry)) n) s e ⌝ }
+fn form_settled(rules: &[u8], ready: &[u32], code: &[u8], line: &[u32], span: Span) -> Which
+    requires { ⌜ Prepared (now rules) (now ready) × (span .from < span .to) × (span .to ≤ size-in (now line)) ⌝ }
+    ensures { λ r. ⌜ ((w : World) → Told w (now (ready .entry)) → Lined w (now (line .entry))
+        → r ≡ settled (lexicon-of (now (rules .entry)) w (now (code .entry))) (w .text) (span .from) (span .to)) ⌝ }
 {
-    if words::is_at_end_of_word(rules, index, alphas, line, kinds, n, e) {
-        if keeps_end(code, script_at(kinds, s + 1)) {
+    if words::is_at_end_of_word(rules, ready, line, span.to) {
+        if keeps_end(code, script_at(line, span.from + 1)) {
             return Which::Rom;
         }
         return Which::Plus;
     }
-    form_inside(kinds, s, e)
+    form_inside(line, span)
 }
 
 // A base of consonants only takes a vowel, unless it is a tail.
@@ -198,50 +181,31 @@ fn starts_bare(start: bool, bytes: &[u8], n: usize) -> bool
 // Which of the three forms, test by test in the file's order.
 fn form(
     rules: &[u8],
-    index: &[u32],
-    classes: &[u8],
-    alphas: &[u8],
+    ready: &[u32],
     code: &[u8],
     line: &[u32],
-    kinds: &[u32],
-    n: usize,
-    slots: &[u8],
-    room: &[u8],
-    count: usize,
-    starts: &mut [u8],
+    places: &mut [u32],
     bytes: &[u8],
     f: Forms,
     tail: bool,
-    s: usize,
-    e: usize,
+    span: Span,
 ) -> Which
-    requires { ⌜ Lent (now rules) (now index) (now classes) (now alphas) (now line) (now kinds) (now slots) (now room) n count
-        × Within (length (now bytes)) f × (s < e) × (e ≤ n) ⌝ }
-    ensures { λ r. ⌜ ((vowel : Text) → Did (vowel-by (lexicon-of (now (rules .entry)) (now (classes .entry)) (now (code .entry))) (text-in (now (line .entry)) n)
-        (view-of (now (classes .entry)) (now (slots .entry)) (now (room .entry)) count) tail (shown (now (bytes .entry)) vowel f) s e (now (starts .entry)))
-        (chosen r (shown (now (bytes .entry)) vowel f)) (now (starts .exit))) ⌝ }
+    requires { ⌜ Prepared (now rules) (now ready) × Within (length (now bytes)) f × (span .from < span .to) × (span .to ≤ size-in (now line)) ⌝ }
+    ensures { λ r. ⌜ ((vowel : Text) → Answers (now (rules .entry)) (now (ready .entry)) (now (code .entry)) (now (line .entry)) (now (places .entry)) (now (places .exit))
+        (λ L t v. vowel-by L t v tail (shown (now (bytes .entry)) vowel f) (span .from) (span .to)) (chosen r (shown (now (bytes .entry)) vowel f))) ⌝ }
 {
     if takes_vowel(bytes, f.from, f.to, tail) {
-        if is_bare(line, kinds, bytes, f.from, f.to, e) {
+        if is_bare(line, bytes, f.from, f.to, span.to) {
             return Which::Base;
         }
-        if classes::class_flag(words::number_at(kinds, s), classes::VIRAMA) {
+        if classes::class_flag(words::kind_at(line, span.from), classes::VIRAMA) {
             return Which::Plus;
         }
-        let start = words::is_at_start_of_word(
-            classes,
-            alphas,
-            kinds,
-            slots,
-            room,
-            count,
-            starts,
-            s,
-        );
+        let start = words::is_at_start_of_word(line, places, span.from);
         if starts_bare(start, bytes, f.rom) {
             return Which::Plus;
         }
-        return form_settled(rules, index, classes, alphas, code, line, kinds, n, s, e);
+        return form_settled(rules, ready, code, line, span);
     }
     Which::Rom
 }
@@ -260,53 +224,26 @@ fn is_grown(w: Which, f: Forms, letters: &[u8]) -> bool
 // The step with a script's vowel: the form is chosen by positions, then made.
 fn vowel_by(
     rules: &[u8],
-    index: &[u32],
-    classes: &[u8],
-    alphas: &[u8],
+    ready: &[u32],
     code: &[u8],
     line: &[u32],
-    kinds: &[u32],
-    n: usize,
-    slots: &[u8],
-    room: &[u8],
-    count: usize,
-    starts: &mut [u8],
+    places: &mut [u32],
     letters: &[u8],
     ao: bool,
     r: Rom,
     tail: bool,
-    s: usize,
-    e: usize,
+    span: Span,
 ) -> Voiced
-    requires { ⌜ Lent (now rules) (now index) (now classes) (now alphas) (now line) (now kinds) (now slots) (now room) n count
-        × Clean r × (0 < length (now letters)) × (r .len + length (now letters) ≤ most-bytes) × (s < e) × (e ≤ n) ⌝ }
-    ensures { λ v. ⌜ Did (vowel-by (lexicon-of (now (rules .entry)) (now (classes .entry)) (now (code .entry))) (text-in (now (line .entry)) n)
-        (view-of (now (classes .entry)) (now (slots .entry)) (now (room .entry)) count) tail
-        (bases ao (now (letters .entry)) (text r) (eqb (s + 1) e)) s e (now (starts .entry))) (text (v .rom)) (now (starts .exit))
+    requires { ⌜ Prepared (now rules) (now ready) × Clean r × (0 < length (now letters)) × (r .len + length (now letters) ≤ most-bytes)
+        × (span .from < span .to) × (span .to ≤ size-in (now line)) ⌝ }
+    ensures { λ v. ⌜ Answers (now (rules .entry)) (now (ready .entry)) (now (code .entry)) (now (line .entry)) (now (places .entry)) (now (places .exit))
+        (λ L t e. vowel-by L t e tail (bases ao (now (letters .entry)) (text r) (eqb (span .from + 1) (span .to))) (span .from) (span .to)) (text (v .rom))
         × Clean (v .rom) × (v .rom .len ≤ r .len + length (now (letters .entry))) × (v .grown ≡ grown (text r) (text (v .rom))) ⌝ }
 {
     let len = r.len;
     let b = r.bytes;
-    let f = ends::bases(&b[..len], ao, s + 1 == e);
-    let w = form(
-        rules,
-        index,
-        classes,
-        alphas,
-        code,
-        line,
-        kinds,
-        n,
-        slots,
-        room,
-        count,
-        starts,
-        &b[..len],
-        f,
-        tail,
-        s,
-        e,
-    );
+    let f = ends::bases(&b[..len], ao, span.from + 1 == span.to);
+    let w = form(rules, ready, code, line, places, &b[..len], f, tail, span);
     Voiced {
         rom: ends::shaped(r, f, w, letters),
         grown: is_grown(w, f, letters),
@@ -316,31 +253,22 @@ fn vowel_by(
 // By the vowel row of the script of the span's first character; without one nothing changes.
 pub fn add_default_abugida_vowel(
     rules: &[u8],
-    index: &[u32],
-    classes: &[u8],
-    alphas: &[u8],
+    ready: &[u32],
     vowels: &[u8],
     code: &[u8],
     line: &[u32],
-    kinds: &[u32],
-    n: usize,
-    slots: &[u8],
-    room: &[u8],
-    count: usize,
-    starts: &mut [u8],
+    places: &mut [u32],
     r: Rom,
     tail: bool,
-    s: usize,
-    e: usize,
+    span: Span,
 ) -> Voiced
-    requires { ⌜ Lent (now rules) (now index) (now classes) (now alphas) (now line) (now kinds) (now slots) (now room) n count
-        × FineVowels (now vowels) × Clean r × (r .len ≤ most-target) × (s < e) × (e ≤ n) ⌝ }
-    ensures { λ v. ⌜ Did (vowel-step (lexicon-of (now (rules .entry)) (now (classes .entry)) (now (code .entry))) (text-in (now (line .entry)) n)
-        (view-of (now (classes .entry)) (now (slots .entry)) (now (room .entry)) count) (vowels-of (now (vowels .entry))) tail (text r) s e (now (starts .entry)))
-        (text (v .rom)) (now (starts .exit))
+    requires { ⌜ Prepared (now rules) (now ready) × FineVowels (now vowels) × Clean r × (r .len ≤ most-target)
+        × (span .from < span .to) × (span .to ≤ size-in (now line)) ⌝ }
+    ensures { λ v. ⌜ Answers (now (rules .entry)) (now (ready .entry)) (now (code .entry)) (now (line .entry)) (now (places .entry)) (now (places .exit))
+        (λ L t e. vowel-step L t e (vowels-of (now (vowels .entry))) tail (text r) (span .from) (span .to)) (text (v .rom))
         × Clean (v .rom) × (v .rom .len ≤ r .len + most-vowel) × (v .grown ≡ grown (text r) (text (v .rom))) ⌝ }
 {
-    let VowelOf::Row(row) = vowelrows::vowel_row(vowels, script_at(kinds, s + 1)) else {
+    let VowelOf::Row(row) = vowelrows::vowel_row(vowels, script_at(line, span.from + 1)) else {
         return Voiced {
             rom: r,
             grown: false,
@@ -348,22 +276,14 @@ pub fn add_default_abugida_vowel(
     };
     vowel_by(
         rules,
-        index,
-        classes,
-        alphas,
+        ready,
         code,
         line,
-        kinds,
-        n,
-        slots,
-        room,
-        count,
-        starts,
+        places,
         vowelrows::vowel_letters(vowels, row),
         row.ao,
         r,
         tail,
-        s,
-        e,
+        span,
     )
 }

@@ -7,15 +7,17 @@ use native.Mathlib.Omega.{arith}
 use lib.Dec.{eqb, leb}
 use lib.ListN.{getD, set}
 use borrow.Author.Tests.{le-leb, lt-leb}
-use Rattle.base.specs.Pick.{pick}
+use Rattle.base.specs.Pick.{pick, pick-all}
 use Rattle.base.specs.Bools.{eqb-alike}
 use Rattle.definition.specs.Texts.{Text, prev}
 use Rattle.definition.specs.Tables.{Class}
 use Rattle.definition.specs.Classes.{alpha}
-use Rattle.definition.specs.Edges.{View, Mem, ret, remember}
+use Rattle.definition.specs.Edges.{View, Mem, M, ret, remember}
 use Rattle.definition.specs.Boundaries.{fresh, recall, word-start}
-use Rattle.words.specs.Did.{Did}
-use Rattle.words.specs.Given.{alpha-kind}
+use Rattle.places.specs.Entry.{start-in}
+use Rattle.places.specs.Shows.{memory, told, remembered, remembered-told, remembered-memory, recalled}
+use Rattle.words.specs.Did.{Did, Asked, asked-none}
+use Rattle.words.specs.Given.{World, kinds, seen, size, alpha-kind}
 
 -- by a category
 module _ (k c : ℕ) (e : c ≡ k % 8) where
@@ -60,3 +62,22 @@ module _ (ks : List Class) (t : Text) (v : View) (p : ℕ) where
         value = eqb-alike (suc k) 1 k 0 (λ z. omega arith) (λ z. omega arith) ∙ sym (ap (λ (o : Bool × Mem). o .0) q);
         memory = sym (ap (λ (o : Bool × Mem). o .1) q);
       }
+
+-- the same by places
+module _ (w : World) (p : ℕ) (h : p < size w) (places : List ℕ) (k : ℕ) (e : k ≡ start-in (getD places p 0)) where
+  abbrev start : M Bool
+  start = word-start (kinds w) (w .text) (seen w) p
+
+  small : (r : Bool) → pick r 1 2 < 4
+  small r = pick-all (λ (v : ℕ). v < 4) r (omega arith) (omega arith)
+
+  pub start-asked : k ≡ 0 → (r : Bool) → r ≡ fresh (kinds w) (w .text) (seen w) p → (after : List ℕ) → after ≡ remembered places p (pick r 1 2)
+      → Asked w start places after r
+  start-asked z r f after g = record {
+    did = asked (kinds w) (w .text) (seen w) p (memory (size w) places) (memory (size w) after) r
+        (recalled places (size w) p h ∙ sym e ∙ z) f (ap (memory (size w)) g ∙ remembered-memory places p (pick r 1 2) (small r) (size w) h);
+    kept = ap told g ∙ remembered-told places p (pick r 1 2) (small r);
+  }
+
+  pub start-known : (k ≡ 0 → ⊥) → Asked w start places places (eqb k 1)
+  start-known z = asked-none (known (kinds w) (w .text) (seen w) p (memory (size w) places) k (e ∙ sym (recalled places (size w) p h)) z)

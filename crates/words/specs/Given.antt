@@ -1,49 +1,95 @@
--- What the engine is lent of a text: its characters between spaces, and the class of each in one number.
+-- What the engine is lent, in two slices: the line is the text's characters between spaces, one before and two behind,
+-- and then the class of each of these in one number; what was made ready of the tables is of each ASCII character whether
+-- it is a letter, and then the index of the rule table. What they stand for is a world: a class table, a text, and the
+-- edges so far, which places show.
 use mathlib.Core.Bool.{Bool, _&&_}
 use mathlib.Core.Path.{_≡_, refl, sym, ap, _∙_, subst}
 use mathlib.Core.List.{List, [], _∷_, _++_, append-assoc}
-use Prim.Native.Nat.{ℕ, zero, suc, _+_, _-_, _%_, _≤_, _<_}
+use Prim.Native.Nat.{ℕ, zero, suc, _+_, _-_, _/_, _%_, _≤_, _<_}
 use native.Mathlib.Omega.{arith}
 use native.Mathlib.Numerals.{add-one}
 use lib.Dec.{leb}
-use lib.ListN.{length, getD, take, drop, replicate, length-append, length-replicate}
-use lib.Seq.{take-all, take-take, drop-drop, take-append-seam}
-use Rattle.base.specs.ListLaws.{drop-take}
+use lib.ListN.{length, getD, take, drop, replicate, length-append, length-drop, List·getD-append}
+use lib.Seq.{take-append-le, drop-append-le, getD-append-add}
 use Rattle.definition.specs.Limits.{most-characters}
 use Rattle.definition.specs.Texts.{Text, the-space, at, prev}
+use Rattle.definition.specs.Tables.{Class}
 use Rattle.definition.specs.ClassRows.{classes-of}
 use Rattle.definition.specs.Classes.{class, alpha}
-use Rattle.definition.specs.Edges.{View, view}
-use Rattle.utf8.specs.Lines.{framed, framed-prev}
-use Rattle.utf8.specs.Puts.{puts, puts-all, puts-length}
-use Rattle.classes.specs.Told.{Fine, kinds-of}
-use Rattle.classes.specs.Packing.{Says, says, says-alpha, kinds-at}
-use Rattle.edge.specs.Slots.{edges-of}
-
--- the text's `n` characters, and what is asked of the edges in the slots
-abbrev pub text-in : List ℕ → ℕ → Text
-text-in line n = take n (drop 1 line)
+use Rattle.definition.specs.Edges.{Edge, View, view}
+use Rattle.utf8.specs.Lines.{spaced}
+use Rattle.classes.specs.Told.{Fine, packed, kinds-of, alphas-of}
+use Rattle.classes.specs.Packing.{Says, says, says-alpha, kinds-at, kinds-length}
+use Rattle.dicts.specs.Index.{Ready}
+use Rattle.places.specs.Shows.{Shows, told, shows-none, shows-told}
 
 -- what stands from `s` to `e`
 abbrev pub part : Text → ℕ → ℕ → Text
 part t s e = take (e - s) (drop s t)
 
-abbrev pub view-of : List ℕ → List ℕ → List ℕ → ℕ → View
-view-of classes slots room count = view (classes-of classes) (edges-of room count slots)
-
--- what a packed class says of a letter or mark, and the character before a position
+-- what a packed class says of a letter or mark
 unfoldable pub alpha-kind : ℕ → Bool
 alpha-kind k = leb 1 (k % 8) && leb (k % 8) 3
 
-abbrev pub Before : List ℕ → List ℕ → Text → ℕ → Type 0
-Before classes kinds t p = alpha-kind (getD kinds p 0) ≡ alpha (classes-of classes) (prev t p)
+-- the line's text has so many characters; the class at a place
+abbrev pub size-in : List ℕ → ℕ
+size-in line = length line / 2 - 3
 
-pub record Lined (classes line kinds : List ℕ) (n : ℕ) : Type 0 where
-  pub fine : Fine classes
-  pub few : n ≤ most-characters
-  pub spaced : line ≡ framed (text-in line n)
-  pub told : kinds ≡ kinds-of classes line
-  pub long : length (text-in line n) ≡ n
+abbrev pub kind-in : List ℕ → ℕ → ℕ
+kind-in line i = getD line (length line / 2 + i) 0
+
+-- what was made ready: of each ASCII character whether it is a letter, and the index
+abbrev pub letters-in : List ℕ → List ℕ
+letters-in ready = take 128 ready
+
+abbrev pub index-in : List ℕ → List ℕ
+index-in ready = drop 128 ready
+
+pub record Prepared (rules ready : List ℕ) : Type 0 where
+  pub table : Ready rules (index-in ready)
+  pub long : 128 ≤ length ready
+
+-- A world: class table, text and edges
+pub record World : Type 0 where
+  pub classes : List ℕ
+  pub text : Text
+  pub edges : List Edge
+
+abbrev pub kinds : World → List Class
+kinds w = classes-of (w .classes)
+
+abbrev pub seen : World → View
+seen w = view (kinds w) (w .edges)
+
+abbrev pub size : World → ℕ
+size w = length (w .text)
+
+pub record Lined (w : World) (line : List ℕ) : Type 0 where
+  pub fine : Fine (w .classes)
+  pub few : size w ≤ most-characters
+  pub is : line ≡ spaced (w .text) ++ kinds-of (w .classes) (spaced (w .text))
+
+-- the letters are those of its class table
+abbrev pub Told : World → List ℕ → Type 0
+Told w ready = letters-in ready ≡ alphas-of (w .classes)
+
+pub record Lent (w : World) (line places : List ℕ) : Type 0 where
+  pub text : Lined w line
+  pub edges : Shows (kinds w) (w .edges) (size w) places
+
+-- a line is made of any text that is not too long, and at first there are no edges and nothing is told
+pub lined : (w : World) → Fine (w .classes) → size w ≤ most-characters → Lined w (spaced (w .text) ++ kinds-of (w .classes) (spaced (w .text)))
+lined w f h = record { fine = f; few = h; is = refl }
+
+pub lent-none : (w : World) (line : List ℕ) (k : ℕ) → Lined w line → w .edges ≡ [] → size w < k → Lent w line (replicate k 0)
+lent-none w line k g e h = record {
+  text = g;
+  edges = subst (λ (es : List Edge). Shows (kinds w) es (size w) (replicate k 0)) (sym e) (shows-none (kinds w) (size w) k h);
+}
+
+-- places that tell the same are lent as well
+pub lent-after : {w : World} {line before : List ℕ} (after : List ℕ) → Lent w line before → told after ≡ told before → Lent w line after
+lent-after after g e = record { text = g .text; edges = shows-told (g .edges) after e }
 
 -- a list read with another default within its length
 pub getD-any : (l : List ℕ) (i a b : ℕ) → i < length l → getD l i a ≡ getD l i b
@@ -51,78 +97,75 @@ getD-any [] i a b h = absurd (omega arith)
 getD-any (x ∷ l) zero a b h = refl
 getD-any (x ∷ l) (suc i) a b h = getD-any l i a b (omega arith)
 
-framed-length : (t : Text) → length (framed t) ≡ most-characters + 3
-unfolding framed
-framed-length t =
-    let spaces = replicate most-characters the-space in
-    let r = length-replicate most-characters the-space in
-    let e = length-append (puts 0 t spaces) (the-space ∷ the-space ∷ []) in
-    omega (arith, e, puts-length 0 t spaces, r)
+spaced-length : (t : Text) → length (spaced t) ≡ length t + 3
+unfolding spaced
+spaced-length t = omega (arith, length-append t (the-space ∷ the-space ∷ []))
 
--- the text of a framed one
-pub framed-text : (t : Text) → length t ≤ most-characters → text-in (framed t) (length t) ≡ t
-unfolding framed
-framed-text t h =
-    let spaces = replicate most-characters the-space in
-    ap (λ (l : List ℕ). take (length t) (l ++ the-space ∷ the-space ∷ []))
-    (puts-all t spaces ∙ ap (λ (l : List ℕ). l ++ drop (length t) spaces)
-    (ap (λ (n : ℕ). take n t) (length-replicate most-characters the-space) ∙ take-all most-characters t h))
-    ∙ ap (take (length t)) (append-assoc t (drop (length t) spaces) (the-space ∷ the-space ∷ []))
-    ∙ take-append-seam t (drop (length t) spaces ++ the-space ∷ the-space ∷ [])
+-- behind the text stand spaces
+behind : (t : Text) (i : ℕ) → i ≤ length t + 1 → getD (t ++ the-space ∷ the-space ∷ []) i 0 ≡ getD t i the-space
+behind [] zero h = refl
+behind [] (suc zero) h = refl
+behind [] (suc (suc i)) h = absurd (omega arith)
+behind (c ∷ t) zero h = refl
+behind (c ∷ t) (suc i) h = behind t i (omega arith)
 
-pub framed-lined : (classes : List ℕ) (t : Text) → Fine classes → length t ≤ most-characters
-    → Lined classes (framed t) (kinds-of classes (framed t)) (length t)
-framed-lined classes t f h = record {
-  fine = f;
-  few = h;
-  spaced = ap framed (sym (framed-text t h));
-  told = refl;
-  long = ap length (framed-text t h);
-}
+spaced-prev : (t : Text) (p : ℕ) → p ≤ length t + 2 → getD (spaced t) p 0 ≡ prev t p
+unfolding spaced prev at
+spaced-prev t zero h = refl
+spaced-prev t (suc p) h = behind t p (omega arith)
 
-module _ {classes line kinds : List ℕ} {n : ℕ} (g : Lined classes line kinds n) where
+module _ {w : World} {line : List ℕ} (g : Lined w line) where
   abbrev t : Text
-  t = text-in line n
+  t = w .text
 
-  pub line-length : length line ≡ most-characters + 3
-  line-length = ap length (g .spaced) ∙ framed-length t
+  abbrev n : ℕ
+  n = length t
+
+  pub line-half : length line / 2 ≡ n + 3
+  line-half =
+      omega (arith, ap length (g .is), length-append (spaced t) (kinds-of (w .classes) (spaced t)), kinds-length (w .classes) (spaced t), spaced-length t)
+
+  pub line-size : size-in line ≡ n
+  line-size = omega (arith, line-half)
 
   pub char-before : (p : ℕ) → p ≤ n + 2 → getD line p 0 ≡ prev t p
   char-before p h =
-      let l = g .long in
-      let f = g .few in
-      getD-any line p 0 the-space (omega (arith, line-length))
-      ∙ ap (λ (l : List ℕ). getD l p the-space) (g .spaced) ∙ framed-prev t (omega arith) p
+      ap (λ (l : List ℕ). getD l p 0) (g .is)
+      ∙ List·getD-append (spaced t) (kinds-of (w .classes) (spaced t)) 0 p (omega (arith, spaced-length t)) ∙ spaced-prev t p h
 
   pub char-at : (p : ℕ) → p ≤ n + 1 → getD line (p + 1) 0 ≡ at t p
   unfolding prev
   char-at p h = char-before (p + 1) (omega arith) ∙ ap (prev t) (add-one p)
 
-  pub kind-before : (p : ℕ) → p ≤ n + 2 → Says (getD kinds p 0) (class (classes-of classes) (prev t p))
+  pub kind-before : (p : ℕ) → p ≤ n + 2 → Says (kind-in line p) (class (kinds w) (prev t p))
   kind-before p h =
-      let f = g .few in
-      subst (λ c. Says (getD kinds p 0) (class (classes-of classes) c)) (char-before p h)
-      (subst (λ k. Says k (class (classes-of classes) (getD line p 0)))
-      (sym (ap (λ (l : List ℕ). getD l p 0) (g .told) ∙ kinds-at classes line p (omega (arith, line-length))))
-      (says classes (g .fine) (getD line p 0)))
+      let k = kinds-of (w .classes) (spaced t) in
+      let e : length line / 2 + p ≡ length (spaced t) + p = omega (arith, line-half, spaced-length t) in
+      subst (λ m. Says m (class (kinds w) (prev t p)))
+      (sym (ap (λ i. getD line i 0) e ∙ ap (λ (l : List ℕ). getD l (length (spaced t) + p) 0) (g .is)
+      ∙ getD-append-add (spaced t) k p 0 ∙ kinds-at (w .classes) (spaced t) p (omega (arith, spaced-length t))
+      ∙ ap (λ c. packed (class (kinds w) c)) (spaced-prev t p h)))
+      (says (w .classes) (g .fine) (prev t p))
 
-  pub kind-at : (p : ℕ) → p ≤ n + 1 → Says (getD kinds (p + 1) 0) (class (classes-of classes) (at t p))
+  pub kind-at : (p : ℕ) → p ≤ n + 1 → Says (kind-in line (p + 1)) (class (kinds w) (at t p))
   unfolding prev
-  kind-at p h = subst (λ c. Says (getD kinds (p + 1) 0) (class (classes-of classes) c)) (ap (prev t) (add-one p)) (kind-before (p + 1) (omega arith))
+  kind-at p h = subst (λ c. Says (kind-in line (p + 1)) (class (kinds w) c)) (ap (prev t) (add-one p)) (kind-before (p + 1) (omega arith))
 
-  pub alpha-before : (p : ℕ) → p ≤ n + 2 → Before classes kinds t p
+  pub alpha-before : (p : ℕ) → p ≤ n + 2 → alpha-kind (kind-in line p) ≡ alpha (kinds w) (prev t p)
   unfolding alpha-kind
-  alpha-before p h = says-alpha (getD kinds p 0) (prev t p) (classes-of classes) (kind-before p h)
+  alpha-before p h = says-alpha (kind-in line p) (prev t p) (kinds w) (kind-before p h)
 
-  pub alpha-at : (p : ℕ) → p ≤ n + 1 → alpha-kind (getD kinds (p + 1) 0) ≡ alpha (classes-of classes) (at t p)
+  pub alpha-at : (p : ℕ) → p ≤ n + 1 → alpha-kind (kind-in line (p + 1)) ≡ alpha (kinds w) (at t p)
   unfolding alpha-kind
-  alpha-at p h = says-alpha (getD kinds (p + 1) 0) (at t p) (classes-of classes) (kind-at p h)
+  alpha-at p h = says-alpha (kind-in line (p + 1)) (at t p) (kinds w) (kind-at p h)
 
   -- a part of the text in the line
-  pub part-at : (s e a z : ℕ) → s ≤ e → e ≤ n → a ≡ 1 + s → z ≡ e - s → take z (drop a line) ≡ part t s e
+  pub part-at : (s e a z : ℕ) → s ≤ e → e ≤ n → a ≡ s + 1 → z ≡ e - s → take z (drop a line) ≡ part t s e
+  unfolding spaced
   part-at s e a z h k p q =
-      ap (λ m. take m (drop a line)) q ∙ ap (λ m. take (e - s) (drop m line)) p
-      ∙ ap (take (e - s)) (sym (drop-drop s 1 line))
-      ∙ sym (take-take (e - s) (n - s) (drop s (drop 1 line)) (omega arith))
-      ∙ ap (take (e - s)) (sym (drop-take s (n - s) (drop 1 line))
-      ∙ ap (λ m. drop s (take m (drop 1 line))) {x = s + (n - s)} {y = n} (omega arith))
+      let rest = kinds-of (w .classes) (spaced t) in
+      ap (λ m. take m (drop a line)) q ∙ ap (λ m. take (e - s) (drop m line)) (p ∙ add-one s)
+      ∙ ap (λ (l : List ℕ). take (e - s) (drop (suc s) l)) (g .is)
+      ∙ ap (λ (l : List ℕ). take (e - s) (drop s l)) (append-assoc t (the-space ∷ the-space ∷ []) rest)
+      ∙ ap (take (e - s)) (drop-append-le s t (the-space ∷ the-space ∷ rest) (omega arith))
+      ∙ take-append-le (e - s) (drop s t) (the-space ∷ the-space ∷ rest) (omega (arith, length-drop s t))

@@ -1,6 +1,7 @@
-pub mod Did
 pub mod Given
-pub mod Spans
-pub mod Found
-pub mod Goes
+pub mod Did
 pub mod Characters
+pub mod Found
+pub mod Spans
+pub mod Looks
+pub mod Goes

@@ -32,7 +32,7 @@ module _ (t : Text) (s : ℕ) (h : s < length t) where
 eqb-sym : (a b : ℕ) → eqb a b ≡ eqb b a
 eqb-sym a b = eqb-alike a b b a sym sym
 
-begins-is : (t w : Text) (s k : ℕ) → s + k ≤ length t → begins t w s k ≡ starts (take k (drop s t)) w
+pub begins-is : (t w : Text) (s k : ℕ) → s + k ≤ length t → begins t w s k ≡ starts (take k (drop s t)) w
 unfolding begins starts
 begins-is t w s zero h = refl
 begins-is t [] s (suc k) h = sym (ap (λ l. starts (take (suc k) l) []) (cut t s (omega arith)))

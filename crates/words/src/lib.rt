@@ -1,25 +1,38 @@
 // Start and end of word (word_boundaries.rs). What is asked of the text is asked of its characters' classes, which stand
-// in `kinds` as the characters stand in the line: the one at position `p` at `p + 1`, the one before it at `p`.
+// in the line behind the characters; what is asked of the edges is asked of places. Of position `p` the line has the
+// character at `p + 1`, the one before it at `p`.
 ghost use mathlib.Core.Path.{_≡_};
 ghost use mathlib.Core.List.{List};
-ghost use Prim.Native.Nat.{ℕ, _+_, _<_, _≤_};
-ghost use lib.ListN.{length, drop, getD, set};
-ghost use Rattle.base.specs.Pick.{pick};
+ghost use Prim.Native.Nat.{ℕ, _+_, _/_, _<_, _≤_};
+ghost use lib.ListN.{length, drop, getD};
 ghost use Rattle.base.specs.Lists.{any};
-ghost use Rattle.definition.specs.Texts.{Text};
 ghost use Rattle.definition.specs.RuleRows.{rule-of, rules-of};
 ghost use Rattle.definition.specs.ClassRows.{classes-of};
 ghost use Rattle.definition.specs.Boundaries.{fresh, word-start, word-end};
-ghost use Rattle.dicts.specs.Index.{Ready};
-ghost use Rattle.dicts.specs.Doors.{with-source};
-ghost use Rattle.classes.specs.Told.{Alphas, alphas-of};
-ghost use Rattle.edge.specs.Asked.{Readable};
-ghost use Rattle.words.specs.Did.{Did};
-ghost use Rattle.words.specs.Given.{text-in, view-of, Lined, alpha-kind, Before};
-ghost use Rattle.words.specs.Found.{Row};
+ghost use Rattle.classes.specs.Told.{alphas-of};
+ghost use Rattle.words.specs.Did.{Asked};
+ghost use Rattle.words.specs.Given.{World, kinds, seen, size-in, kind-in, index-in, letters-in, Prepared, Told, Lined, Lent, alpha-kind};
+ghost use Rattle.words.specs.Found.{Row, Rows, rules-in};
+ghost use Rattle.words.specs.Looks.{Looked};
 ghost use Rattle.words.specs.Goes.{brings, letter-byte};
 
-// The number at a place of the line, or of its classes; past the end there is 0.
+// A stretch of the text, by the positions of its ends.
+pub struct Span {
+    pub from: usize,
+    pub to: usize,
+}
+
+// A stretch of the text with what the rule table has of it: the rows of its rules, and whether a longer source starts
+// with it.
+pub struct Look {
+    pub from: usize,
+    pub to: usize,
+    pub first: usize,
+    pub count: usize,
+    pub more: bool,
+}
+
+// The number at a place; past the end there is 0.
 pub fn number_at(numbers: &[u32], i: usize) -> u32
     ensures { λ r. ⌜ r ≡ getD (now (numbers .entry)) i 0 ⌝ }
 {
@@ -27,6 +40,25 @@ pub fn number_at(numbers: &[u32], i: usize) -> u32
         return numbers[i];
     }
     0
+}
+
+// How many characters the text has: the line has three spaces more, and of each its class.
+pub fn text_len(line: &[u32]) -> usize
+    ensures { λ r. ⌜ r ≡ size-in (now (line .entry)) ⌝ }
+{
+    let half = line.len() / 2;
+    if half < 3 {
+        return 0;
+    }
+    half - 3
+}
+
+// The class at a place.
+pub fn kind_at(line: &[u32], i: usize) -> u32
+    requires { ⌜ i ≤ length (now line) / 2 ⌝ }
+    ensures { λ r. ⌜ r ≡ kind-in (now (line .entry)) i ⌝ }
+{
+    number_at(line, line.len() / 2 + i)
 }
 
 // Is a class that of a letter or mark?
@@ -38,80 +70,49 @@ pub fn is_alpha_kind(kind: u32) -> bool
 }
 
 // Is the one at a place?
-pub fn is_alpha_at(kinds: &[u32], i: usize) -> bool
-    ensures { λ r. ⌜ r ≡ alpha-kind (getD (now (kinds .entry)) i 0) ⌝ }
+pub fn is_alpha_at(line: &[u32], i: usize) -> bool
+    requires { ⌜ i ≤ length (now line) / 2 ⌝ }
+    ensures { λ r. ⌜ r ≡ alpha-kind (kind-in (now (line .entry)) i) ⌝ }
 {
-    is_alpha_kind(number_at(kinds, i))
+    is_alpha_kind(kind_at(line, i))
 }
 
 // No letter or mark before, and no edge ending here whose text ends in one.
-fn is_fresh(
-    classes: &[u8],
-    alphas: &[u8],
-    kinds: &[u32],
-    slots: &[u8],
-    room: &[u8],
-    count: usize,
-    p: usize,
-) -> bool
-    requires { ⌜ Readable (now slots) (now room) count × Alphas (now classes) (now alphas) ⌝ }
-    ensures { λ r. ⌜ ((t : Text) → Before (now (classes .entry)) (now (kinds .entry)) t p
-        → r ≡ fresh (classes-of (now (classes .entry))) t (view-of (now (classes .entry)) (now (slots .entry)) (now (room .entry)) count) p) ⌝ }
+fn is_fresh(line: &[u32], places: &[u32], p: usize) -> bool
+    requires { ⌜ p < size-in (now line) ⌝ }
+    ensures { λ r. ⌜ ((w : World) → Lent w (now (line .entry)) (now (places .entry)) → r ≡ fresh (kinds w) (w .text) (seen w) p) ⌝ }
 {
-    if is_alpha_at(kinds, p) {
+    if is_alpha_at(line, p) {
         return false;
     }
-    if edge::has_letter_edge(slots, room, count, classes, alphas, p) {
+    if places::has_letter(places, p) {
         return false;
     }
     true
 }
 
-// What is remembered of a position: 1 a start of word, 2 none.
-fn remember(starts: &mut [u8], p: usize, start: bool)
-    ensures { λ _. ⌜ now (starts .exit) ≡ set (now (starts .entry)) p (pick start 1 2) ⌝ }
-{
-    if starts.len() <= p {
-        return;
-    }
-    if start {
-        starts[p] = 1;
-        return;
-    }
-    starts[p] = 2;
-}
-
 // Worked out at first asking, then remembered: a later edge doesn't change it.
-pub fn is_at_start_of_word(
-    classes: &[u8],
-    alphas: &[u8],
-    kinds: &[u32],
-    slots: &[u8],
-    room: &[u8],
-    count: usize,
-    starts: &mut [u8],
-    p: usize,
-) -> bool
-    requires { ⌜ Readable (now slots) (now room) count × Alphas (now classes) (now alphas) ⌝ }
-    ensures { λ r. ⌜ ((t : Text) → Before (now (classes .entry)) (now (kinds .entry)) t p
-        → Did (word-start (classes-of (now (classes .entry))) t (view-of (now (classes .entry)) (now (slots .entry)) (now (room .entry)) count) p (now (starts .entry))) r (now (starts .exit))) ⌝ }
+pub fn is_at_start_of_word(line: &[u32], places: &mut [u32], p: usize) -> bool
+    requires { ⌜ p < size-in (now line) ⌝ }
+    ensures { λ r. ⌜ ((w : World) → Lent w (now (line .entry)) (now (places .entry))
+        → Asked w (word-start (kinds w) (w .text) (seen w) p) (now (places .entry)) (now (places .exit)) r) ⌝ }
 {
-    let known = base::byte(starts, p);
+    let known = places::start(places, p);
     if known == 0 {
-        let start = is_fresh(classes, alphas, kinds, slots, room, count, p);
-        remember(starts, p, start);
+        let start = is_fresh(line, places, p);
+        places::remember(places, p, start);
         return start;
     }
     known == 1
 }
 
 // Does an ASCII text hold a letter or mark?
-fn has_letter(alphas: &[u8], text: &[u8]) -> bool
-    ensures { λ r. ⌜ r ≡ any (letter-byte (now (alphas .entry))) (now (text .entry)) ⌝ }
+fn has_letter(ready: &[u32], text: &[u8]) -> bool
+    ensures { λ r. ⌜ r ≡ any (letter-byte (now (ready .entry))) (now (text .entry)) ⌝ }
 {
     let mut i: usize = 0;
     while i < text.len() {
-        if base::byte(alphas, base::byte(text, i) as usize) == 1 {
+        if number_at(ready, base::byte(text, i) as usize) == 1 {
             return true;
         }
         i += 1;
@@ -119,32 +120,56 @@ fn has_letter(alphas: &[u8], text: &[u8]) -> bool
     false
 }
 
+// The index of the rule table, behind the ASCII letters.
+pub fn index_in<'a>(ready: &'a [u32]) -> &'a [u32]
+    requires { ⌜ 128 ≤ length (now ready) ⌝ }
+    ensures { λ r. ⌜ now r ≡ index-in (now (ready .entry)) ⌝ }
+{
+    &ready[128..]
+}
+
 // Does the rule in a row bring a letter, unless it asks a start of word?
-fn brings_letter(rules: &[u8], alphas: &[u8], row: usize) -> bool
+fn brings_letter(rules: &[u8], ready: &[u32], row: usize) -> bool
     requires { ⌜ Row (drop row (now rules)) ⌝ }
-    ensures { λ r. ⌜ ((classes : List ℕ) → now (alphas .entry) ≡ alphas-of classes
+    ensures { λ r. ⌜ ((classes : List ℕ) → letters-in (now (ready .entry)) ≡ alphas-of classes
         → r ≡ brings (classes-of classes) (rule-of (drop row (now (rules .entry))))) ⌝ }
 {
     if rulerow::flag(rules, row, rulerow::START_ONLY_BIT) {
         return false;
     }
     if rulerow::flag(rules, row, rulerow::TARGET_BIT) {
-        return has_letter(alphas, rulerow::target_text(rules, row));
+        return has_letter(ready, rulerow::target_text(rules, row));
     }
     false
 }
 
-// Does one of the rules with this source?
-fn source_brings_letter(rules: &[u8], index: &[u32], alphas: &[u8], source: &[u32]) -> bool
-    requires { ⌜ Ready (now rules) (now index) ⌝ }
-    ensures { λ r. ⌜ ((classes : List ℕ) → now (alphas .entry) ≡ alphas-of classes
-        → r ≡ any (brings (classes-of classes)) (with-source (now (source .entry)) (rules-of (now (rules .entry))))) ⌝ }
+// What the rule table has of a span, by one search.
+pub fn look_up(rules: &[u8], ready: &[u32], line: &[u32], span: Span) -> Look
+    requires { ⌜ Prepared (now rules) (now ready) × (span .from < span .to) × (span .to ≤ size-in (now line)) ⌝ }
+    ensures { λ r. ⌜ Looked (now (rules .entry)) (now (line .entry)) r × (r .from ≡ span .from) × (r .to ≡ span .to) ⌝ }
 {
-    let found = dicts::find_rows(rules, index, source);
-    let mut row = found.first;
-    let mut left = found.count;
+    let from = span.from;
+    let to = span.to;
+    let found = dicts::look_up(rules, index_in(ready), &line[from + 1..to + 1]);
+    Look {
+        from,
+        to,
+        first: found.first,
+        count: found.count,
+        more: found.more,
+    }
+}
+
+// Does one of the rules in some rows, one after another?
+fn rows_bring_letter(rules: &[u8], ready: &[u32], first: usize, count: usize) -> bool
+    requires { ⌜ Rows (now rules) first count ⌝ }
+    ensures { λ r. ⌜ ((classes : List ℕ) → letters-in (now (ready .entry)) ≡ alphas-of classes
+        → r ≡ any (brings (classes-of classes)) (rules-in (now (rules .entry)) first count)) ⌝ }
+{
+    let mut row = first;
+    let mut left = count;
     while 0 < left {
-        if brings_letter(rules, alphas, row) {
+        if brings_letter(rules, ready, row) {
             return true;
         }
         row += rulerow::size(rules, row);
@@ -153,30 +178,24 @@ fn source_brings_letter(rules: &[u8], index: &[u32], alphas: &[u8], source: &[u3
     false
 }
 
-// No letter or mark next, and no source from here that brings one.
-pub fn is_at_end_of_word(
-    rules: &[u8],
-    index: &[u32],
-    alphas: &[u8],
-    line: &[u32],
-    kinds: &[u32],
-    n: usize,
-    p: usize,
-) -> bool
-    requires { ⌜ Ready (now rules) (now index) × (n < length (now line)) × (p ≤ n) ⌝ }
-    ensures { λ r. ⌜ ((classes : List ℕ) → now (alphas .entry) ≡ alphas-of classes → Lined classes (now (line .entry)) (now (kinds .entry)) n
-        → r ≡ word-end (rules-of (now (rules .entry))) (classes-of classes) (text-in (now (line .entry)) n) p) ⌝ }
+// No letter or mark next, and no source from here that brings one. Ends are asked while there is a longer source.
+pub fn is_at_end_of_word(rules: &[u8], ready: &[u32], line: &[u32], p: usize) -> bool
+    requires { ⌜ Prepared (now rules) (now ready) × (0 < p) × (p ≤ size-in (now line)) ⌝ }
+    ensures { λ r. ⌜ ((w : World) → Told w (now (ready .entry)) → Lined w (now (line .entry))
+        → r ≡ word-end (rules-of (now (rules .entry))) (kinds w) (w .text) p) ⌝ }
 {
-    if is_alpha_at(kinds, p + 1) {
+    if is_alpha_at(line, p + 1) {
         return false;
     }
+    let n = text_len(line);
     let mut e = p + 1;
     while e <= n {
-        let source = &line[p + 1..e + 1];
-        if dicts::is_prefix(rules, index, source) {
-            if source_brings_letter(rules, index, alphas, source) {
-                return false;
-            }
+        let look = look_up(rules, ready, line, Span { from: p, to: e });
+        if rows_bring_letter(rules, ready, look.first, look.count) {
+            return false;
+        }
+        let more = look.more;
+        if more {
             e += 1;
         } else {
             return true;

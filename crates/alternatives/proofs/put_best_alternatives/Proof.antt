@@ -1,36 +1,98 @@
 -- `alternatives::put_best_alternatives`: those of that one edge, or none.
 use mathlib.Core.Bool.{true}
-use mathlib.Core.List.{[]}
-use mathlib.Core.Path.{refl, sym, ap, _∙_, subst}
+use mathlib.Core.List.{List, [], _∷_}
+use mathlib.Core.Path.{_≡_, refl, sym, ap, _∙_, subst}
+use Prim.Native.Nat.{ℕ, _≤_}
 use native.Mathlib.Omega.{arith}
-use lib.ListN.{drop}
+use lib.ListN.{length, drop}
 use denote.Ref.{now}
 use Rattle.base.specs.Alls.{Opt}
+use Rattle.definition.specs.Limits.{most-bytes}
 use Rattle.definition.specs.Bounds.{Sound}
 use Rattle.definition.specs.Paths.{join}
 use Rattle.definition.specs.Offers.{found-all}
-use Rattle.edge.specs.Slots.{edge-of}
-use Rattle.edge.specs.Best.{edge-at, Found, found-slot}
+use Rattle.rom.specs.Rom.{text, text-by, clean-by}
+use Rattle.edge.specs.Slots.{bytes-of, edge-by, edge-of}
+use Rattle.edge.specs.Stored.{Slot}
+use Rattle.edge.specs.Best.{edge-at, Found}
 use Rattle.listing.specs.Items.{put-items}
-use Rattle.words.specs.Given.{text-in, view-of}
+use Rattle.places.specs.Shows.{memory}
+use Rattle.words.specs.Given.{seen, size, size-in}
 use Rattle.rules.specs.Lent.{lexicon-of}
-use Rattle.alternatives.proofs.Edges.{found-one, found-nothing}
+use Rattle.alternatives.proofs.Edges.{slot-short, span-inside, spoken-at, edge-at-slot, found-nothing, slot-found, slot-wide, front-stays}
 use borrow.Author.Needs.{needs}
 use Rattle.alternatives.proofs.put_best_alternatives.Statement.{statement}
 use Rattle.alternatives.proofs.put_best_alternatives.Tie as tie
 
+-- the room, and the bytes from the slot on
+abbrev R : tie.After-numbers-at → List ℕ
+R m = now (m .before .before .before .before .before .before .before .before .before .before .before .before .args .room)
+
+abbrev S : tie.After-numbers-at → List ℕ
+S m = drop (m .before .before .best .given .0 .0) (now (m .before .before .before .before .before .before .before .before .before .before .before .before .args .slots))
+
+abbrev Used : tie.After-numbers-at → ℕ
+Used m = m .before .before .before .before .before .before .before .before .before .before .before .before .args .listed .used
+
+there : (m : tie.After-numbers-at) → Slot (R m) (Used m) (S m)
+there m =
+    let q = m .before .before .before .before .before .before .before .before .before .before .before .before in
+    let a = q .args in
+    let b = m .before .before .best .given in
+    slot-found (now (a .slots)) (now (a .room)) (a .listed .count) (a .listed .used) (b .0 .0) (q .pre .1) (subst (Found (a .listed .count)) (b .1) (q .pre .2))
+
+sound : (m : tie.After-numbers-at) → Sound (size-in (now (m .before .before .before .before .before .before .before .before .before .before .before .before .args .line))) (edge-of (R m) (S m))
+sound m =
+    let q = m .before .before .before .before .before .before .before .before .before .before .before .before in
+    let a = q .args in
+    subst (λ o. Opt (Sound (size-in (now (a .line)))) (edge-at (now (a .room)) (now (a .slots)) o)) (m .before .before .best .given .1) (q .pre .3)
+
+within : (m : tie.After-numbers-at) → Used m ≤ length (R m)
+within m = m .before .before .before .before .before .before .before .before .before .before .before .before .pre .1 .within
+
+short : (m : tie.After-numbers-at) → length (bytes-of (R m) (S m)) ≤ most-bytes
+short m = slot-short (R m) (S m) (size-in (now (m .before .before .before .before .before .before .before .before .before .before .before .before .args .line))) (Used m) (sound m) (there m) (within m)
+
 enum-known-best : tie.Need-enum-known-best
 enum-known-best c = search needs
 
+numbers-at-requires : tie.Need-numbers-at-requires
+numbers-at-requires c κs = search needs
+
+edge-text-requires : tie.Need-edge-text-requires
+edge-text-requires c κs = let m = c .before in slot-wide (R m) (S m) (Used m) (within m) (there m)
+
+bytes-of-requires : tie.Need-bytes-of-requires
+bytes-of-requires c κs =
+    let m = c .before .before in
+    omega (arith, ap length (c .edge-text .ensures), short m)
+
+sub-put-edge-alternatives : tie.Need-sub-put-edge-alternatives
+sub-put-edge-alternatives c = search needs
+
+part-put-edge-alternatives-start : tie.Need-part-put-edge-alternatives-start
+part-put-edge-alternatives-start c = search needs
+
+part-put-edge-alternatives-end : tie.Need-part-put-edge-alternatives-end
+part-put-edge-alternatives-end c = search needs
+
 put-edge-alternatives-requires : tie.Need-put-edge-alternatives-requires
 put-edge-alternatives-requires c κs =
-    let q = c .before .before .before .before .before .before .before .before .before .before .before .before .before .before .before .before in
-    let a = q .args in
-    let b = c .before .before .before .best .given in (
+    let v = c .before .before .before in
+    let m = v .before .before .before in
+    let q = m .before .before .before .before .before .before .before .before .before .before .before .before in
+    let e = m .numbers-at in
+    let n = size-in (now (q .args .line)) in
+    let f = v .before .edge-text in
+    let k : length (now (f .result)) ≤ most-bytes = omega (arith, ap length (f .ensures), short m) in
+    let t = text-by (now (f .result)) (v .bytes-of .ensures) k ∙ f .ensures in
+    let i = span-inside (R m) (S m) n (Used m) (sound m) (there m) (within m) (e .result) (e .ensures) in (
       q .pre .0,
-      found-slot (now (a .slots)) (now (a .room)) (a .count) (b .0 .0) (q .pre .0 .edges) (subst (Found (a .count)) (b .1) (q .pre .1)),
-      subst (λ o. Opt (Sound (a .n)) (edge-at (now (a .room)) (now (a .slots)) o)) (b .1) (q .pre .2),
-      q .pre .3,
+      clean-by (now (f .result)) (v .bytes-of .ensures) k,
+      spoken-at (R m) (S m) n (Used m) (sound m) (there m) (within m) (e .result) (e .ensures) (text (v .bytes-of .result)) t,
+      i .0,
+      i .1,
+      q .pre .4,
     )
 
 enum-told : tie.Need-enum-told
@@ -42,31 +104,51 @@ same-length c = search needs
 same-length-2 : tie.Need-same-length-2
 same-length-2 c = search needs
 
+same-length-3 : tie.Need-same-length-3
+same-length-3 c = search needs
+
 returns : tie.Need-returns
 returns c =
-    let a = c .before .before .before .before .before .before .before .before .before .before .before .before .before .before .before .before .before .before .before .before .before .args in
-    let b = c .before .before .before .before .before .before .before .before .best .given in
-    let p = c .before .before .before .before .put-edge-alternatives in
-    let L = lexicon-of (now (a .rules)) (now (a .classes)) (now (a .code)) in
-    let T = text-in (now (a .line)) (a .n) in
-    let W = view-of (now (a .classes)) (now (a .slots)) (now (a .room)) (a .count) in (
-      p .ensures .0 ∙ ap (λ l. put-items true l (a .at, now (a .out))) (found-one L T W (now (a .starts)) (edge-of (now (a .room)) (drop (b .0 .0) (now (a .slots))))
-          ∙ ap (λ b. found-all L T W (now (a .starts)) (join (edge-at (now (a .room)) (now (a .slots)) b) [])) (sym (b .1))),
+    let p = c .before .before .before .before .before .before .put-edge-alternatives in
+    let v = c .before .before .before .before .before .before .before .before .before .before in
+    let m = v .before .before .before in
+    let q = m .before .before .before .before .before .before .before .before .before .before .before .before in
+    let a = q .args in
+    let b = m .before .before .best .given in
+    let e = m .numbers-at in
+    let n = size-in (now (a .line)) in
+    let f = v .before .edge-text in
+    let k : length (now (f .result)) ≤ most-bytes = omega (arith, ap length (f .ensures), short m) in
+    let t = text-by (now (f .result)) (v .bytes-of .ensures) k ∙ f .ensures in
+    let is : edge-by (e .result) (text (v .bytes-of .result)) ≡ edge-of (R m) (S m) =
+    edge-at-slot (R m) (S m) n (Used m) (sound m) (there m) (within m) (e .result) (e .ensures) (text (v .bytes-of .result)) t in (
+      (λ w told lent.
+          let L = lexicon-of (now (a .rules)) w (now (a .code)) in
+          let m₀ = memory (size w) (now (a .places)) in
+          let d = p .ensures .0 w told lent in (
+            d .0 ∙ ap (λ x. put-items true (found-all L (w .text) (seen w) m₀ (x ∷ [])) (a .listed .at, now (a .out))) is
+                ∙ ap (λ o. put-items true (found-all L (w .text) (seen w) m₀ (join (edge-at (now (a .room)) (now (a .slots)) o) [])) (a .listed .at, now (a .out))) (sym (b .1)),
+            d .1,
+            d .2,
+          )),
       p .ensures .1,
-      p .ensures .2,
+      front-stays (R m) (Used m) (p .last .1 .1 .1 .1 .1 .1 .1 .0) (within m),
     )
 
 returns-2 : tie.Need-returns-2
 unfolding put-items
 returns-2 c =
-    let a = c .before .before .before .before .before .before .before .before .before .before .before .before .before .args in
-    let L = lexicon-of (now (a .rules)) (now (a .classes)) (now (a .code)) in
-    let T = text-in (now (a .line)) (a .n) in
-    let W = view-of (now (a .classes)) (now (a .slots)) (now (a .room)) (a .count) in (
-      ap (λ l. put-items true l (a .at, now (a .out))) (found-nothing L T W (now (a .starts))
-          ∙ ap (λ b. found-all L T W (now (a .starts)) (join (edge-at (now (a .room)) (now (a .slots)) b) [])) (sym (c .enum-told .given .1))),
-      λ p. refl,
+    let a = c .before .before .before .before .before .before .before .before .before .before .args in (
+      (λ w told lent.
+          let L = lexicon-of (now (a .rules)) w (now (a .code)) in
+          let m₀ = memory (size w) (now (a .places)) in (
+            ap (λ l. put-items true l (a .listed .at, now (a .out))) (found-nothing L (w .text) (seen w) m₀
+                ∙ ap (λ b. found-all L (w .text) (seen w) m₀ (join (edge-at (now (a .room)) (now (a .slots)) b) [])) (sym (c .enum-told .given .1))),
+            (λ p. refl),
+            refl,
+          )),
       omega arith,
+      refl,
     )
 
 pub put-best-alternatives-spec : {M : Type 1} → statement M
@@ -74,9 +156,16 @@ put-best-alternatives-spec =
     tie.close
     (tie.spec
     enum-known-best
+    numbers-at-requires
+    edge-text-requires
+    bytes-of-requires
+    sub-put-edge-alternatives
+    part-put-edge-alternatives-start
+    part-put-edge-alternatives-end
     put-edge-alternatives-requires
     enum-told
     same-length
     same-length-2
+    same-length-3
     returns
     returns-2)

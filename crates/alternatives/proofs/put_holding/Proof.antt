@@ -1,5 +1,6 @@
 -- `alternatives::put_holding`: what the row offers, or nothing.
 use mathlib.Core.Bool.{true}
+use mathlib.Core.List.{_∷_}
 use mathlib.Core.Path.{sym, ap, _∙_}
 use native.Mathlib.Omega.{arith}
 use lib.ListN.{drop}
@@ -8,8 +9,8 @@ use Rattle.definition.specs.RuleRows.{rule-of}
 use Rattle.definition.specs.Rules.{holds-at}
 use Rattle.edge.specs.Slots.{edge-by}
 use Rattle.listing.specs.Items.{put-items}
-use Rattle.alternatives.specs.News.{earlier}
-use Rattle.alternatives.proofs.Turns.{one-holds, none-holds}
+use Rattle.alternatives.specs.News.{offered}
+use Rattle.alternatives.proofs.Turns.{one-holds, none-holds, marked-holds, marked-not}
 use borrow.Author.Needs.{needs}
 use Rattle.alternatives.proofs.put_holding.Statement.{statement}
 use Rattle.alternatives.proofs.put_holding.Tie as tie
@@ -23,30 +24,40 @@ put-offers-requires c κs = search needs
 same-length : tie.Need-same-length
 same-length c = search needs
 
+same-length-2 : tie.Need-same-length-2
+same-length-2 c = search needs
+
 returns : tie.Need-returns
 returns c =
-    let a = c .before .before .before .before .before .before .before .before .before .before .args in
+    let p = c .before .before .before .before .put-offers in
+    let i = c .before .before .before .before .before .before .before in
+    let a = i .before .before .before .before .before .before .before .args in
     let x = edge-by (a .e) (now (a .text)) in
     let r = rule-of (drop (a .row) (now (a .rules))) in
-    let p = c .before .before .put-offers in (
-      p .ensures .0 ∙ ap (λ l. put-items true l (a .at, now (a .out)))
-          (one-holds x r (earlier x (now (a .code)) (a .start) (a .end) (now (a .rules)) (a .first) (a .before)) (holds-at (now (a .code)) (a .start) (a .end) r)
-          (sym (c .before .before .before .before .before .holds .ensures) ∙ c .before .before .before .before .if1 .taken)),
+    let hold = holds-at (now (a .code)) (a .asked .start) (a .asked .end) r in
+    let ws = offered x (now (a .code)) (a .asked) (now (a .rules)) (a .before) in
+    let h = sym (i .before .holds .ensures) ∙ i .if1 .taken in (
+      p .ensures .0 ∙ ap (λ l. put-items true l (a .at, now (a .out))) (one-holds x r (x .text ∷ ws) hold h),
       p .ensures .1,
+      marked-holds x r ws hold _ h (p .ensures .2),
     )
 
 returns-2 : tie.Need-returns-2
 unfolding put-items
 returns-2 c =
-    let a = c .before .before .before .before .before .before .args in
+    let q = c .before .before .before .before .before .before .before in
+    let a = q .args in
     let x = edge-by (a .e) (now (a .text)) in
-    let r = rule-of (drop (a .row) (now (a .rules))) in (
-      ap (λ l. put-items true l (a .at, now (a .out)))
-          (none-holds x r (earlier x (now (a .code)) (a .start) (a .end) (now (a .rules)) (a .first) (a .before)) (holds-at (now (a .code)) (a .start) (a .end) r)
-          (sym (c .before .holds .ensures) ∙ c .if1 .left)),
+    let r = rule-of (drop (a .row) (now (a .rules))) in
+    let hold = holds-at (now (a .code)) (a .asked .start) (a .asked .end) r in
+    let ws = offered x (now (a .code)) (a .asked) (now (a .rules)) (a .before) in
+    let h = sym (c .before .holds .ensures) ∙ c .if1 .left in (
+      ap (λ l. put-items true l (a .at, now (a .out))) (none-holds x r (x .text ∷ ws) hold h),
       omega arith,
+      marked-not x r ws hold (now (a .cells)) h (q .pre .4),
     )
 
 pub put-holding-spec : {M : Type 1} → statement M
 put-holding-spec =
-    tie.close (tie.spec holds-requires put-offers-requires same-length returns returns-2)
+    tie.close
+    (tie.spec holds-requires put-offers-requires same-length same-length-2 returns returns-2)

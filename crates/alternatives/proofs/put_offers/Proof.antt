@@ -1,8 +1,8 @@
 -- `alternatives::put_offers`: what was written and what is left of the offers leave what all leave.
 use mathlib.Core.Bool.{true}
-use mathlib.Core.List.{List, [], _++_, append-nil}
+use mathlib.Core.List.{List, [], _∷_, _++_, append-nil}
 use mathlib.Core.Path.{_≡_, refl, sym, ap, _∙_, subst}
-use Prim.Native.Nat.{_+_, _-_, _*_, _≤_}
+use Prim.Native.Nat.{_+_, _-_, _*_, _≤_, _<_}
 use native.Mathlib.Omega.{arith}
 use lib.ListN.{length, getD, take, drop}
 use denote.Ref.{now}
@@ -18,42 +18,47 @@ use Rattle.definition.specs.Offers.{offers, news}
 use Rattle.edge.specs.Slots.{edge-by}
 use Rattle.rom.specs.Rom.{len-by, text-by, clean-by, bytes-length, text-length}
 use Rattle.listing.specs.Items.{put-items}
-use Rattle.offers.specs.Texts.{texts, count-of, text-short}
-use Rattle.alternatives.specs.News.{earlier}
-use Rattle.alternatives.proofs.Turns.{offers-over, offers-on}
+use Rattle.marks.specs.Marked.{Marked}
+use Rattle.offers.specs.Texts.{texts, most-offers, count-of, text-short}
+use Rattle.alternatives.specs.News.{offered, earlier, offer-bytes}
+use Rattle.alternatives.proofs.Turns.{offers-over, texts-over, texts-on, offers-on}
 use borrow.Author.Needs.{needs}
 use Rattle.alternatives.proofs.put_offers.Statement.{statement}
 use Rattle.alternatives.proofs.put_offers.Tie as tie
 
 abbrev Inv-loop : tie.InvT-loop
-Inv-loop out₀ at rules code start end first before row e text o n to₀ k₀ out to k =
+Inv-loop out₀ at rules code asked before row e text cells₀ o n to₀ k₀ out cells to k =
     let x = edge-by e text in
-    let ws = earlier x code start end rules first before in
+    let ws = earlier x code asked rules before in
     let l = offers x (rule-of (drop row rules)) in
     (put-items true (news (ws ++ take k (texts l)) (drop k l)) (to, out) ≡ put-items true (news ws l) (at, out₀))
-    × (k ≤ n) × (to ≤ at + 76 * k) × (length out ≡ length out₀)
+    × (k ≤ n) × (to ≤ at + offer-bytes * k) × (length out ≡ length out₀) × (length cells ≡ length cells₀)
+    × Marked (offered x code asked rules before ++ take k (texts l)) cells
 
 abbrev μ-loop : tie.MeasureT-loop
-μ-loop out₀ at rules code start end first before row e text o n to₀ k₀ out to k = n - k
+μ-loop out₀ at rules code asked before row e text cells₀ o n to₀ k₀ out cells to k = n - k
 
 abbrev At : Type 0
 At = tie.At-loop Inv-loop μ-loop
 
 abbrev X : At → Edge
-X l = let a = l .before .before .before .before .before .before .before .args in edge-by (a .e) (now (a .text))
+X l = let a = l .before .before .before .before .before .before .before .before .args in edge-by (a .e) (now (a .text))
 
 abbrev R : At → Rule
-R l = let a = l .before .before .before .before .before .before .before .args in rule-of (drop (a .row) (now (a .rules)))
+R l = let a = l .before .before .before .before .before .before .before .before .args in rule-of (drop (a .row) (now (a .rules)))
+
+-- what was offered before
+abbrev F : At → List Text
+F l = let a = l .before .before .before .before .before .before .before .before .args in offered (X l) (now (a .code)) (a .asked) (now (a .rules)) (a .before)
 
 abbrev E : At → List Text
-E l = let a = l .before .before .before .before .before .before .before .args in earlier (X l) (now (a .code)) (a .start) (a .end) (now (a .rules)) (a .first) (a .before)
+E l = X l .text ∷ F l
 
 -- the text of this turn
 abbrev U : At → Text
 U l = getD (texts (offers (X l) (R l))) (l .loop .k) []
 
--- there are 256 offers at most
-few : (l : At) → l .before .offers-count .result ≤ 256
+few : (l : At) → l .before .offers-count .result ≤ most-offers
 unfolding count-of
 few l =
     let o = l .before .before .offers-of in
@@ -61,7 +66,7 @@ few l =
     omega (arith, o .ensures .1, l .before .offers-count .ensures, p)
 
 short : (l : At) → Short most-alternative (U l)
-short l = let q = l .before .before .before .before .before .before .before in text-short (q .pre .2) (q .pre .1 .spoken) (l .loop .k)
+short l = let q = l .before .before .before .before .before .before .before .before in text-short (q .pre .2) (q .pre .1 .spoken) (l .loop .k)
 
 offers-of-requires : tie.Need-offers-of-requires Inv-loop μ-loop
 offers-of-requires c κs = search needs
@@ -71,16 +76,23 @@ offers-count-requires c κs = c .offers-of .ensures .1
 
 loop-holds : tie.Need-loop-holds Inv-loop μ-loop
 loop-holds c =
-    let a = c .before .before .before .before .before .before .args in
+    let q = c .before .before .before .before .before .before .before in
+    let a = q .args in
     let x = edge-by (a .e) (now (a .text)) in
-    let ws = earlier x (now (a .code)) (a .start) (a .end) (now (a .rules)) (a .first) (a .before) in
-    let l = offers x (rule-of (drop (a .row) (now (a .rules)))) in
-    (ap (λ us. put-items true (news us l) (a .at, now (a .out))) (append-nil ws), omega arith, omega arith, refl)
+    let ws = offered x (now (a .code)) (a .asked) (now (a .rules)) (a .before) in
+    let l = offers x (rule-of (drop (a .row) (now (a .rules)))) in (
+      ap (λ us. put-items true (news us l) (a .at, now (a .out))) (append-nil (x .text ∷ ws)),
+      omega arith,
+      omega arith,
+      refl,
+      refl,
+      subst (λ us. Marked us (now (a .cells))) (sym (append-nil ws)) (q .pre .4),
+    )
 
 offer-text-requires : tie.Need-offer-text-requires Inv-loop μ-loop
 offer-text-requires c κs =
     let l = c .before in
-    let q = l .before .before .before .before .before .before .before in
+    let q = l .before .before .before .before .before .before .before .before in
     (q .pre .1, q .pre .2, l .before .before .offers-of .ensures .0, omega (arith, c .loop-test, l .before .offers-count .ensures))
 
 array-share-prefix-bytes : tie.Need-array-share-prefix-bytes Inv-loop μ-loop
@@ -98,58 +110,79 @@ slice-aggregate-w c =
 
 is-new-requires : tie.Need-is-new-requires Inv-loop μ-loop
 is-new-requires c κs =
-    let l = c .before .before .before .before in
-    let q = l .before .before .before .before .before .before .before in
-    let e = c .before .before .offer-text .ensures in
+    let l = c .before .before .before .before .before in
+    let q = l .before .before .before .before .before .before .before .before in
+    let e = c .before .before .before .offer-text .ensures in
     let u = text-by (U l) (e .0) (omega (arith, len-by (U l) (e .0), e .1)) in
-    (q .pre .0, q .pre .1, q .pre .2, subst (All Low) (sym u) (short l .low))
+    (q .pre .0, q .pre .1, q .pre .2, subst (All Low) (sym u) (short l .low), l .loop .inv .5)
 
 note-of-requires : tie.Need-note-of-requires Inv-loop μ-loop
 note-of-requires c κs = search needs
 
 put-new-requires : tie.Need-put-new-requires Inv-loop μ-loop
 put-new-requires c κs =
-    let l = c .before .before .before .before .before .before .before in
-    let e = c .before .before .before .before .before .offer-text .ensures in
+    let l = c .before .before .before .before .before .before .before .before in
+    let e = c .before .before .before .before .before .before .offer-text .ensures in
     let u = text-by (U l) (e .0) (omega (arith, len-by (U l) (e .0), e .1)) in
-    (omega (arith, few l, l .loop .inv .1, l .loop .inv .2, l .before .before .before .before .before .before .before .pre .3), subst (Short most-alternative) (sym u) (short l))
+    (omega (arith, few l, l .loop .inv .1, l .loop .inv .2, l .before .before .before .before .before .before .before .before .pre .3), subst (Short most-alternative) (sym u) (short l))
+
+mark-requires : tie.Need-mark-requires Inv-loop μ-loop
+mark-requires c κs = search needs
 
 add-k : tie.Need-add-k Inv-loop μ-loop
-add-k c = let l = c .before .before .before .before .before .before .before .before .before .before in omega (arith, few l, l .loop .inv .1)
+add-k c =
+    let w = c .before .before .before .before .before .before in
+    let l = w .before .before .before .before .before .before .before .before .before in
+    omega (arith, few l, l .loop .inv .1)
 
 loop-less : tie.Need-loop-less Inv-loop μ-loop
-loop-less c = omega (arith, c .before .before .before .before .before .before .before .before .before .loop-test)
+loop-less c =
+    let w = c .before .before .before .before .before .before in
+    omega (arith, w .before .before .before .before .before .before .before .before .loop-test)
 
 loop-again : tie.Need-loop-again Inv-loop μ-loop
 loop-again c =
-    let l = c .before .before .before .before .before .before .before .before .before .before in
-    let a = l .before .before .before .before .before .before .before .args in
+    let m = c .before .before .mark in
+    let w = c .before .before .before .before .before .before in
+    let p = w .put-new in
+    let z = w .before .note-of in
+    let i = w .before .before .before in
+    let n = i .is-new in
+    let f = i .before .before .before .before in
+    let e = f .offer-text in
+    let t = f .before .loop-test in
+    let l = f .before .before in
+    let a = l .before .before .before .before .before .before .before .before .args in
     let o = l .before .before .offers-of in
-    let t = c .before .before .before .before .before .before .before .before .before .loop-test in
-    let e = c .before .before .before .before .before .before .before .before .offer-text in
-    let u = text-by (U l) (e .ensures .0) (omega (arith, len-by (U l) (e .ensures .0), e .ensures .1)) in
-    let n = c .before .before .before .before .before .is-new in
-    let m = c .before .before .before .note-of in
-    let p = c .before .before .put-new in (
-      offers-on (a .e) (now (a .text)) (R l) (o .result) (o .ensures .0) (E l) (l .loop .k) (omega (arith, t, l .before .offers-count .ensures)) (n .result) (m .result) _
-          (p .result, p .last .0) (l .loop .to, l .loop .out) (m .ensures) u (n .ensures) (p .ensures .0) ∙ l .loop .inv .0,
+    let h : l .loop .k < count-of (o .result) = omega (arith, t, l .before .offers-count .ensures) in
+    let u = text-by (U l) (e .ensures .0) (omega (arith, len-by (U l) (e .ensures .0), e .ensures .1)) in (
+      offers-on (a .e) (now (a .text)) (R l) (o .result) (o .ensures .0) (E l) (l .loop .k) h (n .result) (z .result) _
+          (p .result, p .last .0) (l .loop .to, l .loop .out) (z .ensures) u (n .ensures) (p .ensures .0) ∙ l .loop .inv .0,
       omega (arith, t),
       omega (arith, l .loop .inv .2, p .ensures .1),
       search needs,
+      search needs,
+      subst (λ us. Marked us (m .last .0)) (texts-on (a .e) (now (a .text)) (R l) (o .result) (o .ensures .0) (E l) (l .loop .k) h _ u (F l))
+          (m .ensures (F l ++ take (l .loop .k) (texts (offers (X l) (R l)))) (l .loop .inv .5)),
     )
 
 same-length : tie.Need-same-length Inv-loop μ-loop
 same-length c = c .before .loop .inv .3
 
+same-length-2 : tie.Need-same-length-2 Inv-loop μ-loop
+same-length-2 c = c .before .loop .inv .4
+
 returns : tie.Need-returns Inv-loop μ-loop
 unfolding put-items
 returns c =
     let l = c .before in
-    let a = l .before .before .before .before .before .before .before .args in
-    let o = l .before .before .offers-of in (
+    let a = l .before .before .before .before .before .before .before .before .args in
+    let o = l .before .before .offers-of in
+    let h : count-of (o .result) ≤ l .loop .k = omega (arith, l .before .offers-count .ensures) in (
       sym (ap (λ es. put-items true es (l .loop .to, l .loop .out))
-          (offers-over (a .e) (now (a .text)) (R l) (o .result) (o .ensures .0) (E l) (l .loop .k) (omega (arith, l .before .offers-count .ensures)))) ∙ l .loop .inv .0,
+          (offers-over (a .e) (now (a .text)) (R l) (o .result) (o .ensures .0) (E l) (l .loop .k) h)) ∙ l .loop .inv .0,
       omega (arith, few l, l .loop .inv .1, l .loop .inv .2),
+      subst (λ us. Marked (F l ++ us) (l .loop .cells)) (texts-over (a .e) (now (a .text)) (R l) (o .result) (o .ensures .0) (E l) (l .loop .k) h) (l .loop .inv .5),
     )
 
 pub put-offers-spec : {M : Type 1} → statement M
@@ -167,8 +200,10 @@ put-offers-spec =
     is-new-requires
     note-of-requires
     put-new-requires
+    mark-requires
     add-k
     loop-less
     loop-again
     same-length
+    same-length-2
     returns)

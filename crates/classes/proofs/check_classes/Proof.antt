@@ -48,29 +48,39 @@ class-right-requires c κs = search needs
 three-requires : tie.Need-three-requires Inv-loop μ-loop
 three-requires c κs = search needs
 
-add-low : tie.Need-add-low Inv-loop μ-loop
-add-low c = search needs
+add-past : tie.Need-add-past Inv-loop μ-loop
+add-past c = search needs
 
-add-at : tie.Need-add-at Inv-loop μ-loop
-add-at c =
+add-next : tie.Need-add-next Inv-loop μ-loop
+add-next c =
     let l = c .before .before .before .before .before in
     let e : class-right (l .loop .low) (drop (l .loop .at) (T l)) ≡ true =
     sym (c .before .before .class-right .ensures) ∙ c .before .if3 .taken in
     omega (arith, class-checked (l .loop .low) (drop (l .loop .at) (T l)) e .inside, length-drop (l .loop .at) (T l))
 
-sub-left : tie.Need-sub-left Inv-loop μ-loop
-sub-left c = omega arith
+sub-plain-classes : tie.Need-sub-plain-classes Inv-loop μ-loop
+sub-plain-classes c = omega arith
+
+plain-classes-requires : tie.Need-plain-classes-requires Inv-loop μ-loop
+plain-classes-requires c κs =
+    let l = c .before .before .before .before .before in
+    let e : class-right (l .loop .low) (drop (l .loop .at) (T l)) ≡ true =
+    sym (c .before .before .class-right .ensures) ∙ c .before .if3 .taken in
+    omega (arith, class-checked (l .loop .low) (drop (l .loop .at) (T l)) e .inside, length-drop (l .loop .at) (T l))
 
 loop-less : tie.Need-loop-less Inv-loop μ-loop
-loop-less c = omega arith
+loop-less c = omega (arith, c .plain-classes .ensures .1, c .plain-classes .ensures .2)
 
 loop-again : tie.Need-loop-again Inv-loop μ-loop
 unfolding class-size class-next
 loop-again c =
-    let l = c .before .before .before .before .before in
-    next class-size class-next class-right class-moves (T l) (l .loop .at) (l .loop .left) (l .loop .low)
+    let w = c .before .before .before in
+    let l = w .before .before .before in
+    c .plain-classes .ensures .0
+    ∙ next class-size class-next class-right class-moves (T l) (l .loop .at) (l .loop .left) (l .loop .low)
     (omega arith) (omega arith)
-    (sym (c .before .if3 .taken) ∙ c .before .before .class-right .ensures) _ _ _ refl refl (omega arith) ∙ l .loop .inv
+    (sym (c .before .before .if3 .taken) ∙ w .class-right .ensures) _ _ _ refl refl (omega (arith, c .before .three .ensures .0))
+    ∙ l .loop .inv
 
 returns-2 : tie.Need-returns-2 Inv-loop μ-loop
 unfolding fault-place
@@ -103,9 +113,10 @@ check-classes-spec =
     returns
     class-right-requires
     three-requires
-    add-low
-    add-at
-    sub-left
+    add-past
+    add-next
+    sub-plain-classes
+    plain-classes-requires
     loop-less
     loop-again
     returns-2

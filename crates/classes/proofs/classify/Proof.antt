@@ -1,78 +1,83 @@
--- `classes::classify`: the first `i` are written, the rest is as it was, and `kind` is the class of `known`.
-use Prim.Native.Nat.{_-_, _≤_}
-use mathlib.Core.List.{_++_}
-use mathlib.Core.Path.{_≡_, refl, sym, _∙_}
+-- `classes::classify`: the first `i` places of the second half are written, and `kind` is the class of `known`.
+use Prim.Native.Nat.{_+_, _-_, _/_, _≤_}
+use mathlib.Core.Path.{_≡_, refl, sym, ap, _∙_}
 use native.Mathlib.Omega.{arith}
-use lib.ListN.{length-set, length, take, drop}
+use lib.ListN.{length-set, length}
 use denote.Ref.{now}
 use Rattle.definition.specs.ClassRows.{classes-of}
 use Rattle.definition.specs.Classes.{class}
 use Rattle.classes.specs.Told.{packed, kinds-of}
-use Rattle.classes.proofs.Answers.{written, all-written}
+use Rattle.classes.proofs.Halves.{Written, written-none, written-next, written-whole}
+use borrow.Author.Needs.{needs}
 use Rattle.classes.proofs.classify.Statement.{statement}
 use Rattle.classes.proofs.classify.Tie as tie
 
 abbrev Inv-loop : tie.InvT-loop
-Inv-loop classes chars kinds₀ known₀ kind₀ i₀ kinds known kind i =
-    (i ≤ length chars) × (kinds ≡ take i (kinds-of classes chars) ++ drop i kinds₀) × (length kinds ≡ length chars)
+Inv-loop classes line₀ half known₀ kind₀ i₀ line known kind i =
+    (i ≤ half) × (half + half ≡ length line₀) × (length line ≡ length line₀)
+    × Written (λ k. packed (class (classes-of classes) k)) line₀ half i line
     × (kind ≡ packed (class (classes-of classes) known))
 
 abbrev μ-loop : tie.MeasureT-loop
-μ-loop classes chars kinds₀ known₀ kind₀ i₀ kinds known kind i = length chars - i
+μ-loop classes line₀ half known₀ kind₀ i₀ line known kind i = half - i
 
 kind-of-requires : tie.Need-kind-of-requires Inv-loop μ-loop
-kind-of-requires c κs = c .before .before .before .pre .0
+kind-of-requires c κs = search needs
 
 loop-holds : tie.Need-loop-holds Inv-loop μ-loop
-loop-holds c = (omega arith, refl, c .before .before .before .before .pre .1, c .kind-of .ensures)
+loop-holds c =
+    let s = c .before .before .before in
+    let e = s .pre .1 in
+    (omega arith, omega (arith, e), refl, written-none (λ k. packed (class (classes-of (now (s .args .classes))) k)) (now (s .args .line)) (length (now (s .args .line)) / 2), c .kind-of .ensures)
 
 mul-c : tie.Need-mul-c Inv-loop μ-loop
-mul-c c = omega arith
+mul-c c = search needs
 
-shared-slice-read-c : tie.Need-shared-slice-read-c Inv-loop μ-loop
-shared-slice-read-c c = omega arith
+slice-read-c : tie.Need-slice-read-c Inv-loop μ-loop
+slice-read-c c = search needs
 
 next-kind-requires : tie.Need-next-kind-requires Inv-loop μ-loop
-next-kind-requires c κs = (c .before .before .before .before .before .before .before .pre .0, c .before .before .loop .inv .3)
+next-kind-requires c κs = search needs
 
-mul-kinds : tie.Need-mul-kinds Inv-loop μ-loop
-mul-kinds c = omega arith
+add-line : tie.Need-add-line Inv-loop μ-loop
+add-line c = search needs
 
-slice-write-kinds : tie.Need-slice-write-kinds Inv-loop μ-loop
-slice-write-kinds c = omega arith
+mul-line : tie.Need-mul-line Inv-loop μ-loop
+mul-line c = search needs
+
+slice-write-line : tie.Need-slice-write-line Inv-loop μ-loop
+slice-write-line c = search needs
 
 add-i : tie.Need-add-i Inv-loop μ-loop
-add-i c = omega arith
+add-i c = search needs
 
 loop-less : tie.Need-loop-less Inv-loop μ-loop
-loop-less c = omega arith
+loop-less c = search needs
 
 loop-again : tie.Need-loop-again Inv-loop μ-loop
-unfolding kinds-of
 loop-again c =
-    let l = c .before .before .before in
-    let a = l .before .before .before .before .before .args in
-    let w = l .loop .inv in (
+    let l = c .before .before .before .loop in
+    let a = c .before .before .before .before .before .before .before .args in
+    let w = l .inv in (
       omega arith,
-      written (λ k. packed (class (classes-of (now (a .classes))) k)) (now (a .chars)) (now (a .kinds))
-          (l .loop .kinds) (l .loop .i)
-          (c .next-kind .result) (l .before .before .before .before .before .pre .1) (omega arith) (w .1)
-          (c .next-kind .ensures),
-      length-set (l .loop .kinds) (l .loop .i) (c .next-kind .result) ∙ w .2,
+      w .1,
+      length-set (l .line) _ (c .next-kind .result) ∙ w .2,
+      written-next (λ k. packed (class (classes-of (now (a .classes))) k)) (now (a .line)) (length (now (a .line)) / 2) (w .1) (l .i) (l .line) (w .3) (omega arith)
+          (c .next-kind .result) _ (c .next-kind .ensures) refl,
       c .next-kind .ensures,
     )
 
 same-length : tie.Need-same-length Inv-loop μ-loop
-same-length c = let l = c .before in l .loop .inv .2 ∙ sym (l .before .before .before .before .before .pre .1)
+same-length c = search needs
 
 returns : tie.Need-returns Inv-loop μ-loop
 unfolding kinds-of
 returns c =
-    let l = c .before in
-    let a = l .before .before .before .before .before .args in
-    all-written (λ k. packed (class (classes-of (now (a .classes))) k)) (now (a .chars)) (now (a .kinds))
-    (l .loop .kinds) (l .loop .i)
-    (l .before .before .before .before .before .pre .1) (omega arith) (l .loop .inv .1)
+    let l = c .before .loop in
+    let a = c .before .before .before .before .before .args in
+    let w = l .inv in
+    let e = w .1 in
+    written-whole (λ k. packed (class (classes-of (now (a .classes))) k)) (now (a .line)) (length (now (a .line)) / 2) e (l .i) (l .line) (w .3) (omega arith)
 
 pub classify-spec : {M : Type 1} → statement M
 classify-spec =
@@ -83,10 +88,11 @@ classify-spec =
     kind-of-requires
     loop-holds
     mul-c
-    shared-slice-read-c
+    slice-read-c
     next-kind-requires
-    mul-kinds
-    slice-write-kinds
+    add-line
+    mul-line
+    slice-write-line
     add-i
     loop-less
     loop-again

@@ -24,11 +24,14 @@ abbrev μ-loop : tie.MeasureT-loop
 loop-holds : tie.Need-loop-holds Inv-loop μ-loop
 loop-holds c = (omega arith, refl, c .before .before .pre .1)
 
-alpha-byte-requires : tie.Need-alpha-byte-requires Inv-loop μ-loop
-alpha-byte-requires c κs = c .before .before .before .before .pre .0
+alpha-bit-requires : tie.Need-alpha-bit-requires Inv-loop μ-loop
+alpha-bit-requires c κs = c .before .before .before .before .pre .0
 
 cast-alphas : tie.Need-cast-alphas Inv-loop μ-loop
 cast-alphas c = omega arith
+
+mul-alphas : tie.Need-mul-alphas Inv-loop μ-loop
+mul-alphas c = omega arith
 
 slice-write-alphas : tie.Need-slice-write-alphas Inv-loop μ-loop
 slice-write-alphas c = omega arith
@@ -50,9 +53,9 @@ loop-again c =
     let e : getD (from 0 128) (l .loop .i) 0 ≡ l .loop .i = omega arith in (
       omega arith,
       written f (from 0 128) (now (l .before .before .before .args .alphas)) (l .loop .alphas) (l .loop .i)
-          (c .alpha-byte .result) (l .before .before .before .pre .1 ∙ sym n)
-          (omega arith) (l .loop .inv .1) (c .alpha-byte .ensures ∙ sym (ap f e)),
-      length-set (l .loop .alphas) (l .loop .i) (c .alpha-byte .result) ∙ l .loop .inv .2,
+          (c .alpha-bit .result) (l .before .before .before .pre .1 ∙ sym n)
+          (omega arith) (l .loop .inv .1) (c .alpha-bit .ensures ∙ sym (ap f e)),
+      length-set (l .loop .alphas) (l .loop .i) (c .alpha-bit .result) ∙ l .loop .inv .2,
     )
 
 same-length : tie.Need-same-length Inv-loop μ-loop
@@ -75,8 +78,9 @@ classify-ascii-spec =
     Inv-loop
     μ-loop
     loop-holds
-    alpha-byte-requires
+    alpha-bit-requires
     cast-alphas
+    mul-alphas
     slice-write-alphas
     add-i
     loop-less

@@ -1,9 +1,9 @@
 -- `dicts::check_rules`: from each row on the first fault is that of the whole table.
-use mathlib.Core.Path.{_≡_, refl, _∙_}
+use mathlib.Core.Path.{_≡_, refl, sym, _∙_}
 use mathlib.Core.List.{List, []}
 use Prim.Native.Nat.{ℕ, _-_}
 use native.Mathlib.Omega.{arith}
-use lib.ListN.{length, drop}
+use lib.ListN.{length, drop, length-drop}
 use denote.Ref.{now}
 use borrow.Author.Needs.{needs}
 use Rattle.base.specs.Pick.{pick}
@@ -12,8 +12,10 @@ use Rattle.definition.specs.Texts.{Text}
 use Rattle.definition.specs.RuleRows.{rule-size, rule-source, rule-right, rule-fault}
 use Rattle.definition.specs.Checking.{from, started, no-header, over, next, spent, wrong}
 use Rattle.definition.specs.Accepted.{rule-moves}
+use Rattle.definition.specs.Checked.{rule-checked}
 use Rattle.blocks.specs.Faults.{fault-place}
 use Rattle.dicts.specs.Marks.{mark-of}
+use Rattle.dicts.specs.Plain.{after-row}
 use Rattle.dicts.proofs.check_rules.Statement.{statement}
 use Rattle.dicts.proofs.check_rules.Tie as tie
 
@@ -48,27 +50,47 @@ returns c =
 row-right-requires : tie.Need-row-right-requires Inv-loop μ-loop
 row-right-requires c κs = search needs
 
+three-requires : tie.Need-three-requires Inv-loop μ-loop
+three-requires c κs = search needs
+
+add-low : tie.Need-add-low Inv-loop μ-loop
+add-low c = search needs
+
 size-requires : tie.Need-size-requires Inv-loop μ-loop
 size-requires c κs = search needs
 
--- a right row lies in the table
-add-at : tie.Need-add-at Inv-loop μ-loop
-add-at c = search needs
+add-next : tie.Need-add-next Inv-loop μ-loop
+add-next c = search needs
 
-sub-left : tie.Need-sub-left Inv-loop μ-loop
-sub-left c = search needs
+sub-plain-rows : tie.Need-sub-plain-rows Inv-loop μ-loop
+sub-plain-rows c = search needs
+
+-- a right row lies in the table
+plain-rows-requires : tie.Need-plain-rows-requires Inv-loop μ-loop
+unfolding mark-of pick
+plain-rows-requires c κs =
+    let w = c .before .before .before in
+    let l = w .before .before .before in
+    let s = drop (l .loop .at) (T l) in
+    let k = rule-checked (K l) s (sym (w .row-right .ensures) ∙ c .before .before .if3 .taken) in (
+      omega (arith, c .size .ensures .0, k .inside, length-drop (l .loop .at) (T l)),
+      after-row s _ (omega (arith, c .before .three .ensures .0)),
+    )
 
 loop-less : tie.Need-loop-less Inv-loop μ-loop
 loop-less c =
-    let l = c .before .before .before .before .before in
-    omega (arith, rule-moves (drop (l .loop .at) (T l)))
+    let l = c .before .before .before .before .before .before .before in
+    omega (arith, c .plain-rows .ensures .2, c .plain-rows .ensures .3, c .before .size .ensures .0, rule-moves (drop (l .loop .at) (T l)))
 
 loop-again : tie.Need-loop-again Inv-loop μ-loop
 unfolding mark-of pick
 loop-again c =
-    let l = c .before .before .before .before .before in
-    next rule-size rule-source rule-right rule-moves (T l) (l .loop .at) (l .loop .left) (K l)
-    (omega arith) (omega arith) (cc) _ _ _ (omega arith) refl refl
+    let w = c .before .before .before .before in
+    let l = w .before .before .before in
+    c .plain-rows .ensures .0
+    ∙ next rule-size rule-source rule-right rule-moves (T l) (l .loop .at) (l .loop .left) (K l)
+    (omega arith) (omega arith) (sym (c .before .before .before .if3 .taken) ∙ w .row-right .ensures) _ _ _
+    (omega (arith, c .before .size .ensures .0)) refl refl
     ∙ l .loop .inv
 
 returns-2 : tie.Need-returns-2 Inv-loop μ-loop
@@ -99,9 +121,12 @@ check-rules-spec =
     loop-holds
     returns
     row-right-requires
+    three-requires
+    add-low
     size-requires
-    add-at
-    sub-left
+    add-next
+    sub-plain-rows
+    plain-rows-requires
     loop-less
     loop-again
     returns-2

@@ -15,7 +15,7 @@ is-there-requires c κs =
     let R = now (a .room) in
     let t = now (a .text) in
     let p = c .before .before .before .before .before .pre in
-    (stored-readable S R (a .count) (a .used) (p .0), p .1 .utf8)
+    (stored-readable S R (a .filled .count) (a .filled .used) (p .0), p .1 .utf8, p .2, p .3)
 
 same-length : tie.Need-same-length
 same-length c = search needs
@@ -29,7 +29,7 @@ returns c =
     let S = now (a .slots) in
     let R = now (a .room) in
     let t = now (a .text) in
-    kept S R (a .count) (a .used) (a .e) t (sym (c .before .is-there .ensures) ∙ c .if1 .taken)
+    kept S R (a .filled .count) (a .filled .used) (a .e) t (sym (c .before .is-there .ensures) ∙ c .if1 .taken)
 
 mul-at : tie.Need-mul-at
 mul-at c = search needs
@@ -49,7 +49,7 @@ returns-2 c =
     let S = now (a .slots) in
     let R = now (a .room) in
     let t = now (a .text) in
-    unslotted S R (a .count) (a .used) (a .e) t (sym (c .before .before .is-there .ensures) ∙ c .before .if1 .left) (omega arith)
+    unslotted S R (a .filled .count) (a .filled .used) (a .e) t (sym (c .before .before .is-there .ensures) ∙ c .before .if1 .left) (omega arith)
 
 sub-if3 : tie.Need-sub-if3
 sub-if3 c = search needs
@@ -66,7 +66,7 @@ returns-3 c =
     let S = now (a .slots) in
     let R = now (a .room) in
     let t = now (a .text) in
-    roomless S R (a .count) (a .used) (a .e) t (sym (c .before .before .before .is-there .ensures) ∙ c .before .before .if1 .left) (omega arith) (omega arith)
+    roomless S R (a .filled .count) (a .filled .used) (a .e) t (sym (c .before .before .before .is-there .ensures) ∙ c .before .before .if1 .left) (omega arith) (omega arith)
 
 put-slot-requires : tie.Need-put-slot-requires
 put-slot-requires c κs = search needs
@@ -74,11 +74,11 @@ put-slot-requires c κs = search needs
 put-at-requires : tie.Need-put-at-requires
 put-at-requires c κs = search needs
 
-add-t14 : tie.Need-add-t14
-add-t14 c = search needs
-
 add-t15 : tie.Need-add-t15
 add-t15 c = search needs
+
+add-t16 : tie.Need-add-t16
+add-t16 c = search needs
 
 same-length-7 : tie.Need-same-length-7
 same-length-7 c = search needs
@@ -88,11 +88,12 @@ same-length-8 c = search needs
 
 returns-4 : tie.Need-returns-4
 returns-4 c =
-    let a = c .before .before .before .before .before .before .before .before .before .before .before .before .before .before .before .before .before .args in
+    let l = c .before .before .before .before .before .before .before .before .before .before in
+    let a = l .before .before .before .before .before .before .before .args in
     let S = now (a .slots) in
     let R = now (a .room) in
     let t = now (a .text) in
-    let r = entered S R (a .count) (a .used) (a .e) t (sym (c .before .before .before .before .before .before .before .before .before .before .before .is-there .ensures) ∙ c .before .before .before .before .before .before .before .before .before .before .if1 .left) (omega arith) (omega arith) in
+    let r = entered S R (a .filled .count) (a .filled .used) (a .e) t (sym (l .before .is-there .ensures) ∙ l .if1 .left) (omega arith) (omega arith) in
     (r .0, (c .before .before .before .before .before .before .put-slot .ensures ∙ r .1 .0, c .before .before .put-at .ensures ∙ r .1 .1))
 
 pub add-edge-spec : {M : Type 1} → statement M
@@ -114,8 +115,8 @@ add-edge-spec =
     returns-3
     put-slot-requires
     put-at-requires
-    add-t14
     add-t15
+    add-t16
     same-length-7
     same-length-8
     returns-4)

@@ -24,8 +24,10 @@ returns-2 c =
 
 returns-3 : tie.Need-returns-3
 returns-3 c =
-    let a = c .before .before .before .before .before .before .before .before .before .before .before .before .before .args in
-    other-note (now (a .room)) (drop (a .slot) (now (a .slots))) (a .e) (now (a .text)) _ (c .before .before .before .before .before .before .before .before .before .numbers-at .ensures) (omega arith) (omega arith) (λ e. omega arith)
+    let k = c .before .before .before .before .before .before .before .before .before in
+    let a = k .before .before .before .before .args in
+    other-note (now (a .room)) (drop (a .slot) (now (a .slots))) (a .e) (now (a .text)) _ (k .numbers-at .ensures)
+    (omega arith) (omega arith) (λ e. omega arith)
 
 edge-text-requires : tie.Need-edge-text-requires
 edge-text-requires c κs = search needs
@@ -35,10 +37,12 @@ same-requires c κs = search needs
 
 returns-4 : tie.Need-returns-4
 returns-4 c =
-    let a = c .before .before .before .before .before .before .before .before .before .before .before .before .before .before .before .args in
+    let k = c .before .before .before .before .before .before .before .before .before .before .before in
+    let a = k .before .before .before .before .args in
+    let p = k .before .before .before .before .pre in
     c .same .ensures ∙ ap (same (now (a .text))) (c .before .edge-text .ensures)
-    ∙ by-text (now (a .room)) (drop (a .slot) (now (a .slots))) (a .e) (now (a .text)) _ (c .before .before .before .before .before .before .before .before .before .before .before .numbers-at .ensures)
-    (omega arith) (omega arith) (omega arith) (c .before .before .before .before .before .before .before .before .before .before .before .before .before .before .before .pre .1) (c .before .before .before .before .before .before .before .before .before .before .before .before .before .before .before .pre .0 .text)
+    ∙ by-text (now (a .room)) (drop (a .slot) (now (a .slots))) (a .e) (now (a .text)) _ (k .numbers-at .ensures)
+    (omega (arith, c .before .before .before .before .before .before .before .before .if1 .left)) (omega (arith, c .before .before .before .before .before .if2 .left)) (omega (arith, c .before .before .if3 .left)) (p .1) (p .0 .text)
 
 pub is-alike-spec : {M : Type 1} → statement M
 is-alike-spec =

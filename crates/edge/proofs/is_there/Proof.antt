@@ -1,5 +1,5 @@
--- `edge::is_there`: those still to come have one like it where all have.
-use mathlib.Core.Path.{_≡_, sym, _∙_}
+-- `edge::is_there`: the first have none like it; those still to come have one where all have.
+use mathlib.Core.Path.{_≡_, sym, _∙_, subst}
 use mathlib.Core.List.{List}
 use mathlib.Core.Bool.{Bool}
 use Prim.Native.Nat.{ℕ, _-_, _<_, _+_}
@@ -11,21 +11,22 @@ use Rattle.base.specs.Rows.{all-some}
 use Rattle.definition.specs.Limits.{slot-bytes}
 use Rattle.definition.specs.Edges.{Edge}
 use Rattle.edge.specs.Slots.{edge-by, edge-of, edges-of}
+use Rattle.edge.specs.Counted.{all-behind}
 use Rattle.edge.specs.Adding.{there}
 use Rattle.edge.specs.Stored.{Slot}
-use Rattle.edge.specs.Asked.{Readable, any-over, any-here, any-next}
-use Rattle.edge.proofs.Alikes.{like, there-is}
+use Rattle.edge.specs.Asked.{Readable, readable-slots, any-over, any-here, any-next}
+use Rattle.edge.proofs.Alikes.{like, there-behind}
 use borrow.Author.Needs.{needs}
 use Rattle.edge.proofs.is_there.Statement.{statement}
 use Rattle.edge.proofs.is_there.Tie as tie
 
 abbrev Inv-loop : tie.InvT-loop
-Inv-loop slots room count e text left₀ slot₀ left slot =
+Inv-loop slots room e text count since left₀ slot₀ left slot =
     (any (like e text) (edges-of room left (drop slot slots)) ≡ there (edges-of room count slots) (edge-by e text))
     × Readable (drop slot slots) room left
 
 abbrev μ-loop : tie.MeasureT-loop
-μ-loop slots room count e text left₀ slot₀ left slot =
+μ-loop slots room e text count since left₀ slot₀ left slot =
     left
 
 abbrev S : tie.At-loop Inv-loop μ-loop → List ℕ
@@ -41,10 +42,26 @@ here : (l : tie.At-loop Inv-loop μ-loop) → 0 < l .loop .left
     → Slot (R l) (length (R l)) (drop (l .loop .slot) (S l)) × Readable (drop (l .loop .slot + slot-bytes) (S l)) (R l) (l .loop .left - 1)
 here l h = all-some (Slot (R l) (length (R l))) slot-bytes (l .loop .left) (l .loop .slot) (S l) h (l .loop .inv .1)
 
+sub-left : tie.Need-sub-left Inv-loop μ-loop
+sub-left c = search needs
+
+mul-slot : tie.Need-mul-slot Inv-loop μ-loop
+mul-slot c =
+    let k = c .before .before .before in
+    let a = k .args in
+    omega (arith, readable-slots (now (a .slots)) (now (a .room)) (a .filled .count) (k .pre .0))
+
 loop-holds : tie.Need-loop-holds Inv-loop μ-loop
 loop-holds c =
-    let a = c .before .before .before .args in
-    (there-is (edges-of (now (a .room)) (a .count) (now (a .slots))) (a .e) (now (a .text)), c .before .before .before .pre .0)
+    let k = c .before .before .before in
+    let a = k .args in
+    let S = now (a .slots) in
+    let R = now (a .room) in
+    let f = a .filled in (
+      there-behind R S (f .since) (f .count) (a .e) (now (a .text)) (k .pre .2) (k .pre .3),
+      all-behind slot-bytes (Slot R (length R)) (f .since) (f .count - f .since) S
+          (subst (Readable S R) {x = f .count} {y = f .since + (f .count - f .since)} (omega (arith, k .pre .2)) (k .pre .0)),
+    )
 
 is-alike-requires : tie.Need-is-alike-requires Inv-loop μ-loop
 is-alike-requires c κs = (here (c .before) (omega arith) .0, c .before .before .before .before .before .pre .1)
@@ -55,8 +72,8 @@ returns c =
     any-here (edge-of (R l)) slot-bytes (S l) (l .loop .left) (l .loop .slot) (L l) (omega arith) (sym (c .before .is-alike .ensures) ∙ c .if1 .taken)
     ∙ l .loop .inv .0
 
-sub-left : tie.Need-sub-left Inv-loop μ-loop
-sub-left c = search needs
+sub-left-2 : tie.Need-sub-left-2 Inv-loop μ-loop
+sub-left-2 c = search needs
 
 add-slot : tie.Need-add-slot Inv-loop μ-loop
 add-slot c =
@@ -85,10 +102,12 @@ is-there-spec =
     (tie.spec
     Inv-loop
     μ-loop
+    sub-left
+    mul-slot
     loop-holds
     is-alike-requires
     returns
-    sub-left
+    sub-left-2
     add-slot
     loop-less
     loop-again

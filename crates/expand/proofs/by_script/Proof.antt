@@ -5,7 +5,8 @@ use denote.Ref.{now}
 use Rattle.definition.specs.Texts.{at}
 use Rattle.definition.specs.Tables.{script-thai}
 use Rattle.definition.specs.Classes.{script}
-use Rattle.words.specs.Given.{text-in, view-of}
+use Rattle.places.specs.Shows.{memory}
+use Rattle.words.specs.Given.{kinds, seen, size, line-size}
 use Rattle.words.specs.Characters.{script-here}
 use Rattle.rules.specs.Lent.{lexicon-of}
 use Rattle.steps.specs.Works.{work-of}
@@ -14,11 +15,11 @@ use borrow.Author.Needs.{needs}
 use Rattle.expand.proofs.by_script.Statement.{statement}
 use Rattle.expand.proofs.by_script.Tie as tie
 
-add-number-at : tie.Need-add-number-at
-add-number-at c = search needs
+add-kind-at : tie.Need-add-kind-at
+add-kind-at c = search needs
 
-number-at-requires : tie.Need-number-at-requires
-number-at-requires c κs = search needs
+kind-at-requires : tie.Need-kind-at-requires
+kind-at-requires c κs = search needs
 
 script-requires : tie.Need-script-requires
 script-requires c κs = search needs
@@ -31,16 +32,19 @@ same-length c = search needs
 
 returns : tie.Need-returns
 returns c =
-    let s = c .before .before .before .before .before .before .before .before .before .before .before .before .before .before .before .before .before in
-    let a = s .args in
-    let p = s .pre in
-    let L = lexicon-of (now (a .rules)) (now (a .classes)) (now (a .code)) in
-    let t = text-in (now (a .line)) (a .n) in
-    let v = view-of (now (a .classes)) (now (a .slots)) (now (a .room)) (a .count) in
-    let m = now (a .starts) in
-    let k = script-here (p .0 .read .text) (a .o) (omega (arith, p .3, p .5)) (c .before .before .before .before .before .before .number-at .ensures) (c .before .before .before .before .before .script .ensures) in
-    let x = c .before .before .thai .ensures in
-    (in-thai L t v (a .o) (work-of (a .w)) m (eq-eqb (script (L .classes) (at t (a .o))) script-thai (omega (arith, k))) (x .0), x .1)
+    let a = c .before .before .before .before .before .before .before .before .before .before .before .before .args in
+    let p = c .before .before .before .before .before .before .before .before .before .before .before .before .pre in
+    let x = c .before .before .thai .ensures in (
+      λ u e g. let L = lexicon-of (now (a .rules)) u (now (a .code)) in
+          let m = memory (size u) (now (a .places)) in
+          let k = script-here (g .text) (a .o) (omega (arith, p .3, p .5, line-size (g .text)))
+          (c .before .before .before .before .before .before .kind-at .ensures) (c .before .before .before .before .before .script .ensures) in
+          let A = x .0 u e g in record {
+            did = in-thai L (u .text) (seen u) (a .o) (work-of (a .w)) m (eq-eqb (script (kinds u) (at (u .text) (a .o))) script-thai (omega (arith, k))) (A .did);
+            kept = A .kept;
+          },
+      x .1,
+    )
 
 rest-requires : tie.Need-rest-requires
 rest-requires c κs = search needs
@@ -50,23 +54,26 @@ same-length-2 c = search needs
 
 returns-2 : tie.Need-returns-2
 returns-2 c =
-    let s = c .before .before .before .before .before .before .before .before .before .before .before .before .before .before .before .before .before in
-    let a = s .args in
-    let p = s .pre in
-    let L = lexicon-of (now (a .rules)) (now (a .classes)) (now (a .code)) in
-    let t = text-in (now (a .line)) (a .n) in
-    let v = view-of (now (a .classes)) (now (a .slots)) (now (a .room)) (a .count) in
-    let m = now (a .starts) in
-    let k = script-here (p .0 .read .text) (a .o) (omega (arith, p .3, p .5)) (c .before .before .before .before .before .before .number-at .ensures) (c .before .before .before .before .before .script .ensures) in
-    let x = c .before .before .rest .ensures in
-    (elsewhere L t v (a .o) (work-of (a .w)) m (ne-eqb (script (L .classes) (at t (a .o))) script-thai (λ e. omega (arith, e, k))) (x .0), x .1)
+    let a = c .before .before .before .before .before .before .before .before .before .before .before .before .args in
+    let p = c .before .before .before .before .before .before .before .before .before .before .before .before .pre in
+    let x = c .before .before .rest .ensures in (
+      λ u e g. let L = lexicon-of (now (a .rules)) u (now (a .code)) in
+          let m = memory (size u) (now (a .places)) in
+          let k = script-here (g .text) (a .o) (omega (arith, p .3, p .5, line-size (g .text)))
+          (c .before .before .before .before .before .before .kind-at .ensures) (c .before .before .before .before .before .script .ensures) in
+          let A = x .0 u e g in record {
+            did = elsewhere L (u .text) (seen u) (a .o) (work-of (a .w)) m (ne-eqb (script (kinds u) (at (u .text) (a .o))) script-thai (λ d. omega (arith, d, k))) (A .did);
+            kept = A .kept;
+          },
+      x .1,
+    )
 
 pub by-script-spec : {M : Type 1} → statement M
 by-script-spec =
     tie.close
     (tie.spec
-    add-number-at
-    number-at-requires
+    add-kind-at
+    kind-at-requires
     script-requires
     thai-requires
     same-length

@@ -2,12 +2,12 @@
 use mathlib.Core.Path.{refl, sym, _∙_}
 use native.Mathlib.Omega.{arith}
 use denote.Ref.{now}
-use Rattle.words.specs.Given.{text-in, view-of}
-use Rattle.words.specs.Did.{did-by}
+use Rattle.places.specs.Shows.{memory}
+use Rattle.words.specs.Did.{did-by, asked-none}
+use Rattle.words.specs.Given.{seen, size}
 use Rattle.rules.specs.Lent.{lexicon-of}
 use Rattle.steps.specs.Works.{work-of}
 use Rattle.expand.specs.Tests.{no-grave, grave-ruled, grave-put}
-use Rattle.expand.proofs.Ways.{grave-inside}
 use borrow.Author.Needs.{needs}
 use Rattle.expand.proofs.grave.Statement.{statement}
 use Rattle.expand.proofs.grave.Tie as tie
@@ -15,9 +15,8 @@ use Rattle.expand.proofs.grave.Tie as tie
 has-grave-requires : tie.Need-has-grave-requires
 has-grave-requires c κs = search needs
 
-add-simple-top-romanization-candidate-for-span :
-    tie.Need-add-simple-top-romanization-candidate-for-span
-add-simple-top-romanization-candidate-for-span c = search needs
+add-to : tie.Need-add-to
+add-to c = search needs
 
 simple-top-romanization-candidate-for-span-requires :
     tie.Need-simple-top-romanization-candidate-for-span-requires
@@ -31,65 +30,79 @@ same-length c = search needs
 
 returns : tie.Need-returns
 returns c =
-    let s = c .before .before .before .before .before .before .before .before .before .before .before .before .before .before .before .before .before .before .before in
+    let k = c .before .before .before .before .before .before .before .before in
+    let s = k .before .before .before .before .before .before in
     let a = s .args in
     let p = s .pre in
-    let L = lexicon-of (now (a .rules)) (now (a .classes)) (now (a .code)) in
-    let t = text-in (now (a .line)) (a .n) in
-    let v = view-of (now (a .classes)) (now (a .slots)) (now (a .room)) (a .count) in
-    let m = now (a .starts) in
-    let g = p .0 .read .text in
-    let h = sym (c .before .before .before .before .before .before .before .before .has-grave .ensures (now (a .rules)) (now (a .classes)) (now (a .code)) (a .n) v g (p .4)) ∙ c .before .before .before .before .before .before .before .if1 .taken in
-    (grave-ruled L t v (a .o) (work-of (a .w)) m h (c .before .before .before .before .simple-top-romanization-candidate-for-span .ensures .0) (sym (c .before .is-told .ensures (now (a .rules))) ∙ c .if2 .taken), p .1, omega arith, refl, omega arith, p .4)
+    let H = k .has-grave .ensures in
+    let S = c .before .before .before .before .simple-top-romanization-candidate-for-span .ensures in (
+      λ u e g. let L = lexicon-of (now (a .rules)) u (now (a .code)) in
+          let m = memory (size u) (now (a .places)) in
+          let A = S .0 u e g in record {
+            did = grave-ruled L (u .text) (seen u) (a .o) (work-of (a .w)) m
+                (sym (H .0 u (g .text)) ∙ c .before .before .before .before .before .before .before .if1 .taken) (A .did) (sym (c .before .is-told .ensures (now (a .rules))) ∙ c .if2 .taken);
+            kept = A .kept;
+          },
+      p .1,
+      omega arith,
+      refl,
+      omega arith,
+      p .5,
+    )
 
 put-grave-requires : tie.Need-put-grave-requires
-put-grave-requires c κs =
-    let s = c .before .before .before .before .before .before .before .before .before .before .before .before .before .before .before .before .before .before .before in
-    let p = s .pre in
-    (p .1, p .2, omega (arith, p .4, p .0 .read .text .few))
+put-grave-requires c κs = search needs
 
 same-length-2 : tie.Need-same-length-2
 same-length-2 c = search needs
 
 returns-2 : tie.Need-returns-2
 returns-2 c =
-    let s = c .before .before .before .before .before .before .before .before .before .before .before .before .before .before .before .before .before .before .before .before in
+    let k = c .before .before .before .before .before .before .before .before .before in
+    let s = k .before .before .before .before .before .before in
     let a = s .args in
     let p = s .pre in
-    let L = lexicon-of (now (a .rules)) (now (a .classes)) (now (a .code)) in
-    let t = text-in (now (a .line)) (a .n) in
-    let v = view-of (now (a .classes)) (now (a .slots)) (now (a .room)) (a .count) in
-    let m = now (a .starts) in
-    let g = p .0 .read .text in
-    let h = sym (c .before .before .before .before .before .before .before .before .before .has-grave .ensures (now (a .rules)) (now (a .classes)) (now (a .code)) (a .n) v g (p .4)) ∙ c .before .before .before .before .before .before .before .before .if1 .taken in
+    let H = k .has-grave .ensures in
+    let S = c .before .before .before .before .before .simple-top-romanization-candidate-for-span .ensures in
     let x = c .put-grave .ensures in (
-      did-by (x .0) (grave-put L t v (a .o) (work-of (a .w)) m h (c .before .before .before .before .before .simple-top-romanization-candidate-for-span .ensures .0) (sym (c .before .before .is-told .ensures (now (a .rules))) ∙ c .before .if2 .left)),
+      λ u e g. let L = lexicon-of (now (a .rules)) u (now (a .code)) in
+          let m = memory (size u) (now (a .places)) in
+          let h = sym (H .0 u (g .text)) ∙ c .before .before .before .before .before .before .before .before .if1 .taken in
+          let A = S .0 u e g in record {
+            did = did-by (x .0) (grave-put L (u .text) (seen u) (a .o) (work-of (a .w)) m
+                h (A .did) (sym (c .before .before .is-told .ensures (now (a .rules))) ∙ c .before .if2 .left));
+            kept = A .kept;
+          },
       x .1,
       omega (arith, x .2),
       x .3,
       omega (arith, x .4),
-      omega (arith, x .4, grave-inside L t v (work-of (a .w)) h, g .long),
+      omega (arith, x .4, H .1 (c .before .before .before .before .before .before .before .before .if1 .taken)),
     )
 
 returns-3 : tie.Need-returns-3
 returns-3 c =
-    let s = c .before .before .before .before .before .before .before .before .before .before .before .before in
+    let k = c .before in
+    let s = k .before .before .before .before .before .before in
     let a = s .args in
     let p = s .pre in
-    let L = lexicon-of (now (a .rules)) (now (a .classes)) (now (a .code)) in
-    let t = text-in (now (a .line)) (a .n) in
-    let v = view-of (now (a .classes)) (now (a .slots)) (now (a .room)) (a .count) in
-    let m = now (a .starts) in
-    let g = p .0 .read .text in
-    let h = sym (c .before .has-grave .ensures (now (a .rules)) (now (a .classes)) (now (a .code)) (a .n) v g (p .4)) ∙ c .if1 .left in
-    (no-grave L t v (a .o) (work-of (a .w)) m h, p .1, omega arith, refl, omega arith, p .4)
+    let H = k .has-grave .ensures in (
+      λ u e g. let L = lexicon-of (now (a .rules)) u (now (a .code)) in
+          let m = memory (size u) (now (a .places)) in
+          asked-none (no-grave L (u .text) (seen u) (a .o) (work-of (a .w)) m (sym (H .0 u (g .text)) ∙ c .if1 .left)),
+      p .1,
+      omega arith,
+      refl,
+      omega arith,
+      p .5,
+    )
 
 pub grave-spec : {M : Type 1} → statement M
 grave-spec =
     tie.close
     (tie.spec
     has-grave-requires
-    add-simple-top-romanization-candidate-for-span
+    add-to
     simple-top-romanization-candidate-for-span-requires
     is-told-requires
     same-length

@@ -3,11 +3,10 @@ use mathlib.Core.Path.{_≡_, sym, _∙_}
 use native.Mathlib.Omega.{arith}
 use denote.Ref.{now}
 use Rattle.definition.specs.RuleRows.{rules-of}
-use Rattle.definition.specs.ClassRows.{classes-of}
 use Rattle.definition.specs.Texts.{at, o-ang}
-use Rattle.words.specs.Given.{text-in, view-of, char-at}
 use Rattle.steps.specs.Works.{work-of}
 use Rattle.expand.proofs.Ways.{no-o-ang, not-alone, alone}
+use Rattle.words.specs.Given.{kinds, seen, line-size, char-at}
 use borrow.Author.Needs.{needs}
 use Rattle.expand.proofs.is_silent.Statement.{statement}
 use Rattle.expand.proofs.is_silent.Tie as tie
@@ -26,50 +25,34 @@ is-between-requires c κs = search needs
 
 returns : tie.Need-returns
 returns c =
-    let s = c .before .before .before .before .before .before .before .before .before .before .before .before .before in
-    let a = s .args in
-    let p = s .pre in λ classes g.
+    let a = c .before .before .before .before .before .before .before .before .before .before .before .args in
+    λ x g. let z = line-size (g .text) in
     let R = rules-of (now (a .rules)) in
-    let k = classes-of classes in
-    let t = text-in (now (a .line)) (a .n) in
-    let v = view-of classes (now (a .slots)) (now (a .room)) (a .count) in
-    let here : at t (a .o) ≡ o-ang = omega (arith, char-at g (a .o) (omega (arith, p .5)), c .before .before .before .before .before .before .number-at .ensures) in
-    alone R k t (work-of (a .w)) v (a .o) here (omega arith) (sym (c .before .is-between .ensures classes g) ∙ c .if3 .taken)
+    let here : at (x .text) (a .o) ≡ o-ang = omega (arith, char-at (g .text) (a .o) (omega arith), c .before .before .before .before .before .before .number-at .ensures) in
+    alone R (kinds x) (x .text) (work-of (a .w)) (seen x) (a .o) here (omega arith) (sym (c .before .is-between .ensures x g) ∙ c .if3 .taken)
 
 returns-2 : tie.Need-returns-2
 returns-2 c =
-    let s = c .before .before .before .before .before .before .before .before .before .before .before .before .before in
-    let a = s .args in
-    let p = s .pre in λ classes g.
+    let a = c .before .before .before .before .before .before .before .before .before .before .before .args in
+    λ x g. let z = line-size (g .text) in
     let R = rules-of (now (a .rules)) in
-    let k = classes-of classes in
-    let t = text-in (now (a .line)) (a .n) in
-    let v = view-of classes (now (a .slots)) (now (a .room)) (a .count) in
-    let here : at t (a .o) ≡ o-ang = omega (arith, char-at g (a .o) (omega (arith, p .5)), c .before .before .before .before .before .before .number-at .ensures) in
-    alone R k t (work-of (a .w)) v (a .o) here (omega arith) (sym (c .before .is-between .ensures classes g) ∙ c .if3 .left)
+    let here : at (x .text) (a .o) ≡ o-ang = omega (arith, char-at (g .text) (a .o) (omega arith), c .before .before .before .before .before .before .number-at .ensures) in
+    alone R (kinds x) (x .text) (work-of (a .w)) (seen x) (a .o) here (omega arith) (sym (c .before .is-between .ensures x g) ∙ c .if3 .left)
 
 returns-3 : tie.Need-returns-3
 returns-3 c =
-    let s = c .before .before .before .before .before .before .before .before .before .before .before in
-    let a = s .args in
-    let p = s .pre in λ classes g.
+    let a = c .before .before .before .before .before .before .before .before .before .args in
+    λ x g. let z = line-size (g .text) in
     let R = rules-of (now (a .rules)) in
-    let k = classes-of classes in
-    let t = text-in (now (a .line)) (a .n) in
-    let v = view-of classes (now (a .slots)) (now (a .room)) (a .count) in
-    let here : at t (a .o) ≡ o-ang = omega (arith, char-at g (a .o) (omega (arith, p .5)), c .before .before .before .before .number-at .ensures) in
-    not-alone R k t (work-of (a .w)) v (a .o) here (λ e. omega (arith, e))
+    let here : at (x .text) (a .o) ≡ o-ang = omega (arith, char-at (g .text) (a .o) (omega arith), c .before .before .before .before .number-at .ensures) in
+    not-alone R (kinds x) (x .text) (work-of (a .w)) (seen x) (a .o) here (λ e. omega (arith, e))
 
 returns-4 : tie.Need-returns-4
 returns-4 c =
-    let s = c .before .before .before .before .before .before .before .before in
-    let a = s .args in
-    let p = s .pre in λ classes g.
+    let a = c .before .before .before .before .before .before .args in
+    λ x g. let z = line-size (g .text) in
     let R = rules-of (now (a .rules)) in
-    let k = classes-of classes in
-    let t = text-in (now (a .line)) (a .n) in
-    let v = view-of classes (now (a .slots)) (now (a .room)) (a .count) in
-    no-o-ang R k t (work-of (a .w)) v (a .o) (λ e. omega (arith, e, char-at g (a .o) (omega (arith, p .5)), c .before .number-at .ensures))
+    no-o-ang R (kinds x) (x .text) (work-of (a .w)) (seen x) (a .o) (λ e. omega (arith, e, char-at (g .text) (a .o) (omega arith), c .before .number-at .ensures))
 
 pub is-silent-spec : {M : Type 1} → statement M
 is-silent-spec =

@@ -30,28 +30,34 @@ append-requires c κs =
     let a = s .args in
     let w = text (a .w .rom) in
     let e = c .before .without-last .ensures in
-    let l : length (without-last w) + 1 ≡ a .w .rom .len = omega (arith, length-reverse (tail (reverse w)), tail-length (reverse w), length-reverse w, text-length (s .pre .1), s .pre .2) in
-    let h : length (without-last w) ≤ most-bytes = omega (arith, l, s .pre .3) in
-    (clean-by (without-last w) e h, omega (arith, l, len-by (without-last w) e, s .pre .3, ap length (c .chosen-text .ensures), said-short (now (a .rules)) (a .target) (s .pre .0)))
-
-add-t8 : tie.Need-add-t8
-add-t8 c = search needs
+    let l : length (without-last w) + 1 ≡ a .w .rom .len =
+    omega (arith, length-reverse (tail (reverse w)), tail-length (reverse w), length-reverse w, text-length (s .pre .1), s .pre .2) in
+    let h : length (without-last w) ≤ most-bytes = omega (arith, l, s .pre .3) in (
+      clean-by (without-last w) e h,
+      omega (arith, l, len-by (without-last w) e, s .pre .3, ap length (c .chosen-text .ensures), said-short (now (a .rules)) (a .target) (s .pre .0)),
+    )
 
 returns : tie.Need-returns
 returns c =
-    let s = c .before .before .before .before .before .before in
+    let s = c .before .before .before .before .before in
     let a = s .args in
     let w = text (a .w .rom) in
-    let e = c .before .before .before .without-last .ensures in
-    let l : length (without-last w) + 1 ≡ a .w .rom .len = omega (arith, length-reverse (tail (reverse w)), tail-length (reverse w), length-reverse w, text-length (s .pre .1), s .pre .2) in
+    let e = c .before .before .without-last .ensures in
+    let l : length (without-last w) + 1 ≡ a .w .rom .len =
+    omega (arith, length-reverse (tail (reverse w)), tail-length (reverse w), length-reverse w, text-length (s .pre .1), s .pre .2) in
     let h : length (without-last w) ≤ most-bytes = omega (arith, l, s .pre .3) in
     let o = said (now (a .rules)) (a .target) in
     let new = without-last w ++ or-nothing o in
-    let f = c .before .append .ensures ∙ ap (λ (x : Text). rom (x ++ now (c .before .before .chosen-text .result))) (text-by (without-last w) e h)
-    ∙ ap (λ (x : Text). rom (without-last w ++ x)) (c .before .before .chosen-text .ensures) in
-    let k : length new < most-bytes = omega (arith, length-append (without-last w) (or-nothing o), l, s .pre .3, said-short (now (a .rules)) (a .target) (s .pre .0)) in
-    (ap (λ (x : Text). work x (a .w .from) (a .w .to + 1) note-exp) (text-by new f (omega (arith, k))), clean-by new f (omega (arith, k)), omega (arith, k, len-by new f), refl, refl)
+    let f = c .append .ensures ∙ ap (λ (x : Text). rom (x ++ now (c .before .chosen-text .result))) (text-by (without-last w) e h)
+    ∙ ap (λ (x : Text). rom (without-last w ++ x)) (c .before .chosen-text .ensures) in
+    let k : length new < most-bytes = omega (arith, length-append (without-last w) (or-nothing o), l, s .pre .3, said-short (now (a .rules)) (a .target) (s .pre .0)) in (
+      ap (λ (x : Text). work x (a .w .from) (a .to) note-exp) (text-by new f (omega (arith, k))),
+      clean-by new f (omega (arith, k)),
+      omega (arith, k, len-by new f),
+      refl,
+      refl,
+    )
 
 pub put-small-spec : {M : Type 1} → statement M
 put-small-spec =
-    tie.close (tie.spec without-last-requires chosen-text-requires append-requires add-t8 returns)
+    tie.close (tie.spec without-last-requires chosen-text-requires append-requires returns)

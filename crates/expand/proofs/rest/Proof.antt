@@ -1,8 +1,9 @@
 -- `expand::rest`
-use native.Mathlib.Omega.{arith}
+use mathlib.Core.Path.{_∙_}
 use denote.Ref.{now}
-use Rattle.words.specs.Given.{text-in, view-of}
+use Rattle.places.specs.Shows.{memory}
 use Rattle.words.specs.Did.{did-by}
+use Rattle.words.specs.Given.{seen, size, lent-after}
 use Rattle.rules.specs.Lent.{lexicon-of}
 use Rattle.steps.specs.Works.{work-of}
 use Rattle.expand.specs.Tests.{rest-is}
@@ -17,28 +18,25 @@ small-y-requires : tie.Need-small-y-requires
 small-y-requires c κs = search needs
 
 finish-requires : tie.Need-finish-requires
-finish-requires c κs =
-    let p = c .before .before .before .before .before .before .before .before .before .before .before .before .before .before .before .before .before .before .pre in
-    let u = c .before .before .before .before .before .before .grave .ensures in
-    let x = c .before .before .small-y .ensures in
-    (x .1, x .2, omega (arith, x .3, u .3, p .4, p .5), x .4, p .0 .read .text .few)
+finish-requires c κs = search needs
 
 same-length : tie.Need-same-length
 same-length c = search needs
 
 returns : tie.Need-returns
 returns c =
-    let s = c .before .before .before .before .before .before .before .before .before .before .before .before .before .before .before .before .before .before .before in
-    let a = s .args in
-    let p = s .pre in
-    let L = lexicon-of (now (a .rules)) (now (a .classes)) (now (a .code)) in
-    let t = text-in (now (a .line)) (a .n) in
-    let v = view-of (now (a .classes)) (now (a .slots)) (now (a .room)) (a .count) in
-    let m = now (a .starts) in
-    let u = c .before .before .before .before .before .before .before .grave .ensures in
-    let x = c .before .before .before .small-y .ensures in
-    let z = c .finish .ensures in
-    (did-by (z .0 (now (a .classes)) (p .0 .read .text)) (rest-is L t v (a .o) (work-of (a .w)) m (u .0) (x .0)), z .1)
+    let k = c .before .before .before .before .before .before .before in
+    let a = k .before .before .before .before .before .before .before .args in
+    let Z = c .finish .ensures in (
+      λ u e g. let L = lexicon-of (now (a .rules)) u (now (a .code)) in
+          let m = memory (size u) (now (a .places)) in
+          let A = k .grave .ensures .0 u e g in
+          let B = c .before .before .before .small-y .ensures .0 u e (lent-after _ g (A .kept)) in record {
+            did = did-by (Z .0 u (g .text)) (rest-is L (u .text) (seen u) (a .o) (work-of (a .w)) m (A .did) (B .did));
+            kept = B .kept ∙ A .kept;
+          },
+      Z .1,
+    )
 
 pub rest-spec : {M : Type 1} → statement M
 rest-spec =

@@ -1,14 +1,19 @@
 -- `expand::small_target`: one law for each way out.
 use mathlib.Core.Path.{sym, ap, _∙_}
+use mathlib.Core.Bool.{true≢false}
 use mathlib.Core.List.{[], _∷_}
 use Prim.Native.Nat.{ℕ}
 use native.Mathlib.Omega.{arith}
+use lib.Dec.{eqb}
 use denote.Ref.{now}
+use Rattle.base.specs.Bools.{and-left}
+use Rattle.definition.specs.Texts.{letter-i}
 use Rattle.definition.specs.RuleRows.{rules-of}
-use Rattle.definition.specs.ClassRows.{classes-of}
 use Rattle.definition.specs.Rules.{first-rule}
-use Rattle.words.specs.Given.{text-in, char-at}
+use Rattle.rom.specs.Rom.{text, text-length}
+use Rattle.words.specs.Given.{kinds, line-size, char-at}
 use Rattle.steps.specs.Works.{work-of}
+use Rattle.expand.proofs.Sounds.{not-empty}
 use Rattle.expand.proofs.Ways.{not-next, no-i, small-ruled-by}
 use borrow.Author.Needs.{needs}
 use Rattle.expand.proofs.small_target.Statement.{statement}
@@ -34,40 +39,42 @@ romanization-by-first-rule-requires c κs = search needs
 
 returns : tie.Need-returns
 returns c =
-    let s = c .before .before .before .before .before .before .before .before .before .before .before .before in
+    let k = c .before .before .before .before .before .before .before in
+    let s = k .before .before .before .before in
     let a = s .args in
     let p = s .pre in
-    let R = rules-of (now (a .rules)) in
-    let x = c .romanization-by-first-rule in (
-      (λ classes g.
-          let t = text-in (now (a .line)) (a .n) in
-          let e = sym (c .before .before .before .before .before .before .before .is-small-next .ensures classes (a .n) g (p .2)) ∙ c .before .before .before .before .before .before .if1 .taken in
-          x .ensures .0 ∙ ap (λ (k : ℕ). first-rule R (k ∷ [])) (c .before .before .number-at .ensures ∙ char-at g (a .w .to) (omega (arith, p .2)))
-          ∙ small-ruled-by R (classes-of classes) t (work-of (a .w)) e (sym (c .before .before .before .before .before .ends-in-i .ensures) ∙ c .before .before .before .before .if2 .taken)),
-      x .ensures .1,
+    let H = k .is-small-next .ensures in
+    let F = c .romanization-by-first-rule .ensures in
+    let i = sym (c .before .before .before .before .before .ends-in-i .ensures) ∙ c .before .before .before .before .if2 .taken in (
+      (λ u g.
+          F .0 ∙ ap (λ (k : ℕ). first-rule (rules-of (now (a .rules))) (k ∷ []))
+          (c .before .before .number-at .ensures ∙ char-at g (a .w .to) (omega (arith, p .3, line-size g)))
+          ∙ small-ruled-by (rules-of (now (a .rules))) (kinds u) (u .text) (work-of (a .w)) (sym (H .0 u g) ∙ c .before .before .before .before .before .before .if1 .taken) i),
+      F .1,
+      (λ h. (H .1 (c .before .before .before .before .before .before .if1 .taken), omega (arith, not-empty (eqb letter-i) (text (a .w .rom)) (and-left _ _ i), text-length (p .1)))),
     )
 
 returns-2 : tie.Need-returns-2
 returns-2 c =
-    let s = c .before .before .before .before .before .before .before .before in
+    let k = c .before .before .before in
+    let s = k .before .before .before .before in
     let a = s .args in
-    let p = s .pre in (
-      (λ classes g.
-          let e = sym (c .before .before .before .is-small-next .ensures classes (a .n) g (p .2)) ∙ c .before .before .if1 .taken in
-          no-i (rules-of (now (a .rules))) (classes-of classes) (text-in (now (a .line)) (a .n)) (work-of (a .w)) e (sym (c .before .ends-in-i .ensures) ∙ c .if2 .left)),
+    let p = s .pre in
+    let H = k .is-small-next .ensures in
+    let i = sym (c .before .ends-in-i .ensures) ∙ c .if2 .left in (
+      (λ u g. no-i (rules-of (now (a .rules))) (kinds u) (u .text) (work-of (a .w)) (sym (H .0 u g) ∙ c .before .before .if1 .taken) i),
       tt,
+      (λ h. absurd (true≢false (sym h))),
     )
 
 returns-3 : tie.Need-returns-3
 returns-3 c =
-    let s = c .before .before .before .before .before .before in
+    let k = c .before in
+    let s = k .before .before .before .before in
     let a = s .args in
-    let p = s .pre in (
-      (λ classes g.
-          let e = sym (c .before .is-small-next .ensures classes (a .n) g (p .2)) ∙ c .if1 .left in
-          not-next (rules-of (now (a .rules))) (classes-of classes) (text-in (now (a .line)) (a .n)) (work-of (a .w)) e),
-      tt,
-    )
+    let p = s .pre in
+    let H = k .is-small-next .ensures in
+    ((λ u g. not-next (rules-of (now (a .rules))) (kinds u) (u .text) (work-of (a .w)) (sym (H .0 u g) ∙ c .if1 .left)), tt, (λ h. absurd (true≢false (sym h))))
 
 pub small-target-spec : {M : Type 1} → statement M
 small-target-spec =

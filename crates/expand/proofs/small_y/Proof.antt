@@ -2,14 +2,14 @@
 use mathlib.Core.Path.{refl, sym, _∙_}
 use native.Mathlib.Omega.{arith}
 use denote.Ref.{now}
-use Rattle.rom.specs.Rom.{text-length}
-use Rattle.words.specs.Given.{text-in, view-of}
-use Rattle.words.specs.Did.{did-by}
+use Rattle.places.specs.Shows.{memory}
+use Rattle.words.specs.Did.{did-by, asked-none}
+use Rattle.words.specs.Given.{seen, size, lent-after}
 use Rattle.rules.specs.Lent.{lexicon-of}
 use Rattle.rules.specs.Chosen.{said, or-nothing}
 use Rattle.steps.specs.Works.{work-of}
 use Rattle.expand.specs.Tests.{no-small, small-ruled, small-ruled-here, small-put}
-use Rattle.expand.proofs.Ways.{told, absent, small-inside, small-letter}
+use Rattle.expand.proofs.Ways.{told, absent}
 use borrow.Author.Needs.{needs}
 use Rattle.expand.proofs.small_y.Statement.{statement}
 use Rattle.expand.proofs.small_y.Tie as tie
@@ -20,9 +20,8 @@ small-target-requires c κs = search needs
 is-told-requires : tie.Need-is-told-requires
 is-told-requires c κs = search needs
 
-add-simple-top-romanization-candidate-for-span :
-    tie.Need-add-simple-top-romanization-candidate-for-span
-add-simple-top-romanization-candidate-for-span c = search needs
+add-to : tie.Need-add-to
+add-to c = search needs
 
 simple-top-romanization-candidate-for-span-requires :
     tie.Need-simple-top-romanization-candidate-for-span-requires
@@ -36,30 +35,31 @@ same-length c = search needs
 
 returns : tie.Need-returns
 returns c =
-    let s = c .before .before .before .before .before .before .before .before .before .before .before .before .before .before .before .before .before .before .before .before in
+    let k = c .before .before .before .before .before .before .before .before .before in
+    let s = k .before .before .before .before .before .before in
     let a = s .args in
     let p = s .pre in
-    let L = lexicon-of (now (a .rules)) (now (a .classes)) (now (a .code)) in
-    let t = text-in (now (a .line)) (a .n) in
-    let v = view-of (now (a .classes)) (now (a .slots)) (now (a .room)) (a .count) in
-    let m = now (a .starts) in
-    let g = p .0 .read .text in
-    let x = c .before .before .before .before .before .before .before .before .before .small-target in
-    let o = said (now (a .rules)) (x .result) in
-    let e = x .ensures .0 (now (a .classes)) g in
-    let y = or-nothing o in
-    let h = sym e ∙ told o (sym (c .before .before .before .before .before .before .before .before .is-told .ensures (now (a .rules))) ∙ c .before .before .before .before .before .before .before .if1 .taken) in
-    (small-ruled L t v (a .o) (work-of (a .w)) m y h (c .before .before .before .before .simple-top-romanization-candidate-for-span .ensures .0) (sym (c .before .is-told2 .ensures (now (a .rules))) ∙ c .if2 .taken), p .1, omega (arith, p .2), refl, p .5)
-
-add-simple-top-romanization-candidate-for-span-2 :
-    tie.Need-add-simple-top-romanization-candidate-for-span-2
-add-simple-top-romanization-candidate-for-span-2 c =
-    let s = c .before .before .before .before .before .before .before .before .before .before .before .before .before .before .before .before .before .before .before .before .before .before in omega (arith, s .pre .5, s .pre .0 .read .text .few)
+    let o = said (now (a .rules)) (k .small-target .result) in
+    let H = k .small-target .ensures in
+    let q = sym (c .before .before .before .before .before .before .before .before .is-told .ensures (now (a .rules))) ∙ c .before .before .before .before .before .before .before .if1 .taken in
+    let S = c .before .before .before .before .simple-top-romanization-candidate-for-span .ensures in (
+      λ u e g. let L = lexicon-of (now (a .rules)) u (now (a .code)) in
+          let m = memory (size u) (now (a .places)) in
+          let A = S .0 u e g in record {
+            did = small-ruled L (u .text) (seen u) (a .o) (work-of (a .w)) m (or-nothing o)
+                (sym (H .0 u (g .text)) ∙ told o q) (A .did) (sym (c .before .is-told2 .ensures (now (a .rules))) ∙ c .if2 .taken);
+            kept = A .kept;
+          },
+      p .1,
+      omega (arith, p .2),
+      refl,
+      omega arith,
+      p .5,
+    )
 
 simple-top-romanization-candidate-for-span-requires-2 :
     tie.Need-simple-top-romanization-candidate-for-span-requires-2
-simple-top-romanization-candidate-for-span-requires-2 c κs =
-    let s = c .before .before .before .before .before .before .before .before .before .before .before .before .before .before .before .before .before .before .before .before .before .before in (s .pre .0, omega (arith, s .pre .4))
+simple-top-romanization-candidate-for-span-requires-2 c κs = search needs
 
 is-told-requires-3 : tie.Need-is-told-requires-3
 is-told-requires-3 c κs = search needs
@@ -69,89 +69,94 @@ same-length-2 c = search needs
 
 returns-2 : tie.Need-returns-2
 returns-2 c =
-    let s = c .before .before .before .before .before .before .before .before .before .before .before .before .before .before .before .before .before .before .before .before .before .before .before .before .before .before .before in
+    let j = c .before .before .before .before .before .before .before in
+    let k = j .before .before .before .before .before .before .before .before in
+    let s = k .before .before .before .before .before .before in
     let a = s .args in
     let p = s .pre in
-    let L = lexicon-of (now (a .rules)) (now (a .classes)) (now (a .code)) in
-    let t = text-in (now (a .line)) (a .n) in
-    let v = view-of (now (a .classes)) (now (a .slots)) (now (a .room)) (a .count) in
-    let m = now (a .starts) in
-    let g = p .0 .read .text in
-    let x = c .before .before .before .before .before .before .before .before .before .before .before .before .before .before .before .before .small-target in
-    let o = said (now (a .rules)) (x .result) in
-    let e = x .ensures .0 (now (a .classes)) g in
-    let y = or-nothing o in
-    let h = sym e ∙ told o (sym (c .before .before .before .before .before .before .before .before .before .before .before .before .before .before .before .is-told .ensures (now (a .rules))) ∙ c .before .before .before .before .before .before .before .before .before .before .before .before .before .before .if1 .taken) in (
-      small-ruled-here L t v (a .o) (work-of (a .w)) m y h (c .before .before .before .before .before .before .before .before .before .before .before .simple-top-romanization-candidate-for-span .ensures .0) (sym (c .before .before .before .before .before .before .before .before .is-told2 .ensures (now (a .rules))) ∙ c .before .before .before .before .before .before .before .if2 .left)
-          (c .before .before .before .before .simple-top-romanization-candidate-for-span2 .ensures .0) (sym (c .before .is-told3 .ensures (now (a .rules))) ∙ c .if3 .taken),
+    let o = said (now (a .rules)) (k .small-target .result) in
+    let H = k .small-target .ensures in
+    let q = sym (j .before .before .before .before .before .before .before .is-told .ensures (now (a .rules))) ∙ j .before .before .before .before .before .before .if1 .taken in
+    let S = j .before .before .before .simple-top-romanization-candidate-for-span .ensures in
+    let Z = c .before .before .before .before .simple-top-romanization-candidate-for-span2 .ensures in (
+      λ u e g. let L = lexicon-of (now (a .rules)) u (now (a .code)) in
+          let m = memory (size u) (now (a .places)) in
+          let A = S .0 u e g in
+          let B = Z .0 u e (lent-after _ g (A .kept)) in record {
+            did = small-ruled-here L (u .text) (seen u) (a .o) (work-of (a .w)) m (or-nothing o)
+                (sym (H .0 u (g .text)) ∙ told o q) (A .did) (sym (j .is-told2 .ensures (now (a .rules))) ∙ c .before .before .before .before .before .before .if2 .left)
+                (B .did) (sym (c .before .is-told3 .ensures (now (a .rules))) ∙ c .if3 .taken);
+            kept = B .kept ∙ A .kept;
+          },
       p .1,
       omega (arith, p .2),
       refl,
+      omega arith,
       p .5,
     )
 
 put-small-requires : tie.Need-put-small-requires
 put-small-requires c κs =
-    let s = c .before .before .before .before .before .before .before .before .before .before .before .before .before .before .before .before .before .before .before .before .before .before .before .before .before .before .before in
+    let j = c .before .before .before .before .before .before .before in
+    let k = j .before .before .before .before .before .before .before .before in
+    let s = k .before .before .before .before .before .before in
     let a = s .args in
     let p = s .pre in
-    let L = lexicon-of (now (a .rules)) (now (a .classes)) (now (a .code)) in
-    let t = text-in (now (a .line)) (a .n) in
-    let v = view-of (now (a .classes)) (now (a .slots)) (now (a .room)) (a .count) in
-    let m = now (a .starts) in
-    let g = p .0 .read .text in
-    let x = c .before .before .before .before .before .before .before .before .before .before .before .before .before .before .before .before .small-target in
-    let o = said (now (a .rules)) (x .result) in
-    let e = x .ensures .0 (now (a .classes)) g in
-    let y = or-nothing o in
-    let h = sym e ∙ told o (sym (c .before .before .before .before .before .before .before .before .before .before .before .before .before .before .before .is-told .ensures (now (a .rules))) ∙ c .before .before .before .before .before .before .before .before .before .before .before .before .before .before .if1 .taken) in
-    let k = small-letter (L .rules) (L .classes) t (work-of (a .w)) y h in
-    (x .ensures .1, p .1, omega (arith, k, text-length (p .1)), p .2, omega (arith, p .5, g .few))
+    let o = said (now (a .rules)) (k .small-target .result) in
+    let H = k .small-target .ensures in
+    let q = sym (j .before .before .before .before .before .before .before .is-told .ensures (now (a .rules))) ∙ j .before .before .before .before .before .before .if1 .taken in
+    (H .1, p .1, H .2 q .1, p .2)
 
 same-length-3 : tie.Need-same-length-3
 same-length-3 c = search needs
 
 returns-3 : tie.Need-returns-3
 returns-3 c =
-    let s = c .before .before .before .before .before .before .before .before .before .before .before .before .before .before .before .before .before .before .before .before .before .before .before .before .before .before .before .before in
+    let j = c .before .before .before .before .before .before .before .before in
+    let k = j .before .before .before .before .before .before .before .before in
+    let s = k .before .before .before .before .before .before in
     let a = s .args in
     let p = s .pre in
-    let L = lexicon-of (now (a .rules)) (now (a .classes)) (now (a .code)) in
-    let t = text-in (now (a .line)) (a .n) in
-    let v = view-of (now (a .classes)) (now (a .slots)) (now (a .room)) (a .count) in
-    let m = now (a .starts) in
-    let g = p .0 .read .text in
-    let x = c .before .before .before .before .before .before .before .before .before .before .before .before .before .before .before .before .before .small-target in
-    let o = said (now (a .rules)) (x .result) in
-    let e = x .ensures .0 (now (a .classes)) g in
-    let y = or-nothing o in
-    let h = sym e ∙ told o (sym (c .before .before .before .before .before .before .before .before .before .before .before .before .before .before .before .before .is-told .ensures (now (a .rules))) ∙ c .before .before .before .before .before .before .before .before .before .before .before .before .before .before .before .if1 .taken) in
-    let k = small-inside (L .rules) (L .classes) t (work-of (a .w)) y h in
-    let z = c .put-small .ensures in (
-      did-by (z .0) (small-put L t v (a .o) (work-of (a .w)) m y h (c .before .before .before .before .before .before .before .before .before .before .before .before .simple-top-romanization-candidate-for-span .ensures .0) (sym (c .before .before .before .before .before .before .before .before .before .is-told2 .ensures (now (a .rules))) ∙ c .before .before .before .before .before .before .before .before .if2 .left)
-          (c .before .before .before .before .before .simple-top-romanization-candidate-for-span2 .ensures .0) (sym (c .before .before .is-told3 .ensures (now (a .rules))) ∙ c .before .if3 .left)),
-      z .1,
-      z .2,
-      z .3,
-      omega (arith, k, g .long, z .4),
+    let o = said (now (a .rules)) (k .small-target .result) in
+    let H = k .small-target .ensures in
+    let q = sym (j .before .before .before .before .before .before .before .is-told .ensures (now (a .rules))) ∙ j .before .before .before .before .before .before .if1 .taken in
+    let S = j .before .before .before .simple-top-romanization-candidate-for-span .ensures in
+    let Z = c .before .before .before .before .before .simple-top-romanization-candidate-for-span2 .ensures in
+    let x = c .put-small .ensures in (
+      λ u e g. let L = lexicon-of (now (a .rules)) u (now (a .code)) in
+          let m = memory (size u) (now (a .places)) in
+          let A = S .0 u e g in
+          let B = Z .0 u e (lent-after _ g (A .kept)) in record {
+            did = did-by (x .0) (small-put L (u .text) (seen u) (a .o) (work-of (a .w)) m (or-nothing o)
+                (sym (H .0 u (g .text)) ∙ told o q) (A .did) (sym (j .is-told2 .ensures (now (a .rules))) ∙ c .before .before .before .before .before .before .before .if2 .left)
+                (B .did) (sym (c .before .before .is-told3 .ensures (now (a .rules))) ∙ c .before .if3 .left));
+            kept = B .kept ∙ A .kept;
+          },
+      x .1,
+      x .2,
+      x .3,
+      omega (arith, x .4),
+      omega (arith, x .4, H .2 q .0),
     )
 
 returns-4 : tie.Need-returns-4
 returns-4 c =
-    let s = c .before .before .before .before .before .before .before .before .before .before .before .before .before in
+    let k = c .before .before in
+    let s = k .before .before .before .before .before .before in
     let a = s .args in
     let p = s .pre in
-    let L = lexicon-of (now (a .rules)) (now (a .classes)) (now (a .code)) in
-    let t = text-in (now (a .line)) (a .n) in
-    let v = view-of (now (a .classes)) (now (a .slots)) (now (a .room)) (a .count) in
-    let m = now (a .starts) in
-    let g = p .0 .read .text in
-    let x = c .before .before .small-target in
-    let o = said (now (a .rules)) (x .result) in
-    let e = x .ensures .0 (now (a .classes)) g in
-    let y = or-nothing o in
-    let h = sym e ∙ absent o (sym (c .before .is-told .ensures (now (a .rules))) ∙ c .if1 .left) in
-    (no-small L t v (a .o) (work-of (a .w)) m h, p .1, omega (arith, p .2), refl, p .5)
+    let o = said (now (a .rules)) (k .small-target .result) in
+    let H = k .small-target .ensures in
+    let q = sym (c .before .is-told .ensures (now (a .rules))) ∙ c .if1 .left in (
+      λ u e g. let L = lexicon-of (now (a .rules)) u (now (a .code)) in
+          let m = memory (size u) (now (a .places)) in
+          asked-none (no-small L (u .text) (seen u) (a .o) (work-of (a .w)) m (sym (H .0 u (g .text)) ∙ absent o q)),
+      p .1,
+      omega (arith, p .2),
+      refl,
+      omega arith,
+      p .5,
+    )
 
 pub small-y-spec : {M : Type 1} → statement M
 small-y-spec =
@@ -159,12 +164,11 @@ small-y-spec =
     (tie.spec
     small-target-requires
     is-told-requires
-    add-simple-top-romanization-candidate-for-span
+    add-to
     simple-top-romanization-candidate-for-span-requires
     is-told-requires-2
     same-length
     returns
-    add-simple-top-romanization-candidate-for-span-2
     simple-top-romanization-candidate-for-span-requires-2
     is-told-requires-3
     same-length-2

@@ -1,37 +1,58 @@
 -- `jettyfig::read`: the text's refusal, or what is prepared of it.
-use mathlib.Core.Path.{sym, ap, _∙_}
+use Prim.Native.Nat.{_≤_}
+use mathlib.Core.Path.{refl, sym, ap, _∙_}
+use native.Mathlib.Omega.{arith}
 use lib.ListN.{length}
+use lib.Seq.{length-take-le}
 use denote.Ref.{now}
+use Rattle.definition.specs.Limits.{most-characters}
 use Rattle.definition.specs.Capacity.{refuse}
 use Rattle.definition.specs.Call.{tables, characters}
 use Rattle.utf8.specs.Read.{refused}
-use Rattle.jettyfig.specs.Verdicts.{given, returned}
+use Rattle.jettyfig.specs.Verdicts.{given, returned, passed}
 use Rattle.jettyfig.specs.Calls.{as-refused, read-refused, read-right, nothing-refused}
 use borrow.Author.Needs.{needs}
 use Rattle.jettyfig.proofs.read.Statement.{statement}
 use Rattle.jettyfig.proofs.read.Tie as tie
 
-slice-aggregate-read-line : tie.Need-slice-aggregate-read-line
-slice-aggregate-read-line c = search needs
+slice-aggregate-lay-out : tie.Need-slice-aggregate-lay-out
+slice-aggregate-lay-out c = search needs
 
-read-line-requires : tie.Need-read-line-requires
-read-line-requires c κs = search needs
+lay-out-requires : tie.Need-lay-out-requires
+lay-out-requires c κs =
+    let s = c .before .before .before .before .before .before .before .before .before in
+    let a = s .args in
+    (passed (a .mode) (now (a .rules)) (now (a .classes)) (now (a .vowels)) (now (a .code)) (s .pre .0) .classes, refl)
 
 enum-known-n : tie.Need-enum-known-n
 enum-known-n c = search needs
 
+-- the accepted text is not too long
+few : (c : tie.After-known-told) → c .before .n .given .0 .0 ≤ most-characters
+few c = let g = c .before .n .given in c .before .before .before .before .lay-out .ensures .1 (g .0 .0) (g .1) .1
+
+add-line : tie.Need-add-line
+add-line c = omega (arith, few c)
+
+mul-line : tie.Need-mul-line
+mul-line c = omega (arith, few c)
+
+array-share-prefix-line : tie.Need-array-share-prefix-line
+array-share-prefix-line c = omega (arith, few c)
+
 slice-aggregate-prepare : tie.Need-slice-aggregate-prepare
-slice-aggregate-prepare c = search needs
+slice-aggregate-prepare c = sym (length-take-le _ (c .before .before .before .before .before .lay-out .last .1 .1 .0) (array-share-prefix-line (c .before)))
 
 prepare-requires : tie.Need-prepare-requires
 unfolding refused
 prepare-requires c κs =
-    let s = c .before .before .before .before .before .before .before .before .before .before .before .before .before .before .before .before .before .before in
+    let l = c .before .before .before .before .before .before .before .before in
+    let s = l .before .before .before .before .before .before .before .before .before .before in
     let a = s .args in
     let i = given (a .mode) (now (a .rules)) (now (a .classes)) (now (a .vowels)) (now (a .code)) (now (a .text)) 0 0 0 in
-    let r = c .before .before .before .before .before .before .before .before .read-line .ensures in
+    let r = l .lay-out .ensures in
     let g = c .before .before .before .before .before .n .given in
-    (nothing-refused i (s .pre .0) (sym (r .0) ∙ ap refused (g .1)), r .1 .1, r .1 .0 _ (g .1), s .pre .1)
+    (nothing-refused i (s .pre .0) (sym (r .0) ∙ ap refused (g .1)), r .1 (g .0 .0) (g .1) .2, s .pre .1)
 
 enum-known-at : tie.Need-enum-known-at
 enum-known-at c = search needs
@@ -63,52 +84,56 @@ same-length-3 c = search needs
 returns : tie.Need-returns
 unfolding refused tables characters
 returns c =
-    let s = c .before .before .before .before .before .before .before .before .before .before .before .before .before .before .before .before .before .before .before .before .before .before .before .before .before in
-    let a = s .args in
+    let p = c .before .before .before .before .before .before in
+    let n = p .before .before .before .before .before .before in
+    let l = n .before .before .before in
+    let a = l .before .before .before .before .before .before .before .before .before .before .args in
     let i = given (a .mode) (now (a .rules)) (now (a .classes)) (now (a .vowels)) (now (a .code)) (now (a .text)) (length (now (a .slots))) (length (now (a .room))) (length (now (a .out))) in
-    let r = c .before .before .before .before .before .before .before .before .before .before .before .before .before .before .before .read-line .ensures in
-    c .before .before .before .before .before .before .prepare .ensures ∙ read-right i (sym (r .0) ∙ ap refused (c .before .before .before .before .before .before .before .before .before .before .before .before .n .given .1))
+    p .prepare .ensures ∙ read-right i (sym (l .lay-out .ensures .0) ∙ ap refused (n .n .given .1))
 
 returns-2 : tie.Need-returns-2
 unfolding refused
 returns-2 c =
-    let s = c .before .before .before .before .before .before .before .before .before .before .before .before .before .before .before in
+    let l = c .before .before .before .before .before in
+    let s = l .before .before .before .before .before .before .before .before .before .before in
     let a = s .args in
     let i = given (a .mode) (now (a .rules)) (now (a .classes)) (now (a .vowels)) (now (a .code)) (now (a .text)) (length (now (a .slots))) (length (now (a .room))) (length (now (a .out))) in
-    let r = c .before .before .before .before .before .read-line .ensures in
     let g = c .before .before .at .given in
     ap (λ x. returned x (now (a .out))) (c .refuse .ensures)
-    ∙ as-refused i (now (a .out)) (s .pre .1) 6 (g .0 .0) ∙ read-refused i (refuse 6 (g .0 .0)) (sym (r .0) ∙ ap refused (g .1))
+    ∙ as-refused i (now (a .out)) (s .pre .1) 6 (g .0 .0) ∙ read-refused i (refuse 6 (g .0 .0)) (sym (l .lay-out .ensures .0) ∙ ap refused (g .1))
 
 returns-3 : tie.Need-returns-3
 unfolding refused
 returns-3 c =
-    let s = c .before .before .before .before .before .before .before .before .before .before .before .before .before .before in
+    let l = c .before .before .before .before in
+    let s = l .before .before .before .before .before .before .before .before .before .before in
     let a = s .args in
     let i = given (a .mode) (now (a .rules)) (now (a .classes)) (now (a .vowels)) (now (a .code)) (now (a .text)) (length (now (a .slots))) (length (now (a .room))) (length (now (a .out))) in
-    let r = c .before .before .before .before .read-line .ensures in
     let g = c .before .enum-told .given in
     ap (λ x. returned x (now (a .out))) (c .refuse2 .ensures)
-    ∙ as-refused i (now (a .out)) (s .pre .1) 7 512 ∙ read-refused i (refuse 7 512) (sym (r .0) ∙ ap refused (g .1))
+    ∙ as-refused i (now (a .out)) (s .pre .1) 7 512 ∙ read-refused i (refuse 7 512) (sym (l .lay-out .ensures .0) ∙ ap refused (g .1))
 
 returns-4 : tie.Need-returns-4
 unfolding refused
 returns-4 c =
-    let s = c .before .before .before .before .before .before .before .before .before .before .before .before .before .before .before in
+    let l = c .before .before .before .before .before in
+    let s = l .before .before .before .before .before .before .before .before .before .before in
     let a = s .args in
     let i = given (a .mode) (now (a .rules)) (now (a .classes)) (now (a .vowels)) (now (a .code)) (now (a .text)) (length (now (a .slots))) (length (now (a .room))) (length (now (a .out))) in
-    let r = c .before .before .before .before .before .read-line .ensures in
     let g = c .before .before .p .given in
     ap (λ x. returned x (now (a .out))) (c .refuse3 .ensures)
-    ∙ as-refused i (now (a .out)) (s .pre .1) 8 (g .0 .0) ∙ read-refused i (refuse 8 (g .0 .0)) (sym (r .0) ∙ ap refused (g .1))
+    ∙ as-refused i (now (a .out)) (s .pre .1) 8 (g .0 .0) ∙ read-refused i (refuse 8 (g .0 .0)) (sym (l .lay-out .ensures .0) ∙ ap refused (g .1))
 
 pub read-spec : {M : Type 1} → statement M
 read-spec =
     tie.close
     (tie.spec
-    slice-aggregate-read-line
-    read-line-requires
+    slice-aggregate-lay-out
+    lay-out-requires
     enum-known-n
+    add-line
+    mul-line
+    array-share-prefix-line
     slice-aggregate-prepare
     prepare-requires
     enum-known-at

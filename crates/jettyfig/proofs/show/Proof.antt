@@ -1,6 +1,7 @@
 -- `jettyfig::show`: what fits stands over zeros, and what doesn't leaves zeros.
 use mathlib.Core.Path.{ap, _∙_}
 use native.Mathlib.Omega.{arith}
+use denote.Ref.{now}
 use Rattle.jettyfig.specs.Verdicts.{returned}
 use Rattle.jettyfig.specs.Calls.{shown-fits, shown-misses}
 use borrow.Author.Needs.{needs}
@@ -22,26 +23,30 @@ same-length c = search needs
 same-length-2 : tie.Need-same-length-2
 same-length-2 c = search needs
 
-returns : tie.Need-returns
-returns c =
-    let a = c .before .before .before .before .before .before .before .before .before .before .before .before .before .before .before .before .before .before .before .before .before .before .before .before .args in
-    let p = c .before .before .before .before .before .before .before .before .before .before .before .before .before .before .before .before .before .before .before .before .before .before .before .before .pre in
-    let x = c .before .before .before .before .before .before .before .before .before .before .put-shown in
-    λ vowels i l. ap (λ r. returned r (c .before .before .before .clear .last .0)) (c .refuse .ensures)
-    ∙ shown-misses _ _ _ _ (x .ensures vowels) (p .4) i l (a .count) _ (c .before .before .before .clear .ensures) (omega arith)
-
 same-length-3 : tie.Need-same-length-3
 same-length-3 c = search needs
+
+returns : tie.Need-returns
+returns c =
+    let x = c .before .before .before .before .before .before .before .before .before .before .before .before in
+    let k = x .before .before .before .before .before .before .before .before .before .before .before .before .before in
+    λ i l vowels w told lent e. ap (λ r. returned r (c .before .before .before .clear .last .0)) (c .refuse .ensures)
+    ∙ shown-misses _ _ _ _ (x .put-shown .ensures vowels w told lent e) (k .pre .1) i l (k .args .built .count) _ (c .before .before .before .clear .ensures) (omega arith)
 
 same-length-4 : tie.Need-same-length-4
 same-length-4 c = search needs
 
+same-length-5 : tie.Need-same-length-5
+same-length-5 c = search needs
+
+same-length-6 : tie.Need-same-length-6
+same-length-6 c = search needs
+
 returns-2 : tie.Need-returns-2
 returns-2 c =
-    let a = c .before .before .before .before .before .before .before .before .before .before .before .before .before .before .before .before .before .before .before .args in
-    let p = c .before .before .before .before .before .before .before .before .before .before .before .before .before .before .before .before .before .before .before .pre in
-    let x = c .before .before .before .before .before .put-shown in
-    λ vowels i l. shown-fits _ _ _ _ (x .ensures vowels) (p .4) i l (a .count) (omega arith)
+    let x = c .before .before .before .before .before .before .before in
+    let k = x .before .before .before .before .before .before .before .before .before .before .before .before .before in
+    λ i l vowels w told lent e. shown-fits _ _ _ _ (x .put-shown .ensures vowels w told lent e) (k .pre .1) i l (k .args .built .count) (omega arith)
 
 pub show-spec : {M : Type 1} → statement M
 show-spec =
@@ -52,7 +57,9 @@ show-spec =
     refuse-requires
     same-length
     same-length-2
-    returns
     same-length-3
+    returns
     same-length-4
+    same-length-5
+    same-length-6
     returns-2)

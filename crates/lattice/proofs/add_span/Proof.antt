@@ -1,53 +1,62 @@
--- `lattice::add_span`: the edge that was found is within the text and ASCII, so it is added as it is.
-use mathlib.Core.Path.{sym, ap, _∙_}
-use mathlib.Core.Option.{some}
-use Prim.Native.Nat.{_+_}
+-- `lattice::add_span`: the edge that was found is within the text, ASCII and near, so it is added as it is.
+use mathlib.Core.Path.{sym, _∙_}
 use native.Mathlib.Omega.{arith}
-use lib.ListN.{length}
 use denote.Ref.{now}
-use Rattle.definition.specs.Edges.{Edge, add, view}
-use Rattle.definition.specs.Building.{span-edge}
-use Rattle.definition.specs.Call.{tables-of}
-use Rattle.definition.specs.Promises.{tables-bounded}
+use Rattle.utf8.specs.Encodings.{low-bytes}
 use Rattle.rom.specs.Rom.{text, text-length, bytes-length}
-use Rattle.edge.specs.Slots.{edges-of}
-use Rattle.edge.specs.Asked.{stored-readable}
-use Rattle.words.specs.Given.{text-in, view-of}
-use Rattle.words.specs.Did.{did-by}
-use Rattle.lattice.specs.Reached.{reached-here, reached-add, reached-wide, reached-as}
-use Rattle.lattice.specs.Turns.{put-in-did}
-use Rattle.lattice.specs.Spelling.{found-not, spelt-writable, spelt-edge, span-spelt}
-use Rattle.spans.specs.Ways.{found-there}
+use Rattle.words.specs.Given.{kinds, lent-after}
+use Rattle.lattice.proofs.Spans.{spelt, span-none, span-writable, span-new, span-added}
 use borrow.Author.Needs.{needs}
 use Rattle.lattice.proofs.add_span.Statement.{statement}
 use Rattle.lattice.proofs.add_span.Tie as tie
 
 span-edge-requires : tie.Need-span-edge-requires
-span-edge-requires c κs =
-    let a = c .before .before .before .before .before .before .before .before .before .before .before .before .before .before .args in
-    let p = c .before .before .before .before .before .before .before .before .before .before .before .before .before .before .pre in
-    (record { read = p .0; edges = stored-readable (now (a .slots)) (now (a .room)) (a .count) (a .used) (p .2) }, p .1, p .4, p .5)
+span-edge-requires c κs = search needs
 
-array-share-prefix-text : tie.Need-array-share-prefix-text
-array-share-prefix-text c = let k = c .before .before .before .before .before .before .span-edge .ensures .1 in omega (arith, bytes-length k, k .fits)
+array-share-prefix-bytes : tie.Need-array-share-prefix-bytes
+array-share-prefix-bytes c = let k = c .before .before .before .before .span-edge .ensures .1 in omega (arith, bytes-length k, k .fits)
 
-slice-aggregate-add-edge : tie.Need-slice-aggregate-add-edge
-slice-aggregate-add-edge c = let k = c .before .before .before .before .before .before .before .span-edge .ensures .1 in sym (text-length k)
+slice-aggregate-text : tie.Need-slice-aggregate-text
+slice-aggregate-text c = let k = c .before .before .before .before .before .span-edge .ensures .1 in sym (text-length k)
+
+ends-in-letter-requires : tie.Need-ends-in-letter-requires
+ends-in-letter-requires c κs = search needs
+
+ending-of-requires : tie.Need-ending-of-requires
+ending-of-requires c κs =
+    let f = c .before .before .before .before .before .before in
+    let k = f .before .before .before .before .before .before .before .before .before .before in
+    let a = k .args in
+    let p = k .pre in
+    let o = p .3 .over in
+    let A = f .span-edge .ensures .0 (p .3 .world) (o .told) (o .lent) in
+    low-bytes (text (f .span-edge .result .rom))
+    (spelt (now (a .rules)) (now (a .vowels)) (now (a .code)) o (p .0) (p .1) (p .2) (f .span-edge .result) A (c .before .before .before .if1 .taken) (p .5) .1 .low)
 
 add-edge-requires : tie.Need-add-edge-requires
-unfolding tables-of
 add-edge-requires c κs =
-    let a = c .before .before .before .before .before .before .before .before .before .before .before .before .before .before .before .before .before .before .before .before .before .before .args in
-    let p = c .before .before .before .before .before .before .before .before .before .before .before .before .before .before .before .before .before .before .before .before .before .before .pre in
-    let f = c .before .before .before .before .before .before .before .span-edge in
-    let D = tables-of (now (a .rules)) (now (a .classes)) (now (a .vowels)) (now (a .code)) in
-    let t = text-in (now (a .line)) (a .n) in
-    let v = view-of (now (a .classes)) (now (a .slots)) (now (a .room)) (a .count) in
-    let l = p .0 .text .long in
-    let few = p .0 .text .few in
-    let ok = tables-bounded (now (a .rules)) (now (a .classes)) (now (a .vowels)) (now (a .code)) (p .0 .table .accepted) (p .0 .text .fine) (p .1) in
-    let h = span-spelt (f .result) D ok t v (a .s) (a .e) (now (a .starts)) (p .4) (omega arith) (f .ensures .0) (c .before .before .before .before .if1 .taken) in
-    (p .2, spelt-writable (f .result) (length t) (a .used) (omega arith) (p .3) h)
+    let f = c .before .before .before .before .before .before .before .before .before .before in
+    let k = f .before .before .before .before .before .before .before .before .before .before in
+    let a = k .args in
+    let p = k .pre in
+    let o = p .3 .over in
+    let r = f .span-edge .result in
+    let A = f .span-edge .ensures .0 (p .3 .world) (o .told) (o .lent) in
+    let h = c .before .before .before .before .before .before .before .if1 .taken in
+    let rules = now (a .rules) in
+    let vowels = now (a .vowels) in
+    let code = now (a .code) in
+    let s = spelt rules vowels code o (p .0) (p .1) (p .2) r A h (p .5) .0 in
+    let forward = s .forward in
+    let inside = s .inside in
+    let long = lent-after (f .span-edge .last .1 .1 .1 .1 .1 .0) (o .lent) (A .kept) .edges .long in (
+      o .stored,
+      span-writable rules vowels code o (p .0) (p .1) (p .2) r A h (p .5),
+      p .4 .most,
+      span-new rules vowels code o (p .0) (p .1) (p .2) r A h (p .5) (p .4),
+      forward,
+      omega (arith, inside, long),
+    )
 
 same-length : tie.Need-same-length
 same-length c = search needs
@@ -59,73 +68,47 @@ same-length-3 : tie.Need-same-length-3
 same-length-3 c = search needs
 
 returns : tie.Need-returns
-unfolding tables-of
 returns c =
-    let a = c .before .before .before .before .before .before .before .before .before .before .before .before .before .before .before .before .before .before .before .before .before .before .before .before .before .before .before .args in
-    let p = c .before .before .before .before .before .before .before .before .before .before .before .before .before .before .before .before .before .before .before .before .before .before .before .before .before .before .before .pre in
-    let f = c .before .before .before .before .before .before .before .before .before .before .before .before .span-edge in
-    let g = c .before .before .before .before .add-edge in
-    let S = now (a .slots) in
-    let R = now (a .room) in
-    let es = edges-of R (a .count) S in
-    let D = tables-of (now (a .rules)) (now (a .classes)) (now (a .vowels)) (now (a .code)) in
-    let t = text-in (now (a .line)) (a .n) in
-    let v = view-of (now (a .classes)) S R (a .count) in
-    let l = p .0 .text .long in
-    let few = p .0 .text .few in
-    let ok = tables-bounded (now (a .rules)) (now (a .classes)) (now (a .vowels)) (now (a .code)) (p .0 .table .accepted) (p .0 .text .fine) (p .1) in
-    let here = c .before .before .before .before .before .before .before .before .before .if1 .taken in
-    let h = span-spelt (f .result) D ok t v (a .s) (a .e) (now (a .starts)) (p .4) (omega arith) (f .ensures .0) here in
-    let w = text (f .result .rom) in
-    let m = f .last .1 .1 .1 .1 .1 .1 .1 .1 .1 .1 .1 .1 .0 in
-    let k = h .1 .long in
-    reached-as _
-    (ap (λ (x : Edge). (add es (some x), m)) (spelt-edge (f .result) (length t) (a .used) (omega arith) (p .3) h)
-    ∙ ap (λ o. (add es o, m)) (sym (found-there (f .result) here))
-    ∙ put-in-did (λ es. span-edge D t (view (D .classes) es) (a .s) (a .e)) es (now (a .starts)) (f .ensures .0))
-    (g .result)
-    (reached-wide (a .used + 198) (omega arith) (g .result)
-    (reached-add S R (a .count) (a .used) (f .result .numbers) w (p .2)
-    (spelt-writable (f .result) (length t) (a .used) (omega arith) (p .3) h) m (g .last .0) (g .last .1 .0) (g .result) (g .ensures .0) (g .ensures .1 .0) (g .ensures .1 .1)))
+    let g = c .before .before .before .before .before .before in
+    let f = g .before .before .before .before .before .before .before .before .before .before .before in
+    let k = f .before .before .before .before .before .before .before .before .before .before in
+    let a = k .args in
+    let p = k .pre in
+    let r = f .span-edge .result in
+    let A = g .add-edge in
+    λ w o.
+    let asked = f .span-edge .ensures .0 w (o .told) (o .lent) in
+    span-added (now (a .rules)) (now (a .vowels)) (now (a .code)) o (p .0) (p .1) (p .2) r asked (g .before .before .before .before .before .before .before .before .if1 .taken) (p .5)
+    (g .before .before .before .before .ending-of .result)
+    (λ x q l. g .before .before .before .before .ending-of .ensures (kinds w) x q (g .before .before .before .before .before .ends-in-letter .ensures ∙ l))
+    (A .last .0) (A .last .1 .0) (A .last .1 .1 .0) (A .result) (A .ensures .0) (A .ensures .1 .0) (A .ensures .1 .1 .0) (A .ensures .1 .1 .1)
 
 same-length-4 : tie.Need-same-length-4
 same-length-4 c = search needs
 
-same-length-5 : tie.Need-same-length-5
-same-length-5 c = search needs
-
-same-length-6 : tie.Need-same-length-6
-same-length-6 c = search needs
-
 returns-2 : tie.Need-returns-2
-unfolding tables-of add
 returns-2 c =
-    let a = c .before .before .before .before .before .before .before .before .before .before .before .before .before .before .before .before .before .before .args in
-    let p = c .before .before .before .before .before .before .before .before .before .before .before .before .before .before .before .before .before .before .pre in
-    let f = c .before .before .before .span-edge in
-    let S = now (a .slots) in
-    let R = now (a .room) in
-    let es = edges-of R (a .count) S in
-    let D = tables-of (now (a .rules)) (now (a .classes)) (now (a .vowels)) (now (a .code)) in
-    let t = text-in (now (a .line)) (a .n) in
-    let m = f .last .1 .1 .1 .1 .1 .1 .1 .1 .1 .1 .1 .1 .0 in
-    reached-as _
-    (put-in-did (λ es. span-edge D t (view (D .classes) es) (a .s) (a .e)) es (now (a .starts)) (did-by (sym (found-not (f .result) (c .if1 .left))) (f .ensures .0)))
-    _ (reached-here S R m (a .count) (a .used) (a .used + 198) (p .2) (omega arith))
+    let f = c .before .before .before in
+    let k = f .before .before .before .before .before .before .before .before .before .before in
+    let a = k .args in
+    let p = k .pre in
+    λ w o.
+    span-none (now (a .rules)) (now (a .vowels)) (now (a .code)) o (p .0) (p .1) (p .2) (f .span-edge .result)
+    (f .span-edge .ensures .0 w (o .told) (o .lent)) (c .if1 .left)
 
 pub add-span-spec : {M : Type 1} → statement M
 add-span-spec =
     tie.close
     (tie.spec
     span-edge-requires
-    array-share-prefix-text
-    slice-aggregate-add-edge
+    array-share-prefix-bytes
+    slice-aggregate-text
+    ends-in-letter-requires
+    ending-of-requires
     add-edge-requires
     same-length
     same-length-2
     same-length-3
     returns
     same-length-4
-    same-length-5
-    same-length-6
     returns-2)

@@ -1,16 +1,18 @@
--- `lattice::build_lattice`: the second pass goes on where the first one ended.
-use mathlib.Core.Path.{subst, sym}
-use mathlib.Core.List.{[]}
-use Prim.Native.Nat.{_*_}
+-- `lattice::build_lattice`: the fallbacks come behind the first pass; a refusal of either is the whole's.
+use mathlib.Core.Path.{_≡_, sym, ap, _∙_, subst}
+use Prim.Native.Nat.{_+_, _*_}
 use native.Mathlib.Omega.{arith}
 use denote.Ref.{now}
-use Rattle.definition.specs.Edges.{State}
+use Rattle.definition.specs.Limits.{most-source, most-bytes, most-edges, most-characters}
+use Rattle.definition.specs.Edges.{Mem, State}
 use Rattle.definition.specs.Building.{each, build, fall}
-use Rattle.definition.specs.Call.{tables-of}
 use Rattle.definition.specs.Growth.{each-grown, fall-grown}
-use Rattle.words.specs.Given.{text-in}
-use Rattle.lattice.specs.Reached.{Reached, Refused, reached-then, reached-wide, reached-refused, reached-as}
-use Rattle.lattice.specs.Turns.{both-passes}
+use Rattle.definition.specs.Call.{tables-of}
+use Rattle.edge.specs.declared.Filled.{Filled}
+use Rattle.words.specs.Given.{kinds, size, size-in, line-size}
+use Rattle.lattice.specs.Reached.{state-of, with-edges, over-now, Reached, Refused, reached-wide, reached-refused, reached-as, reached-since}
+use Rattle.lattice.specs.Starts.{Began, Standing}
+use Rattle.lattice.proofs.Passes.{whole-lattice}
 use borrow.Author.Needs.{needs}
 use Rattle.lattice.proofs.build_lattice.Statement.{statement}
 use Rattle.lattice.proofs.build_lattice.Tie as tie
@@ -22,16 +24,32 @@ enum-known-done : tie.Need-enum-known-done
 enum-known-done c = search needs
 
 add-rom-fall-back-singles-requires : tie.Need-add-rom-fall-back-singles-requires
+unfolding tables-of
 add-rom-fall-back-singles-requires c κs =
-    let a = c .before .before .before .before .before .before .before .before .before .before .before .before .before .before .before .before .before .before .before .before .before .before .before .before .before .before .before .before .args in
-    let p = c .before .before .before .before .before .before .before .before .before .before .before .before .before .before .before .before .before .before .before .before .before .before .before .before .before .before .before .before .pre in
-    let D = tables-of (now (a .rules)) (now (a .classes)) (now (a .vowels)) (now (a .code)) in
-    let t = text-in (now (a .line)) (a .n) in
-    let first : State = each (build D t) (a .n) 0 ([], now (a .starts)) in
-    let w = c .before .before .before .before .done .given in
-    let few = p .0 .text .few in
-    let b = subst (Reached (now (a .slots)) (now (a .room)) _ _ _ (a .n * 3168) first) (w .1) (c .before .before .before .before .before .before .before .before .before .before .before .before .add-romanization .ensures) in
-    (p .0, p .1, b .told .1, omega (arith, b .told .2, few), p .2)
+    let b = c .before .before .before .before .before .before .before .before .before .before .before .before .before .before .before in
+    let k = b .before .before .before .before .before .before .before .before .before .before .before .before .before .before .before in
+    let a = k .args in
+    let p = k .pre in
+    let n = size-in (now (a .line)) in
+    let d = c .before .before .before .before .before .done .given in
+    let w = p .3 .world in
+    let o = p .3 .over in
+    let x = b .add-romanization in
+    let S = x .last .1 .1 .1 .1 .1 .0 in
+    let R = x .last .1 .1 .1 .1 .1 .1 .0 in
+    let P = x .last .1 .1 .1 .1 .1 .1 .1 .0 in
+    let D = tables-of (now (a .rules)) (w .classes) (now (a .vowels)) (now (a .code)) in
+    let first : State = each (build D (w .text)) (size w) 0 (state-of w (now (a .places))) in
+    let came = subst (Reached (kinds w) (size w) (now (a .slots)) (now (a .room)) S R P (n * (most-source * most-bytes)) first) (d .1) (x .ensures .0 w o) .came in
+    let F : Filled = record { count = d .0 .0; used = d .0 .1 .0; since = d .0 .0 } in
+    let few = o .lent .text .few in
+    let used = came .1 in (
+      p .0,
+      p .2,
+      omega (arith, used, few, line-size (o .lent .text)),
+      record { world = with-edges w (first .0); over = over-now (o .told) (o .lent .text) S R P F first (came .0) },
+      subst (Began S R n (x .last .1 .1 .1 .1 .1 .1 .1 .1 .0)) (d .1) (x .ensures .1),
+    )
 
 enum-told : tie.Need-enum-told
 enum-told c = search needs
@@ -48,23 +66,41 @@ same-length-2 c = search needs
 same-length-3 : tie.Need-same-length-3
 same-length-3 c = search needs
 
-returns : tie.Need-returns
-returns c =
-    let a = c .before .before .before .before .before .before .before .before .before .before .before .before .before .before .before .before .before .before .before .before .before .before .before .before .before .before .before .before .before .before .before .before .before .before .before .args in
-    let p = c .before .before .before .before .before .before .before .before .before .before .before .before .before .before .before .before .before .before .before .before .before .before .before .before .before .before .before .before .before .before .before .before .before .before .before .pre in
-    let D = tables-of (now (a .rules)) (now (a .classes)) (now (a .vowels)) (now (a .code)) in
-    let t = text-in (now (a .line)) (a .n) in
-    let first : State = each (build D t) (a .n) 0 ([], now (a .starts)) in
-    let w = c .before .before .before .before .before .before .before .before .before .before .before .done .given in
-    let few = p .0 .text .few in
-    let x = c .before .before .before .before .before .before .add-rom-fall-back-singles in
-    let b = subst (Reached (now (a .slots)) (now (a .room)) _ _ _ (a .n * 3168) first) (w .1) (c .before .before .before .before .before .before .before .before .before .before .before .before .before .before .before .before .before .before .before .add-romanization .ensures) in
-    let k = b .told .2 in
-    reached-as _ (both-passes D t (a .n) (now (a .starts)) (p .0 .text .long) (p .3)) (x .result)
-    (reached-wide 1723392 (omega (arith, k, few)) (x .result) (reached-then b (each (fall D t) (a .n) 0) (x .result) (x .ensures)))
-
 same-length-4 : tie.Need-same-length-4
 same-length-4 c = search needs
+
+returns : tie.Need-returns
+unfolding tables-of
+returns c =
+    let y = c .before .before .before .before .before .before .before .before .add-rom-fall-back-singles in
+    let q = c .before .before .before .before .before .before .before .before .before in
+    let b = q .before .before .before .before .before .before .before .before .before .before .before .before .before .before .before in
+    let k = b .before .before .before .before .before .before .before .before .before .before .before .before .before .before .before in
+    let a = k .args in
+    let p = k .pre in
+    let n = size-in (now (a .line)) in
+    let d = q .before .before .before .before .before .done .given in
+    let x = b .add-romanization in
+    let S = x .last .1 .1 .1 .1 .1 .0 in
+    let R = x .last .1 .1 .1 .1 .1 .1 .0 in
+    let P = x .last .1 .1 .1 .1 .1 .1 .1 .0 in
+    let F : Filled = record { count = d .0 .0; used = d .0 .1 .0; since = d .0 .0 } in (
+      λ w o.
+          let D = tables-of (now (a .rules)) (w .classes) (now (a .vowels)) (now (a .code)) in
+          let t = w .text in
+          let first : State = each (build D t) (size w) 0 (state-of w (now (a .places))) in
+          let sized = line-size (o .lent .text) in
+          let is = whole-lattice D o (n + 1) (p .4) (omega (arith, sized)) in
+          let few = o .lent .text .few in
+          let b = subst (Reached (kinds w) (size w) (now (a .slots)) (now (a .room)) S R P (n * (most-source * most-bytes)) first) (d .1) (x .ensures .0 w o) in
+          let z = y .ensures .0 (now (a .vowels)) (with-edges w (first .0)) (over-now (o .told) (o .lent .text) S R P F first (b .came .0)) in
+          let same = ap (λ (m : Mem). each (fall D t) (size w) 0 (first .0, m)) (b .came .0 .remembered) in
+          let used = b .came .1 in
+          reached-as _ (same ∙ is) (y .result)
+          (reached-wide (most-edges * most-characters * most-bytes) (omega (arith, used, few, sized)) (y .result)
+          (reached-since (now (a .slots)) (now (a .room)) (b .slots) (b .room) (y .result) z)),
+      y .ensures .1,
+    )
 
 same-length-5 : tie.Need-same-length-5
 same-length-5 c = search needs
@@ -72,38 +108,69 @@ same-length-5 c = search needs
 same-length-6 : tie.Need-same-length-6
 same-length-6 c = search needs
 
-returns-2 : tie.Need-returns-2
-returns-2 c =
-    let a = c .before .before .before .before .before .before .before .before .before .before .before .before .before .before .before .before .before .before .before .before .before .before .before .before .args in
-    let p = c .before .before .before .before .before .before .before .before .before .before .before .before .before .before .before .before .before .before .before .before .before .before .before .before .pre in
-    let D = tables-of (now (a .rules)) (now (a .classes)) (now (a .vowels)) (now (a .code)) in
-    let t = text-in (now (a .line)) (a .n) in
-    let first : State = each (build D t) (a .n) 0 ([], now (a .starts)) in
-    let x = c .before .before .before .before .before .before .before .before .add-romanization in
-    reached-as _ (both-passes D t (a .n) (now (a .starts)) (p .0 .text .long) (p .3)) (x .result)
-    (reached-refused (λ y. Unit {0}) 1723392 (each (fall D t) (a .n) 0 first) (each-grown (fall D t) 1 (fall-grown D t) (a .n) 0 first .added)
-    (x .result) (subst Refused (sym (c .enum-told .given .1)) tt) (x .ensures))
-
 same-length-7 : tie.Need-same-length-7
 same-length-7 c = search needs
 
 same-length-8 : tie.Need-same-length-8
 same-length-8 c = search needs
 
+returns-2 : tie.Need-returns-2
+unfolding tables-of
+returns-2 c =
+    let b = c .before .before .before .before .before .before .before .before .before .before in
+    let k = b .before .before .before .before .before .before .before .before .before .before .before .before .before .before .before in
+    let a = k .args in
+    let p = k .pre in
+    let n = size-in (now (a .line)) in
+    let x = b .add-romanization in
+    let e = c .enum-told .given .1 in (
+      λ w o.
+          let D = tables-of (now (a .rules)) (w .classes) (now (a .vowels)) (now (a .code)) in
+          let t = w .text in
+          let first : State = each (build D t) (size w) 0 (state-of w (now (a .places))) in
+          let sized = line-size (o .lent .text) in
+          let is = whole-lattice D o (n + 1) (p .4) (omega (arith, sized)) in
+          let few = o .lent .text .few in
+          reached-as _ is (x .result)
+          (reached-refused (λ y. Unit {0}) (most-edges * most-characters * most-bytes) (each (fall D t) (size w) 0 first)
+          (each-grown (fall D t) 1 (fall-grown D t) (size w) 0 first .added) (x .result) (subst Refused (sym e) tt) (x .ensures .0 w o)),
+      subst (Standing (x .last .1 .1 .1 .1 .1 .0) (x .last .1 .1 .1 .1 .1 .1 .1 .1 .0)) (sym e) tt,
+    )
+
 same-length-9 : tie.Need-same-length-9
 same-length-9 c = search needs
 
+same-length-10 : tie.Need-same-length-10
+same-length-10 c = search needs
+
+same-length-11 : tie.Need-same-length-11
+same-length-11 c = search needs
+
+same-length-12 : tie.Need-same-length-12
+same-length-12 c = search needs
+
 returns-3 : tie.Need-returns-3
+unfolding tables-of
 returns-3 c =
-    let a = c .before .before .before .before .before .before .before .before .before .before .before .before .before .before .before .before .before .before .before .before .before .before .before .before .args in
-    let p = c .before .before .before .before .before .before .before .before .before .before .before .before .before .before .before .before .before .before .before .before .before .before .before .before .pre in
-    let D = tables-of (now (a .rules)) (now (a .classes)) (now (a .vowels)) (now (a .code)) in
-    let t = text-in (now (a .line)) (a .n) in
-    let first : State = each (build D t) (a .n) 0 ([], now (a .starts)) in
-    let x = c .before .before .before .before .before .before .before .before .add-romanization in
-    reached-as _ (both-passes D t (a .n) (now (a .starts)) (p .0 .text .long) (p .3)) (x .result)
-    (reached-refused (λ y. Unit {0}) 1723392 (each (fall D t) (a .n) 0 first) (each-grown (fall D t) 1 (fall-grown D t) (a .n) 0 first .added)
-    (x .result) (subst Refused (sym (c .enum-told2 .given .1)) tt) (x .ensures))
+    let b = c .before .before .before .before .before .before .before .before .before .before in
+    let k = b .before .before .before .before .before .before .before .before .before .before .before .before .before .before .before in
+    let a = k .args in
+    let p = k .pre in
+    let n = size-in (now (a .line)) in
+    let x = b .add-romanization in
+    let e = c .enum-told2 .given .1 in (
+      λ w o.
+          let D = tables-of (now (a .rules)) (w .classes) (now (a .vowels)) (now (a .code)) in
+          let t = w .text in
+          let first : State = each (build D t) (size w) 0 (state-of w (now (a .places))) in
+          let sized = line-size (o .lent .text) in
+          let is = whole-lattice D o (n + 1) (p .4) (omega (arith, sized)) in
+          let few = o .lent .text .few in
+          reached-as _ is (x .result)
+          (reached-refused (λ y. Unit {0}) (most-edges * most-characters * most-bytes) (each (fall D t) (size w) 0 first)
+          (each-grown (fall D t) 1 (fall-grown D t) (size w) 0 first .added) (x .result) (subst Refused (sym e) tt) (x .ensures .0 w o)),
+      subst (Standing (x .last .1 .1 .1 .1 .1 .0) (x .last .1 .1 .1 .1 .1 .1 .1 .1 .0)) (sym e) tt,
+    )
 
 pub build-lattice-spec : {M : Type 1} → statement M
 build-lattice-spec =
@@ -117,12 +184,15 @@ build-lattice-spec =
     same-length
     same-length-2
     same-length-3
-    returns
     same-length-4
+    returns
     same-length-5
     same-length-6
-    returns-2
     same-length-7
     same-length-8
+    returns-2
     same-length-9
+    same-length-10
+    same-length-11
+    same-length-12
     returns-3)

@@ -1,13 +1,15 @@
 -- `lattice::fall_back_at`: nothing is added where an edge covers the character, and the fallback else.
-use mathlib.Core.Path.{sym, _∙_}
+use mathlib.Core.List.{List}
+use mathlib.Core.Path.{sym, ap, _∙_}
 use Prim.Native.Nat.{_+_}
 use native.Mathlib.Omega.{arith}
 use denote.Ref.{now}
+use Rattle.definition.specs.Limits.{most-bytes}
+use Rattle.definition.specs.Edges.{Edge, covered}
 use Rattle.definition.specs.Call.{tables-of}
-use Rattle.edge.specs.Slots.{edges-of}
-use Rattle.words.specs.Given.{text-in}
-use Rattle.lattice.specs.Reached.{reached-here, reached-as}
+use Rattle.lattice.specs.Reached.{state-of, over-keeps, reached-here, reached-as}
 use Rattle.lattice.specs.Turns.{fall-covered, fall-bare}
+use Rattle.lattice.proofs.Falls.{at-inside, told-over}
 use borrow.Author.Needs.{needs}
 use Rattle.lattice.proofs.fall_back_at.Statement.{statement}
 use Rattle.lattice.proofs.fall_back_at.Tie as tie
@@ -20,19 +22,26 @@ same-length c = search needs
 
 returns : tie.Need-returns
 returns c =
-    let a = c .before .before .before .before .before .before .before .before .before .before .before .before .before .before .before .args in
-    let p = c .before .before .before .before .before .before .before .before .before .before .before .before .before .before .before .pre in
-    let S = now (a .slots) in
-    let R = now (a .room) in
-    let D = tables-of (now (a .rules)) (now (a .classes)) (now (a .vowels)) (now (a .code)) in
-    let t = text-in (now (a .line)) (a .n) in
-    let m = now (a .starts) in
-    let es = edges-of R (a .count) S in
-    reached-as _ (sym (fall-covered D t (a .p) (es, m) (sym (c .before .is-covered .ensures R) ∙ c .if1 .taken)))
-    _ (reached-here S R m (a .count) (a .used) (a .used + 198) (p .2) (omega arith))
+    let k = c .before .before .before .before .before .before .before .before .before .before .before in
+    let a = k .args in
+    let p = k .pre in
+    let q = c .before .is-covered in
+    λ vowels w o.
+    let D = tables-of (now (a .rules)) (w .classes) vowels (now (a .code)) in
+    let h = told-over o (a .here .p) (at-inside (p .1) (o .lent .text)) (q .result) (q .ensures) ∙ c .if1 .taken in
+    reached-as _ (sym (fall-covered D (w .text) (a .here .p) (state-of w (now (a .places))) h)) _
+    (reached-here (a .filled .used + most-bytes) (over-keeps o) (omega arith))
 
 add-fallback-requires : tie.Need-add-fallback-requires
-add-fallback-requires c κs = search needs
+add-fallback-requires c κs =
+    let i = c .before .before .before in
+    let k = i .before .before .before .before .before .before .before .before .before .before .before in
+    let a = k .args in
+    let p = k .pre in
+    let o = p .3 .over in
+    let q = i .before .is-covered in
+    let h = told-over o (a .here .p) (at-inside (p .1) (o .lent .text)) (q .result) (q .ensures) ∙ i .if1 .left in
+    (p .0, p .1, p .2, p .3, record { all = p .4; uncovered = ap (λ (es : List Edge). covered es (a .here .p)) (o .edges) ∙ h })
 
 same-length-2 : tie.Need-same-length-2
 same-length-2 c = search needs
@@ -45,16 +54,17 @@ same-length-4 c = search needs
 
 returns-2 : tie.Need-returns-2
 returns-2 c =
-    let a = c .before .before .before .before .before .before .before .before .before .before .before .before .before .before .before .before .before .before .before .before .before .before .before .before .before .args in
-    let S = now (a .slots) in
-    let R = now (a .room) in
-    let D = tables-of (now (a .rules)) (now (a .classes)) (now (a .vowels)) (now (a .code)) in
-    let t = text-in (now (a .line)) (a .n) in
-    let m = now (a .starts) in
-    let es = edges-of R (a .count) S in
-    let g = c .before .before .before .before .before .before .add-fallback in
-    reached-as _ (sym (fall-bare D t (a .p) (es, m) (sym (c .before .before .before .before .before .before .before .before .before .before .before .is-covered .ensures R) ∙ c .before .before .before .before .before .before .before .before .before .before .if1 .left)))
-    (g .result) (g .ensures)
+    let g = c .before .before .before .before .before .before in
+    let i = g .before .before .before .before in
+    let k = i .before .before .before .before .before .before .before .before .before .before .before in
+    let a = k .args in
+    let p = k .pre in
+    let q = i .before .is-covered in
+    let A = g .add-fallback in
+    λ vowels w o.
+    let D = tables-of (now (a .rules)) (w .classes) vowels (now (a .code)) in
+    let h = told-over o (a .here .p) (at-inside (p .1) (o .lent .text)) (q .result) (q .ensures) ∙ i .if1 .left in
+    reached-as _ (sym (fall-bare D (w .text) (a .here .p) (state-of w (now (a .places))) h)) (A .result) (A .ensures vowels w o)
 
 pub fall-back-at-spec : {M : Type 1} → statement M
 fall-back-at-spec =

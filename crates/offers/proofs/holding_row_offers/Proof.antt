@@ -8,7 +8,7 @@ use Rattle.base.specs.Lists.{any, same}
 use Rattle.definition.specs.RuleRows.{rule-of}
 use Rattle.definition.specs.Offers.{offers}
 use Rattle.edge.specs.Slots.{edge-by}
-use Rattle.offers.specs.Texts.{texts}
+use Rattle.offers.specs.Texts.{texts, most-offers}
 use borrow.Author.Needs.{needs}
 use Rattle.offers.proofs.holding_row_offers.Statement.{statement}
 use Rattle.offers.proofs.holding_row_offers.Tie as tie
@@ -24,7 +24,7 @@ returns c =
     let a = c .before .before .before .before .before .before .before .args in
     let l = texts (offers (edge-by (a .e) (now (a .text))) (rule-of (drop (a .row) (now (a .rules))))) in
     let n = any (same (now (a .w))) in
-    c .row-offers .ensures .0 ∙ ap n (take-all 256 l (c .row-offers .ensures .1))
+    c .row-offers .ensures .0 ∙ ap n (take-all most-offers l (c .row-offers .ensures .1))
     ∙ sym (ap (λ (y : Bool). y && n l) (sym (c .before .before .holds .ensures) ∙ c .before .if1 .taken))
 
 returns-2 : tie.Need-returns-2

@@ -12,7 +12,7 @@ use Rattle.definition.specs.RuleRows.{rule-of}
 use Rattle.definition.specs.Offers.{offers}
 use Rattle.edge.specs.Slots.{edge-by}
 use Rattle.rom.specs.Rom.{len-by, text-by, clean-by, bytes-length, text-length}
-use Rattle.offers.specs.Texts.{texts, texts-count, texts-few}
+use Rattle.offers.specs.Texts.{most-offers, texts, texts-count, texts-few}
 use Rattle.offers.proofs.Seeking.{left-of, left-over, left-none, left-turn}
 use borrow.Author.Needs.{needs}
 use Rattle.offers.proofs.row_offers.Statement.{statement}
@@ -38,7 +38,7 @@ W l = now (l .before .before .before .before .before .before .args .w)
 abbrev M : At → ℕ
 M l = l .before .before .before .before .before .before .args .most
 
-few : (l : At) → length (L l) ≤ 256
+few : (l : At) → length (L l) ≤ most-offers
 few l = texts-few (l .before .before .offers-of .ensures .0) (l .before .before .offers-of .ensures .1)
 
 within : (l : At) → length (L l) ≡ l .before .offers-count .result

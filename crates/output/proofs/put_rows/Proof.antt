@@ -1,79 +1,132 @@
 -- `output::put_rows`: by its mode all edges, or the path and what is put behind it.
-use mathlib.Core.Bool.{true}
-use mathlib.Core.Path.{sym, ap, _∙_}
+use mathlib.Core.Bool.{Bool, true, false}
+use mathlib.Core.List.{List}
+use mathlib.Core.Path.{_≡_, sym, ap, _∙_, subst}
+use Prim.Native.Nat.{ℕ, _-_}
 use native.Mathlib.Omega.{arith}
+use lib.ListN.{length}
 use denote.Ref.{now}
 use Rattle.definition.specs.Tables.{lexicon}
-use Rattle.definition.specs.Edges.{view}
-use Rattle.definition.specs.Paths.{path-from}
+use Rattle.definition.specs.Edges.{Edge, State, view}
+use Rattle.definition.specs.Paths.{joined, path-from, path-of, sorted}
 use Rattle.definition.specs.Offers.{found-all}
+use Rattle.definition.specs.Bounds.{Sound}
+use Rattle.definition.specs.Utf8.{encoded}
 use Rattle.definition.specs.Call.{tables-of}
+use Rattle.base.specs.Alls.{All}
 use Rattle.edge.specs.Slots.{edges-of}
+use Rattle.edge.specs.Asked.{stored-readable}
+use Rattle.places.specs.Shows.{memory}
+use Rattle.standing.specs.Starts.{end-of}
 use Rattle.listing.specs.Items.{put-items, put-items-append}
-use Rattle.words.specs.Given.{text-in}
+use Rattle.words.specs.Given.{World, seen, size, line-size}
 use Rattle.output.specs.Shows.{lists-all, lists-alternatives, lists-path}
 use borrow.Author.Needs.{needs}
 use Rattle.output.proofs.put_rows.Statement.{statement}
 use Rattle.output.proofs.put_rows.Tie as tie
 
 put-all-edges-requires : tie.Need-put-all-edges-requires
-put-all-edges-requires c κs = search needs
+put-all-edges-requires c κs =
+    let q = c .before .before .before .before .before .before .before .before .before .before .before .before .before in
+    let a = q .args in
+    let h = q .pre in
+    let S = now (a .slots) in
+    let R = now (a .room) in
+    let n = h .short in
+    let long = h .sized in
+    (stored-readable S R (a .built .count) (a .built .used) (h .stored), h .stands, h .few, omega (arith, n, long), omega arith)
 
 same-length : tie.Need-same-length
 same-length c = search needs
 
-returns : tie.Need-returns
-returns c vowels =
-    let q = c .before .before .before .before .before .before .before .before .before .before .before .before .before .before .before .before in
-    let a = q .args in
-    let D = tables-of (now (a .rules)) (now (a .classes)) vowels (now (a .code)) in
-    let t = text-in (now (a .line)) (a .n) in
-    let es = edges-of (now (a .room)) (a .count) (now (a .slots)) in
-    let l = q .pre .0 .read .text .long in
-    c .before .before .put-all-edges .ensures
-    ∙ sym (ap (λ k. put-items true k (5, now (a .out))) (lists-all D t (a .n) l (a .mode) es (now (a .starts)) (omega arith)))
-
-put-path-requires : tie.Need-put-path-requires
-put-path-requires c κs = search needs
-
-put-alternatives-requires : tie.Need-put-alternatives-requires
-put-alternatives-requires c κs = search needs
-
 same-length-2 : tie.Need-same-length-2
 same-length-2 c = search needs
+
+returns : tie.Need-returns
+returns c =
+    let q = c .before .before .before .before .before .before .before .before .before .before .before .before .before .before .before .before in
+    let a = q .args in
+    let h = q .pre in
+    λ vowels w told lent e.
+    let D = tables-of (now (a .rules)) (w .classes) vowels (now (a .code)) in
+    let n = end-of (now (a .starts)) in
+    let m = memory (size w) (now (a .places)) in
+    let long : size w ≡ n = omega (arith, line-size (lent .text), h .sized) in
+    c .before .before .put-all-edges .ensures ∙ ap (λ (es : List Edge). put-items true (sorted es n 0) (5, now (a .out))) e
+    ∙ sym (ap (λ (l : List Edge). put-items true l (5, now (a .out))) (lists-all D (w .text) n long (a .built .mode) (w .edges) m (omega arith)))
+
+put-path-requires : tie.Need-put-path-requires
+put-path-requires c κs =
+    let q = c .before .before .before .before .before .before .before .before .before .before .before .before .before in
+    let a = q .args in
+    let h = q .pre in
+    let S = now (a .slots) in
+    let R = now (a .room) in
+    let n = h .short in
+    let long = h .sized in
+    (stored-readable S R (a .built .count) (a .built .used) (h .stored), h .stands, omega (arith, n, long), omega arith)
+
+put-alternatives-requires : tie.Need-put-alternatives-requires
+put-alternatives-requires c κs =
+    let q = c .before .before .before .before .before .before .before .before .before .before .before .before .before .before .before .before .before .before .before .before .before in
+    let a = q .args in
+    let h = q .pre in
+    let end = c .before .before .before .before .before .before .before .put-path .ensures .1 in
+    let short = h .short in
+    let long = h .sized in
+    (h .table, h .stored, h .stands, h .sized, h .sound, h .short, omega (arith, end, short, long))
 
 same-length-3 : tie.Need-same-length-3
 same-length-3 c = search needs
 
-returns-2 : tie.Need-returns-2
-unfolding tables-of
-returns-2 c vowels =
-    let q = c .before .before .before .before .before .before .before .before .before .before .before .before .before .before .before .before .before .before .before .before .before .before .before .before in
-    let a = q .args in
-    let D = tables-of (now (a .rules)) (now (a .classes)) vowels (now (a .code)) in
-    let t = text-in (now (a .line)) (a .n) in
-    let es = edges-of (now (a .room)) (a .count) (now (a .slots)) in
-    let l = q .pre .0 .read .text .long in
-    let ps = path-from (a .n) 0 es in
-    let fs = found-all (lexicon D) t (view (D .classes) es) (now (a .starts)) ps in
-    c .before .before .before .before .put-alternatives .ensures
-    ∙ ap (put-items true fs) (c .before .before .before .before .before .before .before .before .before .before .put-path .ensures .0)
-    ∙ sym (put-items-append true ps fs (5, now (a .out)))
-    ∙ sym (ap (λ k. put-items true k (5, now (a .out))) (lists-alternatives D t (a .n) l (a .mode) es (now (a .starts)) (omega arith) (q .pre .1)))
-
 same-length-4 : tie.Need-same-length-4
 same-length-4 c = search needs
 
-returns-3 : tie.Need-returns-3
-returns-3 c vowels =
-    let q = c .before .before .before .before .before .before .before .before .before .before .before .before .before .before .before .before .before in
+same-length-5 : tie.Need-same-length-5
+same-length-5 c = search needs
+
+returns-2 : tie.Need-returns-2
+unfolding tables-of
+returns-2 c =
+    let g = c .before .before .before .before .before .before in
+    let f = g .before .before .before .before .before .before .before .before in
+    let q = f .before .before .before .before .before .before .before .before .before .before .before .before .before .before in
     let a = q .args in
-    let D = tables-of (now (a .rules)) (now (a .classes)) vowels (now (a .code)) in
-    let t = text-in (now (a .line)) (a .n) in
-    let es = edges-of (now (a .room)) (a .count) (now (a .slots)) in
-    let l = q .pre .0 .read .text .long in
-    c .before .before .before .put-path .ensures .0
-    ∙ sym (ap (λ k. put-items true k (5, now (a .out))) (lists-path D t (a .n) l (a .mode) es (now (a .starts)) (omega (arith, q .pre .3))))
+    let h = q .pre in
+    λ vowels w told lent e.
+    let D = tables-of (now (a .rules)) (w .classes) vowels (now (a .code)) in
+    let n = end-of (now (a .starts)) in
+    let m = memory (size w) (now (a .places)) in
+    let long : size w ≡ n = omega (arith, line-size (lent .text), h .sized) in
+    let ps = path-from n 0 (w .edges) in
+    let fs = found-all (lexicon D) (w .text) (view (D .classes) (w .edges)) m ps in
+    let path = ap (λ (k : ℕ). path-from k 0 (w .edges)) long in
+    g .put-alternatives .ensures w told lent e
+    ∙ ap (λ (l : List Edge). put-items true (found-all (lexicon D) (w .text) (view (D .classes) (w .edges)) m l) (f .put-path .result, f .put-path .last .0)) path
+    ∙ ap (put-items true fs) (f .put-path .ensures .0 ∙ ap (λ (es : List Edge). put-items true (path-from n 0 es) (5, now (a .out))) e)
+    ∙ sym (put-items-append true ps fs (5, now (a .out)))
+    ∙ sym (ap (λ (l : List Edge). put-items true l (5, now (a .out))) (lists-alternatives D (w .text) n long (a .built .mode) (w .edges) m (omega (arith, g .before .before .before .before .if2 .taken))
+    (subst (λ (k : ℕ). All (Sound k) (w .edges)) (omega (arith, h .sized)) (subst (All (Sound _)) e (h .sound)))))
+
+same-length-6 : tie.Need-same-length-6
+same-length-6 c = search needs
+
+same-length-7 : tie.Need-same-length-7
+same-length-7 c = search needs
+
+returns-3 : tie.Need-returns-3
+returns-3 c =
+    let q = c .before .before .before .before .before .before .before .before .before .before .before .before .before .before .before .before .before .before in
+    let a = q .args in
+    let h = q .pre in
+    λ vowels w told lent e.
+    let D = tables-of (now (a .rules)) (w .classes) vowels (now (a .code)) in
+    let n = end-of (now (a .starts)) in
+    let m = memory (size w) (now (a .places)) in
+    let long : size w ≡ n = omega (arith, line-size (lent .text), h .sized) in
+    let mode = h .mode in
+    c .before .before .before .before .put-path .ensures .0 ∙ ap (λ (es : List Edge). put-items true (path-from n 0 es) (5, now (a .out))) e
+    ∙ sym (ap (λ (l : List Edge). put-items true l (5, now (a .out))) (lists-path D (w .text) n long (a .built .mode) (w .edges) m (omega (arith, mode))))
 
 pub put-rows-spec : {M : Type 1} → statement M
 put-rows-spec =
@@ -81,11 +134,14 @@ put-rows-spec =
     (tie.spec
     put-all-edges-requires
     same-length
+    same-length-2
     returns
     put-path-requires
     put-alternatives-requires
-    same-length-2
     same-length-3
-    returns-2
     same-length-4
+    same-length-5
+    returns-2
+    same-length-6
+    same-length-7
     returns-3)

@@ -1,67 +1,100 @@
 -- `output::put_shown`: the path's string, or the rows and then the header in front of them.
-use mathlib.Core.List.{[]}
-use mathlib.Core.Path.{sym, ap, _∙_, subst}
+use mathlib.Core.Bool.{Bool, true, false}
+use mathlib.Core.List.{List, []}
+use mathlib.Core.Path.{_≡_, sym, ap, _∙_, subst}
+use Prim.Native.Nat.{ℕ, _-_}
 use native.Mathlib.Omega.{arith}
+use lib.ListN.{length}
 use denote.Ref.{now}
+use Rattle.definition.specs.Tables.{lexicon}
+use Rattle.definition.specs.Edges.{Edge, State, view}
+use Rattle.definition.specs.Paths.{joined, path-from, path-of, sorted}
+use Rattle.definition.specs.Offers.{found-all}
+use Rattle.definition.specs.Bounds.{Sound}
 use Rattle.definition.specs.Utf8.{encoded}
-use Rattle.definition.specs.Edges.{State}
-use Rattle.definition.specs.Paths.{joined, path-from, path-of}
 use Rattle.definition.specs.Call.{tables-of}
+use Rattle.base.specs.Alls.{All}
 use Rattle.edge.specs.Slots.{edges-of}
-use Rattle.words.specs.Given.{text-in}
+use Rattle.edge.specs.Asked.{stored-readable}
+use Rattle.places.specs.Shows.{memory}
+use Rattle.standing.specs.Starts.{end-of}
+use Rattle.listing.specs.Items.{put-items, put-items-append}
+use Rattle.words.specs.Given.{World, seen, size, line-size}
 use Rattle.output.specs.Shows.{Shows, listed, shown-string, shown-listed, shows-string, rows-end, shows-listing}
 use borrow.Author.Needs.{needs}
 use Rattle.output.proofs.put_shown.Statement.{statement}
 use Rattle.output.proofs.put_shown.Tie as tie
 
 put-path-requires : tie.Need-put-path-requires
-put-path-requires c κs = search needs
+put-path-requires c κs =
+    let q = c .before .before .before .before .before .before .before .before .before .before .before .before .before in
+    let a = q .args in
+    let h = q .pre in
+    let S = now (a .slots) in
+    let R = now (a .room) in
+    let n = h .short in
+    let long = h .sized in
+    (stored-readable S R (a .built .count) (a .built .used) (h .stored), h .stands, omega (arith, n, long), omega arith)
 
 same-length : tie.Need-same-length
 same-length c = search needs
 
+same-length-2 : tie.Need-same-length-2
+same-length-2 c = search needs
+
 returns : tie.Need-returns
 unfolding path-of
-returns c vowels =
+returns c =
     let q = c .before .before .before .before .before .before .before .before .before .before .before .before .before .before .before .before in
     let a = q .args in
-    let D = tables-of (now (a .rules)) (now (a .classes)) vowels (now (a .code)) in
-    let t = text-in (now (a .line)) (a .n) in
-    let es = edges-of (now (a .room)) (a .count) (now (a .slots)) in
-    let l = q .pre .0 .read .text .long in
-    let st : State = (es, now (a .starts)) in
+    let h = q .pre in
     let p = c .before .before .put-path in
-    subst (λ w. Shows w (now (a .out)) (p .last .0) (p .result))
-    (ap (λ k. encoded (joined (path-from k 0 es))) (sym l) ∙ sym (shown-string D t (a .mode) st (omega arith)))
-    (shows-string (path-from (a .n) 0 es) (now (a .out)) (p .ensures .0))
+    λ vowels w told lent e.
+    let D = tables-of (now (a .rules)) (w .classes) vowels (now (a .code)) in
+    let n = end-of (now (a .starts)) in
+    let m = memory (size w) (now (a .places)) in
+    let long : size w ≡ n = omega (arith, line-size (lent .text), h .sized) in
+    let st : State = (w .edges, m) in
+    subst (λ b. Shows b (now (a .out)) (p .last .0) (p .result))
+    (ap (λ (k : ℕ). encoded (joined (path-from k 0 (w .edges)))) (sym long) ∙ sym (shown-string D (w .text) (a .built .mode) st (omega arith)))
+    (shows-string (path-from n 0 (w .edges)) (now (a .out)) (p .ensures .0 ∙ ap (λ (es : List Edge). put-items false (path-from n 0 es) (0, now (a .out))) e))
 
 put-rows-requires : tie.Need-put-rows-requires
 put-rows-requires c κs = search needs
 
 put-head-requires : tie.Need-put-head-requires
 put-head-requires c κs =
-    let a = c .before .before .before .before .before .before .before .before .before .before .before .before .before .before .before .before .before .before .before .before .args in
-    let D = tables-of (now (a .rules)) (now (a .classes)) [] (now (a .code)) in
-    let st : State = (edges-of (now (a .room)) (a .count) (now (a .slots)), now (a .starts)) in
-    omega (arith, rows-end (listed D (text-in (now (a .line)) (a .n)) (a .mode) st) (now (a .out)) (c .before .before .before .before .before .put-rows .ensures []))
-
-same-length-2 : tie.Need-same-length-2
-same-length-2 c = search needs
+    let r = c .before .before .before .before .before .before .before in
+    let q = r .before .before .before .before .before .before .before .before .before .before .before .before .before .before .before in
+    let a = q .args in
+    let h = q .pre in
+    let w = h .world in
+    let D = tables-of (now (a .rules)) (w .classes) [] (now (a .code)) in
+    let st : State = (w .edges, memory (size w) (now (a .places))) in
+    omega (arith, rows-end (listed D (w .text) (a .built .mode) st) (now (a .out)) (r .put-rows .ensures [] w (h .told) (h .lent) (h .edges)))
 
 same-length-3 : tie.Need-same-length-3
 same-length-3 c = search needs
 
+same-length-4 : tie.Need-same-length-4
+same-length-4 c = search needs
+
+same-length-5 : tie.Need-same-length-5
+same-length-5 c = search needs
+
 returns-2 : tie.Need-returns-2
-returns-2 c vowels =
-    let a = c .before .before .before .before .before .before .before .before .before .before .before .before .before .before .before .before .before .before .before .before .before .before .before .args in
-    let D = tables-of (now (a .rules)) (now (a .classes)) vowels (now (a .code)) in
-    let t = text-in (now (a .line)) (a .n) in
-    let es = edges-of (now (a .room)) (a .count) (now (a .slots)) in
-    let st : State = (es, now (a .starts)) in
-    let p = c .before .before .before .before .before .before .before .before .put-rows in
-    let h = c .before .before .put-head in
-    subst (λ w. Shows w (now (a .out)) (h .last .0) (p .result)) (sym (shown-listed D t (a .mode) st (omega (arith, c .before .before .before .before .before .before .before .before .before .before .before .if1 .left))))
-    (shows-listing (listed D t (a .mode) st) (now (a .out)) (p .ensures vowels) (h .ensures))
+returns-2 c =
+    let r = c .before .before .before .before .before .before .before .before .before .before in
+    let q = r .before .before .before .before .before .before .before .before .before .before .before .before .before .before .before in
+    let a = q .args in
+    let p = r .put-rows in
+    let y = c .before .before .put-head in
+    let mode = r .before .before .before .before .if1 .left in
+    λ vowels w told lent e.
+    let D = tables-of (now (a .rules)) (w .classes) vowels (now (a .code)) in
+    let st : State = (w .edges, memory (size w) (now (a .places))) in
+    subst (λ b. Shows b (now (a .out)) (y .last .0) (p .result)) (sym (shown-listed D (w .text) (a .built .mode) st (omega (arith, mode))))
+    (shows-listing (listed D (w .text) (a .built .mode) st) (now (a .out)) (p .ensures vowels w told lent e) (y .ensures))
 
 pub put-shown-spec : {M : Type 1} → statement M
 put-shown-spec =
@@ -69,9 +102,11 @@ put-shown-spec =
     (tie.spec
     put-path-requires
     same-length
+    same-length-2
     returns
     put-rows-requires
     put-head-requires
-    same-length-2
     same-length-3
+    same-length-4
+    same-length-5
     returns-2)

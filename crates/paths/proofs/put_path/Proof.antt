@@ -1,69 +1,91 @@
 -- `paths::put_path`: what was written and what is left of the path leave what the whole path leaves.
-use Prim.Native.Nat.{_+_, _-_, _*_, _≤_, suc}
+use Prim.Native.Nat.{ℕ, _+_, _-_, _*_, _≤_, suc}
+use mathlib.Core.List.{List, []}
 use mathlib.Core.Path.{_≡_, refl, sym, ap, _∙_}
 use native.Mathlib.Omega.{arith}
 use lib.ListN.{length}
 use denote.Ref.{now}
+use Rattle.definition.specs.Edges.{Edge}
 use Rattle.definition.specs.Paths.{path-from}
 use Rattle.edge.specs.Slots.{edges-of}
-use Rattle.edge.specs.Asked.{readable-slots}
 use Rattle.edge.specs.Best.{edge-at}
 use Rattle.listing.specs.Items.{put-items}
+use Rattle.standing.specs.Starts.{end-of}
 use Rattle.paths.specs.Steps.{path-on}
+use Rattle.paths.specs.Ahead.{step-ahead, path-same}
 use borrow.Author.Needs.{needs}
 use Rattle.paths.proofs.put_path.Statement.{statement}
 use Rattle.paths.proofs.put_path.Tie as tie
 
 abbrev Inv-loop : tie.InvT-loop
-Inv-loop out₀ at slots room count n rows end₀ p₀ left₀ out end p left =
-    (put-items rows (path-from left p (edges-of room count slots)) (end, out) ≡ put-items rows (path-from n 0 (edges-of room count slots)) (at, out₀))
-    × (left ≤ n) × (end ≤ at + 65543 * (n - left)) × (p ≤ 65536 * (n - left)) × (length out ≡ length out₀)
+Inv-loop out₀ at slots room starts count rows n end₀ p₀ out end p =
+    (put-items rows (path-from (n - p) p (edges-of room count slots)) (end, out) ≡ put-items rows (path-from n 0 (edges-of room count slots)) (at, out₀))
+    × (p ≤ n) × (end ≤ at + p * 65543) × (length out ≡ length out₀)
 
 abbrev μ-loop : tie.MeasureT-loop
-μ-loop out₀ at slots room count n rows end₀ p₀ left₀ out end p left = left
+μ-loop out₀ at slots room starts count rows n end₀ p₀ out end p = n - p
+
+sub-n : tie.Need-sub-n Inv-loop μ-loop
+sub-n c = let q = c .before .before .before .before in omega (arith, q .pre .1 .fallen [] .size)
 
 loop-holds : tie.Need-loop-holds Inv-loop μ-loop
-loop-holds c = (refl, omega arith, omega arith, omega arith, refl)
+loop-holds c =
+    let a = c .before .before .before .before .args in
+    let n = end-of (now (a .starts)) in
+    let es = edges-of (now (a .room)) (a .count) (now (a .slots)) in
+    (ap (λ (k : ℕ). put-items (a .rows) (path-from k 0 es) (a .at, now (a .out))) {x = n - 0} {y = n} (omega arith), omega arith, omega arith, refl)
 
 best-right-neighbor-edge-requires : tie.Need-best-right-neighbor-edge-requires Inv-loop μ-loop
 best-right-neighbor-edge-requires c κs =
-    let q = c .before .before .before .before .before in
-    readable-slots (now (q .args .slots)) (now (q .args .room)) (q .args .count) (q .pre .0)
+    let q = c .before .before .before .before .before .before in
+    (q .pre .1, omega arith)
 
 put-best-requires : tie.Need-put-best-requires Inv-loop μ-loop
 put-best-requires c κs =
-    let q = c .before .before .before .before .before .before .before in
+    let q = c .before .before .before .before .before .before .before .before in
     let l = c .before .before .before .loop in
-    (q .pre .0, c .before .best-right-neighbor-edge .ensures .1, omega (arith, q .pre .1, q .pre .2, l .inv .1, l .inv .2))
+    (q .pre .0, c .before .best-right-neighbor-edge .ensures .1, omega (arith, q .pre .2, q .pre .3, l .inv .1, l .inv .2))
 
 next-from-requires : tie.Need-next-from-requires Inv-loop μ-loop
 next-from-requires c κs =
-    let q = c .before .before .before .before .before .before .before .before .before .before in
-    let l = c .before .before .before .before .before .before .loop in omega (arith, q .pre .1, l .inv .1, l .inv .3)
-
-sub-left : tie.Need-sub-left Inv-loop μ-loop
-sub-left c = search needs
+    let l = c .before .before .before .before .before .before in
+    let q = l .before .before .before .before .before in
+    omega (arith, q .pre .2, l .loop .inv .1)
 
 loop-less : tie.Need-loop-less Inv-loop μ-loop
-loop-less c = search needs
+loop-less c =
+    let q = c .before .before .before .before .before .before .before .before .before .before .before .before in
+    let a = q .args in
+    let l = c .before .before .before .before .before .before .before .loop in
+    let room = now (a .room) in
+    let es = edges-of room (a .count) (now (a .slots)) in
+    let b = c .before .before .before .before .before .best-right-neighbor-edge in
+    let m = c .next-from in
+    let f = step-ahead (end-of (now (a .starts))) es (q .pre .1 .ahead room) (l .p) (m .result) (edge-at room (now (a .slots)) (b .result))
+    (b .ensures .0 room) (m .ensures .0 room) (omega arith) in
+    omega (arith, f .0, f .1)
 
 loop-again : tie.Need-loop-again Inv-loop μ-loop
 loop-again c =
-    let q = c .before .before .before .before .before .before .before .before .before .before .before in
+    let q = c .before .before .before .before .before .before .before .before .before .before .before .before in
     let a = q .args in
     let l = c .before .before .before .before .before .before .before .loop in
     let b = c .before .before .before .before .before .best-right-neighbor-edge in
     let w = c .before .before .before .put-best in
-    let n = c .next-from in
+    let m = c .next-from in
     let slots = now (a .slots) in
     let room = now (a .room) in
+    let n = end-of (now (a .starts)) in
     let es = edges-of room (a .count) slots in
-    let e : suc (l .left - 1) ≡ l .left = omega arith in (
-      path-on (a .rows) es (edge-at room slots (b .result)) (l .left - 1) (l .p) (n .result) (w .result, w .last .0) (l .end, l .out) (b .ensures .0 room) (n .ensures .0 room) (w .ensures .0)
-          ∙ ap (λ k. put-items (a .rows) (path-from k (l .p) es) (l .end, l .out)) e ∙ l .inv .0,
-      omega (arith, l .inv .1),
-      omega (arith, l .inv .1, l .inv .2, w .ensures .1),
-      omega (arith, l .inv .1, l .inv .3, n .ensures .1),
+    let f = step-ahead n es (q .pre .1 .ahead room) (l .p) (m .result) (edge-at room slots (b .result))
+    (b .ensures .0 room) (m .ensures .0 room) (omega arith) in (
+      ap (λ (r : List Edge). put-items (a .rows) r (w .result, w .last .0))
+          (path-same n es (q .pre .1 .ahead room) (n - m .result) (n - l .p - 1) (m .result) (omega arith) (omega (arith, f .0)))
+          ∙ path-on (a .rows) es (edge-at room slots (b .result)) (n - l .p - 1) (l .p) (m .result) (w .result, w .last .0) (l .end, l .out)
+          (b .ensures .0 room) (m .ensures .0 room) (w .ensures .0)
+          ∙ ap (λ (k : ℕ). put-items (a .rows) (path-from k (l .p) es) (l .end, l .out)) {x = suc (n - l .p - 1)} {y = n - l .p} (omega arith) ∙ l .inv .0,
+      f .1,
+      omega (arith, l .inv .2, w .ensures .1, f .0),
       omega arith,
     )
 
@@ -73,10 +95,11 @@ same-length c = search needs
 returns : tie.Need-returns Inv-loop μ-loop
 unfolding put-items path-from
 returns c =
-    let a = c .before .before .before .before .before .args in
+    let a = c .before .before .before .before .before .before .args in
     let l = c .before .loop in
+    let n = end-of (now (a .starts)) in
     let es = edges-of (now (a .room)) (a .count) (now (a .slots)) in
-    let e : l .left ≡ 0 = omega arith in
+    let e : n - l .p ≡ 0 = omega arith in
     (sym (ap (λ k. put-items (a .rows) (path-from k (l .p) es) (l .end, l .out)) e) ∙ l .inv .0, omega (arith, l .inv .1, l .inv .2))
 
 pub put-path-spec : {M : Type 1} → statement M
@@ -85,11 +108,11 @@ put-path-spec =
     (tie.spec
     Inv-loop
     μ-loop
+    sub-n
     loop-holds
     best-right-neighbor-edge-requires
     put-best-requires
     next-from-requires
-    sub-left
     loop-less
     loop-again
     same-length

@@ -19,7 +19,8 @@ is-higher-requires c κs = search needs
 returns : tie.Need-returns
 returns c =
     let a = c .before .before .before .before .before .args in
-    c .is-higher .ensures ∙ beats-alike (drop (a .row) (now (a .rules))) (drop (a .other) (now (a .rules))) _ _ (c .before .before .before .flag .ensures) (c .before .before .flag2 .ensures) (c .before .if1 .taken)
+    c .is-higher .ensures ∙ beats-alike (drop (a .row) (now (a .rules))) (drop (a .other) (now (a .rules))) _ _ (c .before .before .before .flag .ensures)
+    (c .before .before .flag2 .ensures) (c .before .if1 .taken)
 
 returns-2 : tie.Need-returns-2
 returns-2 c =

@@ -1,10 +1,11 @@
 -- `rules::cand_is_valid`: by whether a flag asks a start of word.
 use mathlib.Core.Path.{sym, _∙_}
-use native.Mathlib.Omega.{arith}
 use lib.ListN.{drop}
 use denote.Ref.{now}
 use Rattle.definition.specs.RuleRows.{rule-of}
-use Rattle.words.specs.Given.{text-in, view-of, alpha-before}
+use Rattle.places.specs.Shows.{memory}
+use Rattle.words.specs.Did.{asked-none}
+use Rattle.words.specs.Given.{seen, size}
 use Rattle.rules.specs.Lent.{lexicon-of}
 use Rattle.rules.proofs.Validity.{asked, not-asked}
 use borrow.Author.Needs.{needs}
@@ -28,27 +29,28 @@ same-length c = search needs
 
 returns : tie.Need-returns
 returns c =
-    let k = c .before .before .before .before .before .before .before .before .before .before .before .before .before .before .before .before .before .before in
-    let a = k .args in
-    let t = text-in (now (a .line)) (a .n) in
-    let h = k .pre .2 in
-    asked (lexicon-of (now (a .rules)) (now (a .classes)) (now (a .code))) t (view-of (now (a .classes)) (now (a .slots)) (now (a .room)) (a .count))
-    (a .s) (a .e) (rule-of (drop (a .row) (now (a .rules)))) (now (a .starts)) (sym (c .before .before .before .before .before .before .asks-start .ensures) ∙ c .before .before .before .before .before .if1 .taken) _ _
-    (c .before .before .before .is-at-start-of-word .ensures t (alpha-before (k .pre .0 .read .text) (a .s) (omega (arith, h)))) _
-    (c .holds-at .ensures (now (a .code)) (c .before .before .before .before .before .before .before .matches-lcode .ensures))
+    let k = c .before .before .before .before .before .before .before in
+    let a = k .before .before .before .before .before .before .args in
+    let r = rule-of (drop (a .row) (now (a .rules))) in
+    λ w e g. let A = c .before .before .before .is-at-start-of-word .ensures w g in
+    let L = lexicon-of (now (a .rules)) w (now (a .code)) in record {
+      did = asked L (w .text) (seen w) (a .span .from) (a .span .to) r (memory (size w) (now (a .places)))
+          (sym (c .before .before .before .before .before .before .asks-start .ensures) ∙ c .before .before .before .before .before .if1 .taken) _ _ (A .did) _
+          (c .holds-at .ensures w (now (a .code)) e (g .text) (k .matches-lcode .ensures));
+      kept = A .kept;
+    }
 
 holds-at-requires-2 : tie.Need-holds-at-requires-2
 holds-at-requires-2 c κs = search needs
 
 returns-2 : tie.Need-returns-2
 returns-2 c =
-    let k = c .before .before .before .before .before .before .before .before .before .before .before .before .before .before in
-    let a = k .args in
-    let t = text-in (now (a .line)) (a .n) in
-    let h = k .pre .2 in
-    not-asked (lexicon-of (now (a .rules)) (now (a .classes)) (now (a .code))) t (view-of (now (a .classes)) (now (a .slots)) (now (a .room)) (a .count))
-    (a .s) (a .e) (rule-of (drop (a .row) (now (a .rules)))) (now (a .starts)) (sym (c .before .before .asks-start .ensures) ∙ c .before .if1 .left) _
-    (c .holds-at2 .ensures (now (a .code)) (c .before .before .before .matches-lcode .ensures))
+    let a = c .before .before .before .before .before .before .before .before .before .args in
+    let r = rule-of (drop (a .row) (now (a .rules))) in
+    λ w e g. let L = lexicon-of (now (a .rules)) w (now (a .code)) in
+    asked-none (not-asked L (w .text) (seen w) (a .span .from) (a .span .to) r (memory (size w) (now (a .places)))
+    (sym (c .before .before .asks-start .ensures) ∙ c .before .if1 .left) _
+    (c .holds-at2 .ensures w (now (a .code)) e (g .text) (c .before .before .before .matches-lcode .ensures)))
 
 pub cand-is-valid-spec : {M : Type 1} → statement M
 cand-is-valid-spec =

@@ -1,17 +1,19 @@
--- `spans::span_edge`: by what full search answers, whose bytes are few in accepted tables.
+-- `spans::span_edge`: by what full search answers, whose bytes are few.
 use mathlib.Core.List.{[]}
-use mathlib.Core.Path.{sym, _∙_}
+use mathlib.Core.Path.{sym, ap, _∙_}
 use native.Mathlib.Omega.{arith}
+use lib.ListN.{length}
 use denote.Ref.{now}
 use Rattle.base.specs.Pick.{pick}
 use Rattle.definition.specs.Call.{tables-of}
-use Rattle.definition.specs.Promises.{tables-bounded}
+use Rattle.places.specs.Shows.{memory}
 use Rattle.rom.specs.Rom.{clean-by}
 use Rattle.words.specs.Did.{did-by}
-use Rattle.words.specs.Given.{text-in, view-of}
+use Rattle.words.specs.Given.{seen, size, lent-after}
 use Rattle.rules.specs.Chosen.{said}
+use Rattle.steps.proofs.Tries.{said-short}
 use Rattle.spans.specs.Spans.{found}
-use Rattle.spans.specs.Ways.{found-there, span-untold, span-told, few-bytes}
+use Rattle.spans.specs.Ways.{found-there, span-untold, span-told, plus-few}
 use borrow.Author.Needs.{needs}
 use Rattle.spans.proofs.span_edge.Statement.{statement}
 use Rattle.spans.proofs.span_edge.Tie as tie
@@ -33,22 +35,14 @@ is-tail-requires : tie.Need-is-tail-requires
 is-tail-requires c κs = search needs
 
 edge-of-requires : tie.Need-edge-of-requires
-unfolding tables-of
 edge-of-requires c κs =
-    let s = c .before .before .before .before .before .before .before .before .before .before .before .before .before .before .before .before .before .before .before .before .before in
-    let a = s .args in
-    let p = s .pre in
-    let D = tables-of (now (a .rules)) (now (a .classes)) (now (a .vowels)) (now (a .code)) in
-    let t = text-in (now (a .line)) (a .n) in
-    let v = view-of (now (a .classes)) (now (a .slots)) (now (a .room)) (a .count) in
-    let m = now (a .starts) in
-    let R = now (a .rules) in
-    let T = c .before .before .before .before .before .before .before .before .top-romanization-candidate-for-span in
-    let told = sym (c .before .before .before .before .before .is-told .ensures R) ∙ c .before .before .before .before .if1 .taken in
+    let T = c .before .before .before .before .before .before .before .before in
+    let p = T .before .before .before .before .before .before .before .before .pre in
+    let R = now (T .before .before .before .before .before .before .before .before .args .rules) in
     let w = c .before .before .before .chosen-text in
     let u = c .before .without-plus in
-    let ok = tables-bounded R (now (a .classes)) (now (a .vowels)) (now (a .code)) (p .0 .read .table .accepted) (p .0 .read .text .fine) (p .1) in
-    (p .0, p .1, few-bytes D t v (a .s) (a .e) m (said R (T .result)) (T .ensures .0) told (now (w .result)) (w .ensures) ok (now (u .result)) (u .ensures), p .2, p .3)
+    let few = said-short R (T .top-romanization-candidate-for-span .result) (T .top-romanization-candidate-for-span .ensures .1) in
+    (p .0, p .1, omega (arith, few, ap length (w .ensures), ap length (u .ensures), plus-few (now (w .result))), p .2 .forward, p .2 .inside)
 
 same-length : tie.Need-same-length
 same-length c = search needs
@@ -56,20 +50,27 @@ same-length c = search needs
 returns : tie.Need-returns
 unfolding tables-of
 returns c =
-    let a = c .before .before .before .before .before .before .before .before .before .before .before .before .before .before .before .before .before .before .before .before .before .before .before .before .args in
-    let D = tables-of (now (a .rules)) (now (a .classes)) (now (a .vowels)) (now (a .code)) in
-    let t = text-in (now (a .line)) (a .n) in
-    let v = view-of (now (a .classes)) (now (a .slots)) (now (a .room)) (a .count) in
-    let m = now (a .starts) in
+    let T = c .before .before .before .before .before .before .before .before .before .before .before in
+    let a = T .before .before .before .before .before .before .before .before .args in
     let R = now (a .rules) in
-    let T = c .before .before .before .before .before .before .before .before .before .before .before .top-romanization-candidate-for-span in
     let told = sym (c .before .before .before .before .before .before .before .before .is-told .ensures R) ∙ c .before .before .before .before .before .before .before .if1 .taken in
     let w = c .before .before .before .before .before .before .chosen-text in
     let u = c .before .before .before .before .without-plus in
     let b = c .before .before .before .is-tail in
     let x = c .before .before .edge-of in
-    let y = span-told D t v (a .s) (a .e) m (said R (T .result)) (T .ensures .0) told (now (w .result)) (w .ensures) (b .result) (now (u .result)) (b .ensures) (u .ensures) (x .ensures .0) in
-    (did-by (found-there (x .result) (x .ensures .1)) y, x .ensures .2)
+    let F = T .top-romanization-candidate-for-span in (
+      λ z known lent.
+          let A = F .ensures .0 z known lent in
+          let X = x .ensures .0 z known (lent-after _ lent (A .kept)) in
+          let D = tables-of R (z .classes) (now (a .vowels)) (now (a .code)) in
+          record {
+            did = did-by (found-there (x .result) (x .ensures .1))
+                (span-told D (z .text) (seen z) (a .look .from) (a .look .to) (memory (size z) (now (a .places))) (said R (F .result)) (A .did) told
+                (now (w .result)) (w .ensures) (b .result) (now (u .result)) (b .ensures) (u .ensures) (X .did));
+            kept = X .kept ∙ A .kept;
+          },
+      x .ensures .2,
+    )
 
 new-requires : tie.Need-new-requires
 new-requires c κs = search needs
@@ -80,15 +81,20 @@ same-length-2 c = search needs
 returns-2 : tie.Need-returns-2
 unfolding tables-of found pick
 returns-2 c =
-    let a = c .before .before .before .before .before .before .before .before .before .before .before .before .before .before .before .before .before .before .args in
-    let D = tables-of (now (a .rules)) (now (a .classes)) (now (a .vowels)) (now (a .code)) in
-    let t = text-in (now (a .line)) (a .n) in
-    let v = view-of (now (a .classes)) (now (a .slots)) (now (a .room)) (a .count) in
-    let m = now (a .starts) in
+    let T = c .before .before .before .before .before in
+    let a = T .before .before .before .before .before .before .before .before .args in
     let R = now (a .rules) in
-    let T = c .before .before .before .before .before .top-romanization-candidate-for-span in
     let untold = sym (c .before .before .is-told .ensures R) ∙ c .before .if1 .left in
-    (span-untold D t v (a .s) (a .e) m (said R (T .result)) (T .ensures .0) untold, clean-by [] (c .new .ensures) (omega arith))
+    let F = T .top-romanization-candidate-for-span in (
+      λ z known lent.
+          let A = F .ensures .0 z known lent in
+          let D = tables-of R (z .classes) (now (a .vowels)) (now (a .code)) in
+          record {
+            did = span-untold D (z .text) (seen z) (a .look .from) (a .look .to) (memory (size z) (now (a .places))) (said R (F .result)) (A .did) untold;
+            kept = A .kept;
+          },
+      clean-by [] (c .new .ensures) (omega arith),
+    )
 
 pub span-edge-spec : {M : Type 1} → statement M
 span-edge-spec =

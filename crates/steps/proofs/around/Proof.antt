@@ -3,30 +3,28 @@ use mathlib.Core.Path.{refl, sym, _∙_}
 use native.Mathlib.Omega.{arith}
 use denote.Ref.{now}
 use Rattle.definition.specs.RuleRows.{rules-of}
-use Rattle.definition.specs.ClassRows.{classes-of}
-use Rattle.words.specs.Given.{text-in}
 use Rattle.steps.specs.Works.{work-of}
 use Rattle.words.specs.Characters.{flag-prev}
 use Rattle.steps.proofs.Tries.{not-done, tries-as, blank-pre, not-framed, unflagged-frame, by-three, by-two, by-one}
+use Rattle.words.specs.Given.{kinds, line-size}
 use borrow.Author.Needs.{needs}
 use Rattle.steps.proofs.around.Statement.{statement}
 use Rattle.steps.proofs.around.Tie as tie
 
 returns : tie.Need-returns
 returns c =
-    let s = c .before .before .before .before .before in
+    let s = c .before .before .before .before in
     let a = s .args in
-    let t = text-in (now (a .line)) (a .n) in
     let R = rules-of (now (a .rules)) in (
-      (λ classes g.
-          let f = unflagged-frame _ (work-of (a .w)) (blank-pre classes (g .fine) t (a .w .from) (omega arith)) in
-          not-done (a .w) _ (not-framed R (classes-of classes) t (work-of (a .w)) refl f)),
+      (λ u g.
+          let f = unflagged-frame _ (work-of (a .w)) (blank-pre (u .classes) (g .fine) (u .text) (a .w .from) (omega arith)) in
+          not-done (a .w) _ (not-framed R (kinds u) (u .text) (work-of (a .w)) refl f)),
       s .pre .1,
       omega arith,
     )
 
-number-at-requires : tie.Need-number-at-requires
-number-at-requires c κs = search needs
+kind-at-requires : tie.Need-kind-at-requires
+kind-at-requires c κs = search needs
 
 is-framed-requires : tie.Need-is-framed-requires
 is-framed-requires c κs = search needs
@@ -36,18 +34,17 @@ around-by-requires c κs = search needs
 
 returns-2 : tie.Need-returns-2
 returns-2 c =
-    let s = c .before .before .before .before .before .before .before .before .before .before in
+    let s = c .before .before .before .before .before .before .before .before .before in
     let a = s .args in
-    let t = text-in (now (a .line)) (a .n) in
-    let K = c .before .before .before .before .number-at .ensures in
+    let K = c .before .before .before .before .kind-at .ensures in
     let T = c .before .before .before .is-framed .ensures in
     let I = c .before .before .if2 .taken in
     let X = c .before .around-by .ensures in
     let R = rules-of (now (a .rules)) in (
-      (λ classes g.
-          let p = flag-prev g (a .w .from) (omega (arith, s .pre)) K 6 (λ k. k .pre) (λ m k z. z .pre) refl in
-          let x = X .0 classes (now (a .kinds)) g in
-          tries-as (by-three R (classes-of classes) t (work-of (a .w)) p (sym T ∙ I) (sym (x .done) ∙ c .if3 .taken)) x),
+      (λ u g.
+          let p = flag-prev g (a .w .from) (omega (arith, s .pre, line-size g)) K 6 (λ k. k .pre) (λ m k z. z .pre) refl in
+          let x = X .0 u g in
+          tries-as (by-three R (kinds u) (u .text) (work-of (a .w)) p (sym T ∙ I) (sym (x .done) ∙ c .if3 .taken)) x),
       X .1,
       X .2,
     )
@@ -57,21 +54,20 @@ around-by-requires-2 c κs = search needs
 
 returns-3 : tie.Need-returns-3
 returns-3 c =
-    let s = c .before .before .before .before .before .before .before .before .before .before .before .before in
+    let s = c .before .before .before .before .before .before .before .before .before .before .before in
     let a = s .args in
-    let t = text-in (now (a .line)) (a .n) in
-    let K = c .before .before .before .before .before .before .number-at .ensures in
+    let K = c .before .before .before .before .before .before .kind-at .ensures in
     let T = c .before .before .before .before .before .is-framed .ensures in
     let I = c .before .before .before .before .if2 .taken in
     let X = c .before .before .before .around-by .ensures in
     let J = c .before .before .if3 .left in
     let Y = c .before .around-by2 .ensures in
     let R = rules-of (now (a .rules)) in (
-      (λ classes g.
-          let p = flag-prev g (a .w .from) (omega (arith, s .pre)) K 6 (λ k. k .pre) (λ m k z. z .pre) refl in
-          let x = X .0 classes (now (a .kinds)) g in
-          let y = Y .0 classes (now (a .kinds)) g in
-          tries-as (by-two R (classes-of classes) t (work-of (a .w)) p (sym T ∙ I) (sym (x .done) ∙ J) (sym (y .done) ∙ c .if4 .taken)) y),
+      (λ u g.
+          let p = flag-prev g (a .w .from) (omega (arith, s .pre, line-size g)) K 6 (λ k. k .pre) (λ m k z. z .pre) refl in
+          let x = X .0 u g in
+          let y = Y .0 u g in
+          tries-as (by-two R (kinds u) (u .text) (work-of (a .w)) p (sym T ∙ I) (sym (x .done) ∙ J) (sym (y .done) ∙ c .if4 .taken)) y),
       Y .1,
       Y .2,
     )
@@ -81,10 +77,9 @@ around-by-requires-3 c κs = search needs
 
 returns-4 : tie.Need-returns-4
 returns-4 c =
-    let s = c .before .before .before .before .before .before .before .before .before .before .before .before .before in
+    let s = c .before .before .before .before .before .before .before .before .before .before .before .before in
     let a = s .args in
-    let t = text-in (now (a .line)) (a .n) in
-    let K = c .before .before .before .before .before .before .before .number-at .ensures in
+    let K = c .before .before .before .before .before .before .before .kind-at .ensures in
     let T = c .before .before .before .before .before .before .is-framed .ensures in
     let I = c .before .before .before .before .before .if2 .taken in
     let X = c .before .before .before .before .around-by .ensures in
@@ -93,26 +88,25 @@ returns-4 c =
     let L = c .before .if4 .left in
     let Z = c .around-by3 .ensures in
     let R = rules-of (now (a .rules)) in (
-      (λ classes g.
-          let p = flag-prev g (a .w .from) (omega (arith, s .pre)) K 6 (λ k. k .pre) (λ m k z. z .pre) refl in
-          let x = X .0 classes (now (a .kinds)) g in
-          let y = Y .0 classes (now (a .kinds)) g in
-          tries-as (by-one R (classes-of classes) t (work-of (a .w)) p (sym T ∙ I) (sym (x .done) ∙ J) (sym (y .done) ∙ L)) (Z .0 classes (now (a .kinds)) g)),
+      (λ u g.
+          let p = flag-prev g (a .w .from) (omega (arith, s .pre, line-size g)) K 6 (λ k. k .pre) (λ m k z. z .pre) refl in
+          let x = X .0 u g in
+          let y = Y .0 u g in
+          tries-as (by-one R (kinds u) (u .text) (work-of (a .w)) p (sym T ∙ I) (sym (x .done) ∙ J) (sym (y .done) ∙ L)) (Z .0 u g)),
       Z .1,
       Z .2,
     )
 
 returns-5 : tie.Need-returns-5
 returns-5 c =
-    let s = c .before .before .before .before .before .before .before .before in
+    let s = c .before .before .before .before .before .before .before in
     let a = s .args in
-    let t = text-in (now (a .line)) (a .n) in
-    let K = c .before .before .number-at .ensures in
+    let K = c .before .before .kind-at .ensures in
     let T = c .before .is-framed .ensures in
     let R = rules-of (now (a .rules)) in (
-      (λ classes g.
-          let p = flag-prev g (a .w .from) (omega (arith, s .pre)) K 6 (λ k. k .pre) (λ m k z. z .pre) refl in
-          not-done (a .w) _ (not-framed R (classes-of classes) t (work-of (a .w)) p (sym T ∙ c .if2 .left))),
+      (λ u g.
+          let p = flag-prev g (a .w .from) (omega (arith, s .pre, line-size g)) K 6 (λ k. k .pre) (λ m k z. z .pre) refl in
+          not-done (a .w) _ (not-framed R (kinds u) (u .text) (work-of (a .w)) p (sym T ∙ c .if2 .left))),
       s .pre .1,
       omega arith,
     )
@@ -122,7 +116,7 @@ around-spec =
     tie.close
     (tie.spec
     returns
-    number-at-requires
+    kind-at-requires
     is-framed-requires
     around-by-requires
     returns-2

@@ -1,5 +1,5 @@
 -- `steps::around_by`: the rules of the pattern are those with one source, which the line's numbers are.
-use mathlib.Core.Path.{sym}
+use mathlib.Core.Path.{refl, sym}
 use Prim.Native.Nat.{ℕ, _+_}
 use native.Mathlib.Omega.{arith}
 use denote.Ref.{now}
@@ -8,20 +8,24 @@ use Rattle.definition.specs.RuleRows.{rules-of}
 use Rattle.steps.specs.Works.{work-of}
 use Rattle.steps.proofs.Frames.{frame-past, frame-first}
 use Rattle.steps.proofs.Tries.{not-done, tries-as}
+use Rattle.words.specs.Given.{line-size}
 use borrow.Author.Needs.{needs}
 use Rattle.steps.proofs.around_by.Statement.{statement}
 use Rattle.steps.proofs.around_by.Tie as tie
 
-add-if1 : tie.Need-add-if1
-add-if1 c = search needs
+add-end : tie.Need-add-end
+add-end c = search needs
+
+text-len-requires : tie.Need-text-len-requires
+text-len-requires c κs = search needs
 
 returns : tie.Need-returns
 returns c =
-    let s = c .before .before .before .before in
+    let s = c .before .before .before .before .before in
     let a = s .args in
     let R = rules-of (now (a .rules)) in (
-      (λ classes kinds g.
-          let e = frame-past g R (a .k) (work-of (a .w)) (omega (arith, s .pre)) (omega arith) in
+      (λ u g.
+          let e = frame-past g R (a .k) (work-of (a .w)) (omega (arith, s .pre, line-size g)) (omega (arith, line-size g, c .before .text-len .ensures)) in
           not-done (a .w) _ e),
       s .pre .1,
       omega arith,
@@ -56,7 +60,7 @@ array-share-prefix-source c = search needs
 
 slice-aggregate-romanization-by-first-rule : tie.Need-slice-aggregate-romanization-by-first-rule
 slice-aggregate-romanization-by-first-rule c =
-    let s = c .before .before .before .before .before .before .before .before .before in
+    let s = c .before .before .before .before .before .before .before .before .before .before in
     sym (length-take-le {A = ℕ} (s .args .k + 2) _ (omega (arith, s .pre)))
 
 romanization-by-first-rule-requires : tie.Need-romanization-by-first-rule-requires
@@ -67,9 +71,10 @@ put-behind-requires c κs = search needs
 
 returns-2 : tie.Need-returns-2
 returns-2 c =
-    let s = c .before .before .before .before .before .before .before .before .before .before .before in
+    let s = c .before .before .before .before .before .before .before .before .before .before .before .before in
     let a = s .args in
     let I = c .before .before .before .before .before .before .before .if1 .left in
+    let N = c .before .before .before .before .before .before .before .before .text-len .ensures in
     let C = c .before .before .before .before .before .before .number-at .ensures in
     let X = c .before .before .before .before .before .number-at2 .ensures in
     let Y = c .before .before .before .before .number-at3 .ensures in
@@ -78,9 +83,10 @@ returns-2 c =
     let U = c .put-behind .ensures in
     let R = rules-of (now (a .rules)) in
     let h = s .pre in (
-      (λ classes kinds g.
-          let e = frame-first g R (a .k) (work-of (a .w)) _ C X Y Z (omega (arith, h)) (omega (arith, h)) (omega (arith, h)) (omega (arith, I)) (F .0) in
-          tries-as (sym e) (U .0)),
+      (λ u g.
+          let e = frame-first g R (a .k) (work-of (a .w)) _ C X Y Z
+          (omega (arith, h, line-size g)) (omega (arith, h, line-size g)) (omega (arith, h, line-size g)) (omega (arith, I, line-size g, N)) (F .0) in
+          tries-as (sym e) (U .0 (a .k) refl)),
       U .1,
       U .2,
     )
@@ -89,7 +95,8 @@ pub around-by-spec : {M : Type 1} → statement M
 around-by-spec =
     tie.close
     (tie.spec
-    add-if1
+    add-end
+    text-len-requires
     returns
     number-at-requires
     add-number-at

@@ -19,22 +19,19 @@ last-requires c κs = search needs
 push-requires : tie.Need-push-requires
 push-requires c κs = search needs
 
-add-t5 : tie.Need-add-t5
-add-t5 c = search needs
-
 returns : tie.Need-returns
 returns c =
-    let s = c .before .before .before .before in
+    let s = c .before .before .before in
     let a = s .args in
     let w = text (a .w .rom) in
-    let new = w ++ c .before .before .last .result ∷ [] in
-    let e = c .before .push .ensures in
-    let l : length new ≡ a .w .rom .len + 1 = omega (arith, length-append w (c .before .before .last .result ∷ []), text-length (s .pre .0)) in (
-      ap (λ (x : Text). work x (a .w .from) (a .w .to + 1) note-exp) (text-by new e (omega arith)
-          ∙ ap (λ (x : List ℕ). w ++ x) (ap (λ (b : ℕ). b ∷ []) (c .before .before .last .ensures) ∙ sym (last-there vowels w (s .pre .2)))),
+    let new = w ++ c .before .last .result ∷ [] in
+    let e = c .push .ensures in
+    let l : length new ≡ a .w .rom .len + 1 = omega (arith, length-append w (c .before .last .result ∷ []), text-length (s .pre .0)) in (
+      ap (λ (x : Text). work x (a .w .from) (a .to) note-exp) (text-by new e (omega arith)
+          ∙ ap (λ (x : List ℕ). w ++ x) (ap (λ (b : ℕ). b ∷ []) (c .before .last .ensures) ∙ sym (last-there vowels w (s .pre .2)))),
       clean-by new e (omega arith),
       omega (arith, len-by new e),
     )
 
 pub lengthen-spec : {M : Type 1} → statement M
-lengthen-spec = tie.close (tie.spec last-requires push-requires add-t5 returns)
+lengthen-spec = tie.close (tie.spec last-requires push-requires returns)

@@ -1,7 +1,7 @@
 -- `steps::put_behind`: a target has 64 bytes at most.
 use mathlib.Core.List.{_++_}
 use mathlib.Core.Path.{sym, ap, _∙_}
-use Prim.Native.Nat.{_+_, _-_, _≤_}
+use Prim.Native.Nat.{ℕ, _+_, _-_, _≤_}
 use native.Mathlib.Omega.{arith}
 use denote.Ref.{now}
 use lib.ListN.{length, length-append}
@@ -31,23 +31,22 @@ append-requires c κs =
 sub-t10 : tie.Need-sub-t10
 sub-t10 c = search needs
 
-add-t11 : tie.Need-add-t11
-add-t11 c = search needs
-
 returns : tie.Need-returns
 returns c =
-    let s = c .before .before .before .before .before .before .before .before in
+    let s = c .before .before .before .before .before .before .before in
     let a = s .args in
-    let T = c .before .before .before .before .before .before .is-told .ensures in
-    let I = c .before .before .before .before .before .if1 .taken in
-    let X = c .before .before .before .chosen-text in
-    let E = c .before .before .append in
+    let T = c .before .before .before .before .before .is-told .ensures in
+    let I = c .before .before .before .before .if1 .taken in
+    let X = c .before .before .chosen-text in
+    let E = c .before .append in
     let o = said (now (a .rules)) (a .target) in
     let old = text (a .w .rom) in
     let e = E .ensures ∙ ap (λ (x : Text). rom (old ++ x)) (X .ensures) in
-    let h : length (old ++ or-nothing o) ≤ a .w .rom .len + most-target = omega (arith, length-append old (or-nothing o), text-length (s .pre .1), said-short (now (a .rules)) (a .target) (s .pre .0)) in (
-      a-target (a .w) _ (a .k) o (sym (T (now (a .rules))) ∙ I)
-          (ap (λ (x : Text). work x (a .w .from - 1) (a .w .to + a .k) note-exp) (text-by (old ++ or-nothing o) e (omega (arith, h, s .pre)))),
+    let h : length (old ++ or-nothing o) ≤ a .w .rom .len + most-target =
+    omega (arith, length-append old (or-nothing o), text-length (s .pre .1), said-short (now (a .rules)) (a .target) (s .pre .0)) in (
+      (λ k f. a-target (a .w) _ k o (sym (T (now (a .rules))) ∙ I)
+          (ap (λ (x : Text). work x (a .w .from - 1) (a .to) note-exp) (text-by (old ++ or-nothing o) e (omega (arith, h, s .pre)))
+          ∙ ap (λ (n : ℕ). work (old ++ or-nothing o) (a .w .from - 1) n note-exp) f)),
       clean-by (old ++ or-nothing o) e (omega (arith, h, s .pre)),
       omega (arith, h, len-by (old ++ or-nothing o) e),
     )
@@ -58,16 +57,9 @@ returns-2 c =
     let a = s .args in
     let T = c .before .is-told .ensures in
     let o = said (now (a .rules)) (a .target) in
-    (not-done (a .w) _ (no-target (work-of (a .w)) (a .k) o (sym (T (now (a .rules))) ∙ c .if1 .left)), s .pre .1, omega arith)
+    ((λ k f. not-done (a .w) _ (no-target (work-of (a .w)) k o (sym (T (now (a .rules))) ∙ c .if1 .left))), s .pre .1, omega arith)
 
 pub put-behind-spec : {M : Type 1} → statement M
 put-behind-spec =
     tie.close
-    (tie.spec
-    is-told-requires
-    chosen-text-requires
-    append-requires
-    sub-t10
-    add-t11
-    returns
-    returns-2)
+    (tie.spec is-told-requires chosen-text-requires append-requires sub-t10 returns returns-2)

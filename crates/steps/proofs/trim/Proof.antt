@@ -1,9 +1,8 @@
 -- `steps::trim`: trimmed in front, then behind.
 use native.Mathlib.Omega.{arith}
 use mathlib.Core.Path.{_∙_}
-use denote.Ref.{now}
-use Rattle.words.specs.Given.{text-in, char-before}
 use Rattle.steps.proofs.Outcomes.{front-clean, trimmed-clean, trimmed-short, trimmed}
+use Rattle.words.specs.Given.{line-size, char-before}
 use borrow.Author.Needs.{needs}
 use Rattle.steps.proofs.trim.Statement.{statement}
 use Rattle.steps.proofs.trim.Tie as tie
@@ -27,8 +26,8 @@ returns c =
     let a = s .args in
     let p = c .before .before .trim-front .ensures in
     let q = c .trim-back .ensures in (
-      (λ classes kinds g. trimmed (s .pre .0) _ p _ q (text-in (now (a .line)) (a .n)) (a .w .from) (a .w .to) (a .w .note)
-          (c .before .before .before .number-at .ensures ∙ char-before g (a .w .from) (omega (arith, s .pre))) (c .before .is-space-at .ensures classes kinds g)),
+      (λ u g. trimmed (s .pre .0) _ p _ q (u .text) (a .w .from) (a .w .to) (a .w .note)
+          (c .before .before .before .number-at .ensures ∙ char-before g (a .w .from) (omega (arith, s .pre, line-size g))) (c .before .is-space-at .ensures u g)),
       trimmed-clean (s .pre .0) _ p _ q,
       trimmed-short (s .pre .0) _ p _ q,
     )

@@ -2,11 +2,11 @@
 use mathlib.Core.Path.{_≡_}
 use native.Mathlib.Omega.{arith}
 use borrow.Author.Tests.{eq-eqb, ne-eqb}
-use Rattle.definition.specs.Texts.{at, o-ang}
-use Rattle.words.specs.Did.{did-by}
-use Rattle.words.specs.Given.{char-at}
 use denote.Ref.{now}
-use Rattle.words.specs.Given.{text-in, view-of}
+use Rattle.definition.specs.Texts.{at, o-ang}
+use Rattle.places.specs.Shows.{memory}
+use Rattle.words.specs.Did.{asked-by, asked-none}
+use Rattle.words.specs.Given.{seen, size, line-size, char-at}
 use Rattle.rules.specs.Lent.{lexicon-of}
 use Rattle.syllables.specs.Tests.{o-ang-follows, no-o-ang}
 use borrow.Author.Needs.{needs}
@@ -19,13 +19,11 @@ add-number-at c = search needs
 number-at-requires : tie.Need-number-at-requires
 number-at-requires c κs = search needs
 
-add-simple-top-romanization-candidate-for-span :
-    tie.Need-add-simple-top-romanization-candidate-for-span
-add-simple-top-romanization-candidate-for-span c = search needs
+add-from : tie.Need-add-from
+add-from c = search needs
 
-add-simple-top-romanization-candidate-for-span-2 :
-    tie.Need-add-simple-top-romanization-candidate-for-span-2
-add-simple-top-romanization-candidate-for-span-2 c = search needs
+add-to : tie.Need-add-to
+add-to c = search needs
 
 simple-top-romanization-candidate-for-span-requires :
     tie.Need-simple-top-romanization-candidate-for-span-requires
@@ -39,24 +37,23 @@ same-length c = search needs
 
 returns : tie.Need-returns
 returns c =
-    let a = c .before .before .before .before .before .before .before .before .before .before .before .before .before .before .before .before .before .args in
-    let L = lexicon-of (now (a .rules)) (now (a .classes)) (now (a .code)) in
-    let t = text-in (now (a .line)) (a .n) in
-    let v = view-of (now (a .classes)) (now (a .slots)) (now (a .room)) (a .count) in
-    let m = now (a .starts) in
-    let p = c .before .before .before .before .before .before .before .before .before .before .before .before .before .before .before .before .before .pre in
-    let here : at t (a .q) ≡ o-ang = omega (arith, char-at (p .0 .read .text) (a .q) (p .1), c .before .before .before .before .before .before .number-at .ensures) in
-    did-by (c .opens .ensures) (o-ang-follows L t v (a .q) m (eq-eqb (at t (a .q)) o-ang here) (c .before .before .before .simple-top-romanization-candidate-for-span .ensures .0))
+    let k = c .before .before .before .before .before .before .before .before .before .before .before .before in
+    let a = k .args in
+    λ w e g. let A = c .before .before .before .simple-top-romanization-candidate-for-span .ensures .0 w e g in
+    let z = line-size (g .text) in
+    let here : at (w .text) (a .q) ≡ o-ang = omega (arith, char-at (g .text) (a .q) (omega (arith, k .pre .1)), c .before .before .before .before .before .before .number-at .ensures) in
+    asked-by (c .opens .ensures) record {
+      did = o-ang-follows (lexicon-of (now (a .rules)) w (now (a .code))) (w .text) (seen w) (a .q) (memory (size w) (now (a .places))) (eq-eqb (at (w .text) (a .q)) o-ang here) (A .did);
+      kept = A .kept;
+    }
 
 returns-2 : tie.Need-returns-2
 returns-2 c =
-    let a = c .before .before .before .before .before .before .before .before .before .before .before .before .args in
-    let L = lexicon-of (now (a .rules)) (now (a .classes)) (now (a .code)) in
-    let t = text-in (now (a .line)) (a .n) in
-    let v = view-of (now (a .classes)) (now (a .slots)) (now (a .room)) (a .count) in
-    let m = now (a .starts) in
-    let p = c .before .before .before .before .before .before .before .before .before .before .before .before .pre in
-    no-o-ang L t v (a .q) m (ne-eqb (at t (a .q)) o-ang (λ e. omega (arith, e, char-at (p .0 .read .text) (a .q) (p .1), c .before .number-at .ensures)))
+    let k = c .before .before .before .before .before .before .before in
+    let a = k .args in
+    λ w e g. let z = line-size (g .text) in
+    asked-none (no-o-ang (lexicon-of (now (a .rules)) w (now (a .code))) (w .text) (seen w) (a .q) (memory (size w) (now (a .places)))
+    (ne-eqb (at (w .text) (a .q)) o-ang (λ y. omega (arith, y, char-at (g .text) (a .q) (omega (arith, k .pre .1)), c .before .number-at .ensures))))
 
 pub o-ang-test-spec : {M : Type 1} → statement M
 o-ang-test-spec =
@@ -64,8 +61,8 @@ o-ang-test-spec =
     (tie.spec
     add-number-at
     number-at-requires
-    add-simple-top-romanization-candidate-for-span
-    add-simple-top-romanization-candidate-for-span-2
+    add-from
+    add-to
     simple-top-romanization-candidate-for-span-requires
     opens-requires
     same-length

@@ -8,11 +8,11 @@ use borrow.Author.Needs.{needs}
 use Rattle.syllables.proofs.past_tone.Statement.{statement}
 use Rattle.syllables.proofs.past_tone.Tie as tie
 
-add-number-at : tie.Need-add-number-at
-add-number-at c = search needs
+add-kind-at : tie.Need-add-kind-at
+add-kind-at c = search needs
 
-number-at-requires : tie.Need-number-at-requires
-number-at-requires c κs = search needs
+kind-at-requires : tie.Need-kind-at-requires
+kind-at-requires c κs = search needs
 
 class-flag-requires : tie.Need-class-flag-requires
 class-flag-requires c κs = search needs
@@ -25,16 +25,16 @@ unfolding pick
 returns c =
     let a = c .before .before .before .before .args in
     sym (ap (λ (b : Bool). pick b (a .p + 1) (a .p))
-    (sym (c .before .class-flag .ensures ∙ ap (λ k. flagged (k / 1024) 5) (c .before .before .number-at .ensures)) ∙ c .if1 .taken))
+    (sym (c .before .class-flag .ensures ∙ ap (λ k. flagged (k / 1024) 5) (c .before .before .kind-at .ensures)) ∙ c .if1 .taken))
 
 returns-2 : tie.Need-returns-2
 unfolding pick
 returns-2 c =
     let a = c .before .before .before .before .args in
     sym (ap (λ (b : Bool). pick b (a .p + 1) (a .p))
-    (sym (c .before .class-flag .ensures ∙ ap (λ k. flagged (k / 1024) 5) (c .before .before .number-at .ensures)) ∙ c .if1 .left))
+    (sym (c .before .class-flag .ensures ∙ ap (λ k. flagged (k / 1024) 5) (c .before .before .kind-at .ensures)) ∙ c .if1 .left))
 
 pub past-tone-spec : {M : Type 1} → statement M
 past-tone-spec =
     tie.close
-    (tie.spec add-number-at number-at-requires class-flag-requires add-result returns returns-2)
+    (tie.spec add-kind-at kind-at-requires class-flag-requires add-result returns returns-2)

@@ -1,7 +1,8 @@
 -- `syllables::vowel_test`
 use mathlib.Core.Path.{sym, _∙_}
 use denote.Ref.{now}
-use Rattle.words.specs.Given.{text-in, view-of}
+use Rattle.places.specs.Shows.{memory}
+use Rattle.words.specs.Given.{seen, size, lent-after}
 use Rattle.rules.specs.Lent.{lexicon-of}
 use Rattle.syllables.specs.Tests.{no-vowel, a-vowel}
 use borrow.Author.Needs.{needs}
@@ -22,24 +23,26 @@ same-length c = search needs
 
 returns : tie.Need-returns
 returns c =
-    let a = c .before .before .before .before .before .before .before .before .before .before .before .before .before .before .before .before .before .before .before .before .args in
-    let L = lexicon-of (now (a .rules)) (now (a .classes)) (now (a .code)) in
-    let t = text-in (now (a .line)) (a .n) in
-    let v = view-of (now (a .classes)) (now (a .slots)) (now (a .room)) (a .count) in
-    let m = now (a .starts) in
-    a-vowel L t v (a .q) m (c .before .before .before .before .before .before .before .before .next-rom .ensures .0) (sym (c .before .before .before .before .before .opens .ensures) ∙ c .before .before .before .before .if1 .taken) (c .before .before .o-ang-test .ensures)
+    let k = c .before .before .before .before .before .before .before .before in
+    let a = k .before .before .before .before .before .before .before .args in
+    λ w e g. let A = k .next-rom .ensures .0 w e g in
+    let B = c .before .before .o-ang-test .ensures w e (lent-after _ g (A .kept)) in record {
+      did = a-vowel (lexicon-of (now (a .rules)) w (now (a .code))) (w .text) (seen w) (a .q) (memory (size w) (now (a .places))) (A .did)
+          (sym (c .before .before .before .before .before .opens .ensures) ∙ c .before .before .before .before .if1 .taken) (B .did);
+      kept = B .kept ∙ A .kept;
+    }
 
 same-length-2 : tie.Need-same-length-2
 same-length-2 c = search needs
 
 returns-2 : tie.Need-returns-2
 returns-2 c =
-    let a = c .before .before .before .before .before .before .before .before .before .before .before .before .before .before .before .before .args in
-    let L = lexicon-of (now (a .rules)) (now (a .classes)) (now (a .code)) in
-    let t = text-in (now (a .line)) (a .n) in
-    let v = view-of (now (a .classes)) (now (a .slots)) (now (a .room)) (a .count) in
-    let m = now (a .starts) in
-    no-vowel L t v (a .q) m (c .before .before .before .before .next-rom .ensures .0) (sym (c .before .opens .ensures) ∙ c .if1 .left)
+    let a = c .before .before .before .before .before .before .before .before .before .before .before .args in
+    λ w e g. let A = c .before .before .before .before .next-rom .ensures .0 w e g in record {
+      did = no-vowel (lexicon-of (now (a .rules)) w (now (a .code))) (w .text) (seen w) (a .q) (memory (size w) (now (a .places))) (A .did)
+          (sym (c .before .opens .ensures) ∙ c .if1 .left);
+      kept = A .kept;
+    }
 
 pub vowel-test-spec : {M : Type 1} → statement M
 vowel-test-spec =

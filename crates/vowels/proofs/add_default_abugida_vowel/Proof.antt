@@ -6,7 +6,9 @@ use Rattle.definition.specs.Texts.{at}
 use Rattle.definition.specs.Classes.{script}
 use Rattle.definition.specs.VowelRows.{vowels-of}
 use Rattle.rom.specs.Rom.{text}
-use Rattle.words.specs.Given.{text-in, view-of}
+use Rattle.places.specs.Shows.{memory}
+use Rattle.words.specs.Did.{asked-none}
+use Rattle.words.specs.Given.{kinds, seen, size, line-size}
 use Rattle.rules.specs.Lent.{lexicon-of}
 use Rattle.vowels.specs.Ways.{no-row, by-row}
 use Rattle.words.specs.Characters.{script-here}
@@ -32,17 +34,14 @@ enum-told c = search needs
 
 returns : tie.Need-returns
 returns c =
-    let p = c .before .before .before .before .before .before .before .before .before .before .before .before .before .before .before .pre in
-    let a = c .before .before .before .before .before .before .before .before .before .before .before .before .before .before .before .args in
-    let L = lexicon-of (now (a .rules)) (now (a .classes)) (now (a .code)) in
-    let t = text-in (now (a .line)) (a .n) in
-    let v = view-of (now (a .classes)) (now (a .slots)) (now (a .room)) (a .count) in
-    let m = now (a .starts) in
     let k = c .before .before .before .script-at in
+    let p = c .before .before .before .before .before .before .before .before .before .before .before .pre in
+    let a = c .before .before .before .before .before .before .before .before .before .before .before .args in
     let o = c .before .before .vowel-row in (
-      no-row L t v (vowels-of (now (a .vowels))) (a .tail) (text (a .r)) (a .s) (a .e) m
-          (none-told (now (a .vowels)) (k .result) (o .result) (o .ensures .0) (script (L .classes) (at t (a .s)))
-          (script-here (p .0 .read .text) (a .s) (omega (arith, p .4, p .5)) refl (k .ensures)) (c .enum-told .given .1)),
+      λ w e g. asked-none (no-row (lexicon-of (now (a .rules)) w (now (a .code))) (w .text) (seen w) (vowels-of (now (a .vowels))) (a .tail) (text (a .r))
+          (a .span .from) (a .span .to) (memory (size w) (now (a .places)))
+          (none-told (now (a .vowels)) (k .result) (o .result) (o .ensures .0) (script (kinds w) (at (w .text) (a .span .from)))
+          (script-here (g .text) (a .span .from) (omega (arith, p .4, p .5, line-size (g .text))) refl (k .ensures)) (c .enum-told .given .1))),
       p .2,
       omega arith,
       sym (stays (text (a .r))),
@@ -50,17 +49,19 @@ returns c =
 
 vowel-letters-requires : tie.Need-vowel-letters-requires
 vowel-letters-requires c κs =
-    let a = c .before .before .before .before .before .before .before .before .before .before .before .before .before .before .before .before .before .args in
-    let k = c .before .before .before .before .before .script-at in
+    let i = c .before .before .before .before .before in
+    let a = i .before .before .before .before .before .before .before .before .args in
+    let k = i .script-at in
     let o = c .before .before .before .before .vowel-row in
     let q = placed (now (a .vowels)) (k .result) (o .result) (o .ensures .0) _ (c .before .before .row .given .1) (o .ensures .1) in
     (q .0, q .2)
 
 vowel-by-requires : tie.Need-vowel-by-requires
 vowel-by-requires c κs =
-    let p = c .before .before .before .before .before .before .before .before .before .before .before .before .before .before .before .before .before .before .pre in
-    let a = c .before .before .before .before .before .before .before .before .before .before .before .before .before .before .before .before .before .before .args in
-    let k = c .before .before .before .before .before .before .script-at in
+    let i = c .before .before .before .before .before .before in
+    let p = i .before .before .before .before .before .before .before .before .pre in
+    let a = i .before .before .before .before .before .before .before .before .args in
+    let k = i .script-at in
     let o = c .before .before .before .before .before .vowel-row in
     let d = c .before .before .before .row .given .1 in
     let w = now (c .vowel-letters .result) in
@@ -74,22 +75,23 @@ same-length c = search needs
 
 returns-2 : tie.Need-returns-2
 returns-2 c =
-    let p = c .before .before .before .before .before .before .before .before .before .before .before .before .before .before .before .before .before .before .before .before .before .pre in
-    let a = c .before .before .before .before .before .before .before .before .before .before .before .before .before .before .before .before .before .before .before .before .before .args in
-    let L = lexicon-of (now (a .rules)) (now (a .classes)) (now (a .code)) in
-    let t = text-in (now (a .line)) (a .n) in
-    let v = view-of (now (a .classes)) (now (a .slots)) (now (a .room)) (a .count) in
-    let m = now (a .starts) in
-    let k = c .before .before .before .before .before .before .before .before .before .script-at in
+    let i = c .before .before .before .before .before .before .before .before .before in
+    let p = i .before .before .before .before .before .before .before .before .pre in
+    let a = i .before .before .before .before .before .before .before .before .args in
+    let k = i .script-at in
     let o = c .before .before .before .before .before .before .before .before .vowel-row in
     let d = c .before .before .before .before .before .before .row .given .1 in
-    let w = now (c .before .before .before .vowel-letters .result) in
+    let s = now (c .before .before .before .vowel-letters .result) in
     let z = c .before .before .before .vowel-letters .ensures in
-    let l = few-letters (now (a .vowels)) (k .result) (o .result) (o .ensures .0) _ d w z (o .ensures .1) in
+    let l = few-letters (now (a .vowels)) (k .result) (o .result) (o .ensures .0) _ d s z (o .ensures .1) in
     let x = c .before .before .vowel-by .ensures in (
-      by-row L t v (vowels-of (now (a .vowels))) (a .tail) (text (a .r)) (a .s) (a .e) m _
-          (row-told (now (a .vowels)) (k .result) (o .result) (o .ensures .0) _ d w z (script (L .classes) (at t (a .s)))
-          (script-here (p .0 .read .text) (a .s) (omega (arith, p .4, p .5)) refl (k .ensures))) (x .0),
+      λ w e g. let A = x .0 w e g in record {
+        did = by-row (lexicon-of (now (a .rules)) w (now (a .code))) (w .text) (seen w) (vowels-of (now (a .vowels))) (a .tail) (text (a .r))
+            (a .span .from) (a .span .to) (memory (size w) (now (a .places))) _
+            (row-told (now (a .vowels)) (k .result) (o .result) (o .ensures .0) _ d s z (script (kinds w) (at (w .text) (a .span .from)))
+            (script-here (g .text) (a .span .from) (omega (arith, p .4, p .5, line-size (g .text))) refl (k .ensures))) (A .did);
+        kept = A .kept;
+      },
       x .1,
       omega (arith, x .2, l),
       x .3,

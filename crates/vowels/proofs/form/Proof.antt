@@ -4,8 +4,9 @@ use native.Mathlib.Omega.{arith}
 use denote.Ref.{now}
 use Rattle.ends.specs.Shown.{shown, chosen}
 use Rattle.ends.specs.declared.Which.{Which}
-use Rattle.words.specs.Did.{did-by}
-use Rattle.words.specs.Given.{text-in, view-of, alpha-before}
+use Rattle.places.specs.Shows.{memory}
+use Rattle.words.specs.Did.{did-by, asked-none}
+use Rattle.words.specs.Given.{seen, size, line-size}
 use Rattle.rules.specs.Lent.{lexicon-of}
 use Rattle.vowels.specs.Ways.{takes-none, stays-bare, after-virama, word-starts, by-settled}
 use Rattle.words.specs.Characters.{flag-prev}
@@ -22,20 +23,19 @@ is-bare-requires c κs = search needs
 returns : tie.Need-returns
 unfolding shown
 returns c =
-    let p = c .before .before .before .before .before .before .before .before .before .before .before .before .before .before .before .pre in
-    let a = c .before .before .before .before .before .before .before .before .before .before .before .before .before .before .before .args in
-    let L = lexicon-of (now (a .rules)) (now (a .classes)) (now (a .code)) in
-    let t = text-in (now (a .line)) (a .n) in
-    let v = view-of (now (a .classes)) (now (a .slots)) (now (a .room)) (a .count) in
-    let m = now (a .starts) in
-    let f = a .f in
-    let b = now (a .bytes) in
-    let g = p .0 .read .text in
-    λ vowel. stays-bare L t v (a .tail) (shown b vowel f) (a .s) (a .e) m (sym (c .before .before .before .takes-vowel .ensures) ∙ c .before .before .if1 .taken)
-    (sym (c .before .is-bare .ensures (now (a .classes)) (a .n) g (p .3)) ∙ c .if2 .taken)
+    let k = c .before .before .before in
+    let a = k .before .before .before .before .before .before .before .args in
+    let p = k .before .before .before .before .before .before .before .pre in
+    λ vowel w e g. let u = shown (now (a .bytes)) vowel (a .f) in
+    let n = line-size (g .text) in
+    let L = lexicon-of (now (a .rules)) w (now (a .code)) in
+    let m = memory (size w) (now (a .places)) in
+    let x = sym (k .takes-vowel .ensures) ∙ c .before .before .if1 .taken in
+    let y = sym (c .before .is-bare .ensures w (g .text)) ∙ c .if2 .taken in
+    asked-none (stays-bare L (w .text) (seen w) (a .tail) u (a .span .from) (a .span .to) m x y)
 
-number-at-requires : tie.Need-number-at-requires
-number-at-requires c κs = search needs
+kind-at-requires : tie.Need-kind-at-requires
+kind-at-requires c κs = search needs
 
 class-flag-requires : tie.Need-class-flag-requires
 class-flag-requires c κs = search needs
@@ -43,20 +43,18 @@ class-flag-requires c κs = search needs
 returns-2 : tie.Need-returns-2
 unfolding shown
 returns-2 c =
-    let p = c .before .before .before .before .before .before .before .before .before .before .before .before .before .before .before .before .before .before .pre in
-    let a = c .before .before .before .before .before .before .before .before .before .before .before .before .before .before .before .before .before .before .args in
-    let L = lexicon-of (now (a .rules)) (now (a .classes)) (now (a .code)) in
-    let t = text-in (now (a .line)) (a .n) in
-    let v = view-of (now (a .classes)) (now (a .slots)) (now (a .room)) (a .count) in
-    let m = now (a .starts) in
-    let f = a .f in
-    let b = now (a .bytes) in
-    let g = p .0 .read .text in
-    let k = c .before .before .number-at in
-    let q = c .before .class-flag in
-    λ vowel. after-virama L t v (a .tail) (shown b vowel f) (a .s) (a .e) m (sym (c .before .before .before .before .before .before .takes-vowel .ensures) ∙ c .before .before .before .before .before .if1 .taken)
-    (sym (c .before .before .before .before .is-bare .ensures (now (a .classes)) (a .n) g (p .3)) ∙ c .before .before .before .if2 .left)
-    (sym (flag-prev g (a .s) (omega (arith, p .2, p .3)) (k .ensures) 3 (λ l. l .virama) (λ n l z. z .virama) (q .ensures)) ∙ c .if3 .taken)
+    let k = c .before .before .before .before .before .before in
+    let a = k .before .before .before .before .before .before .before .args in
+    let p = k .before .before .before .before .before .before .before .pre in
+    λ vowel w e g. let u = shown (now (a .bytes)) vowel (a .f) in
+    let n = line-size (g .text) in
+    let L = lexicon-of (now (a .rules)) w (now (a .code)) in
+    let m = memory (size w) (now (a .places)) in
+    let x = sym (k .takes-vowel .ensures) ∙ c .before .before .before .before .before .if1 .taken in
+    let y = sym (c .before .before .before .before .is-bare .ensures w (g .text)) ∙ c .before .before .before .if2 .left in
+    let z = sym (flag-prev (g .text) (a .span .from) (omega (arith, p .2, p .3, n)) (c .before .before .kind-at .ensures) 3 (λ l. l .virama)
+    (λ j l z. z .virama) (c .before .class-flag .ensures)) ∙ c .if3 .taken in
+    asked-none (after-virama L (w .text) (seen w) (a .tail) u (a .span .from) (a .span .to) m x y z)
 
 is-at-start-of-word-requires : tie.Need-is-at-start-of-word-requires
 is-at-start-of-word-requires c κs = search needs
@@ -70,24 +68,28 @@ same-length c = search needs
 returns-3 : tie.Need-returns-3
 unfolding shown
 returns-3 c =
-    let p = c .before .before .before .before .before .before .before .before .before .before .before .before .before .before .before .before .before .before .before .before .before .before .before .before .pre in
-    let a = c .before .before .before .before .before .before .before .before .before .before .before .before .before .before .before .before .before .before .before .before .before .before .before .before .args in
-    let L = lexicon-of (now (a .rules)) (now (a .classes)) (now (a .code)) in
-    let t = text-in (now (a .line)) (a .n) in
-    let v = view-of (now (a .classes)) (now (a .slots)) (now (a .room)) (a .count) in
-    let m = now (a .starts) in
-    let f = a .f in
-    let b = now (a .bytes) in
-    let g = p .0 .read .text in
-    let k = c .before .before .before .before .before .before .before .before .number-at in
-    let q = c .before .before .before .before .before .before .before .class-flag in
-    λ vowel. word-starts L t v (a .tail) (shown b vowel f) (a .s) (a .e) m (sym (c .before .before .before .before .before .before .before .before .before .before .before .before .takes-vowel .ensures) ∙ c .before .before .before .before .before .before .before .before .before .before .before .if1 .taken)
-    (sym (c .before .before .before .before .before .before .before .before .before .before .is-bare .ensures (now (a .classes)) (a .n) g (p .3)) ∙ c .before .before .before .before .before .before .before .before .before .if2 .left)
-    (sym (flag-prev g (a .s) (omega (arith, p .2, p .3)) (k .ensures) 3 (λ l. l .virama) (λ n l z. z .virama) (q .ensures)) ∙ c .before .before .before .before .before .before .if3 .left)
-    (c .before .before .before .before .is-at-start-of-word .ensures t (alpha-before g (a .s) (omega (arith, p .2, p .3)))) (sym (c .before .starts-bare .ensures) ∙ c .if4 .taken)
+    let k = c .before .before .before .before .before .before .before .before .before .before .before .before in
+    let a = k .before .before .before .before .before .before .before .args in
+    let p = k .before .before .before .before .before .before .before .pre in
+    λ vowel w e g. let u = shown (now (a .bytes)) vowel (a .f) in
+    let n = line-size (g .text) in
+    let L = lexicon-of (now (a .rules)) w (now (a .code)) in
+    let m = memory (size w) (now (a .places)) in
+    let x = sym (k .takes-vowel .ensures) ∙ c .before .before .before .before .before .before .before .before .before .before .before .if1 .taken in
+    let i = c .before .before .before .before .before .before .before .before .before in
+    let y = sym (i .before .is-bare .ensures w (g .text)) ∙ i .if2 .left in
+    let z = sym (flag-prev (g .text) (a .span .from) (omega (arith, p .2, p .3, n)) (c .before .before .before .before .before .before .before .before .kind-at .ensures) 3 (λ l. l .virama)
+    (λ j l z. z .virama) (c .before .before .before .before .before .before .before .class-flag .ensures)) ∙ c .before .before .before .before .before .before .if3 .left in
+    let A = c .before .before .before .before .is-at-start-of-word .ensures w g in record {
+      did = word-starts L (w .text) (seen w) (a .tail) u (a .span .from) (a .span .to) m x y z (A .did) (sym (c .before .starts-bare .ensures) ∙ c .if4 .taken);
+      kept = A .kept;
+    }
 
 form-settled-requires : tie.Need-form-settled-requires
-form-settled-requires c κs = let p = c .before .before .before .before .before .before .before .before .before .before .before .before .before .before .before .before .before .before .before .before .before .before .before .before .pre in (p .0 .read, p .2, p .3)
+form-settled-requires c κs =
+    let k = c .before .before .before .before .before .before .before .before .before .before .before .before in
+    let p = k .before .before .before .before .before .before .before .pre in
+    (p .0, p .2, p .3)
 
 same-length-2 : tie.Need-same-length-2
 same-length-2 c = search needs
@@ -95,34 +97,35 @@ same-length-2 c = search needs
 returns-4 : tie.Need-returns-4
 unfolding shown
 returns-4 c =
-    let p = c .before .before .before .before .before .before .before .before .before .before .before .before .before .before .before .before .before .before .before .before .before .before .before .before .before .pre in
-    let a = c .before .before .before .before .before .before .before .before .before .before .before .before .before .before .before .before .before .before .before .before .before .before .before .before .before .args in
-    let L = lexicon-of (now (a .rules)) (now (a .classes)) (now (a .code)) in
-    let t = text-in (now (a .line)) (a .n) in
-    let v = view-of (now (a .classes)) (now (a .slots)) (now (a .room)) (a .count) in
-    let m = now (a .starts) in
-    let f = a .f in
-    let b = now (a .bytes) in
-    let g = p .0 .read .text in
-    let k = c .before .before .before .before .before .before .before .before .before .number-at in
-    let q = c .before .before .before .before .before .before .before .before .class-flag in
-    λ vowel. did-by (ap (λ (w : Which). chosen w (shown b vowel f)) (c .form-settled .ensures))
-    (by-settled L t v (a .tail) (shown b vowel f) (a .s) (a .e) m (sym (c .before .before .before .before .before .before .before .before .before .before .before .before .before .takes-vowel .ensures) ∙ c .before .before .before .before .before .before .before .before .before .before .before .before .if1 .taken)
-    (sym (c .before .before .before .before .before .before .before .before .before .before .before .is-bare .ensures (now (a .classes)) (a .n) g (p .3)) ∙ c .before .before .before .before .before .before .before .before .before .before .if2 .left)
-    (sym (flag-prev g (a .s) (omega (arith, p .2, p .3)) (k .ensures) 3 (λ l. l .virama) (λ n l z. z .virama) (q .ensures)) ∙ c .before .before .before .before .before .before .before .if3 .left)
-    (c .before .before .before .before .before .is-at-start-of-word .ensures t (alpha-before g (a .s) (omega (arith, p .2, p .3)))) (sym (c .before .before .starts-bare .ensures) ∙ c .before .if4 .left))
+    let h = c .before in
+    let k = h .before .before .before .before .before .before .before .before .before .before .before .before in
+    let a = k .before .before .before .before .before .before .before .args in
+    let p = k .before .before .before .before .before .before .before .pre in
+    λ vowel w e g. let u = shown (now (a .bytes)) vowel (a .f) in
+    let n = line-size (g .text) in
+    let L = lexicon-of (now (a .rules)) w (now (a .code)) in
+    let m = memory (size w) (now (a .places)) in
+    let x = sym (k .takes-vowel .ensures) ∙ c .before .before .before .before .before .before .before .before .before .before .before .before .if1 .taken in
+    let i = c .before .before .before .before .before .before .before .before .before .before in
+    let y = sym (i .before .is-bare .ensures w (g .text)) ∙ i .if2 .left in
+    let z = sym (flag-prev (g .text) (a .span .from) (omega (arith, p .2, p .3, n)) (c .before .before .before .before .before .before .before .before .before .kind-at .ensures) 3 (λ l. l .virama)
+    (λ j l z. z .virama) (c .before .before .before .before .before .before .before .before .class-flag .ensures)) ∙ c .before .before .before .before .before .before .before .if3 .left in
+    let A = c .before .before .before .before .before .is-at-start-of-word .ensures w g in record {
+      did = did-by (ap (λ (o : Which). chosen o u) (c .form-settled .ensures w e (g .text)))
+          (by-settled L (w .text) (seen w) (a .tail) u (a .span .from) (a .span .to) m x y z (A .did) (sym (c .before .before .starts-bare .ensures) ∙ c .before .if4 .left));
+      kept = A .kept;
+    }
 
 returns-5 : tie.Need-returns-5
 unfolding shown
 returns-5 c =
-    let a = c .before .before .before .before .before .before .before .before .before .before .before .before .before .args in
-    let L = lexicon-of (now (a .rules)) (now (a .classes)) (now (a .code)) in
-    let t = text-in (now (a .line)) (a .n) in
-    let v = view-of (now (a .classes)) (now (a .slots)) (now (a .room)) (a .count) in
-    let m = now (a .starts) in
-    let f = a .f in
-    let b = now (a .bytes) in
-    λ vowel. takes-none L t v (a .tail) (shown b vowel f) (a .s) (a .e) m (sym (c .before .takes-vowel .ensures) ∙ c .if1 .left)
+    let k = c .before in
+    let a = k .before .before .before .before .before .before .before .args in
+    λ vowel w e g. let u = shown (now (a .bytes)) vowel (a .f) in
+    let L = lexicon-of (now (a .rules)) w (now (a .code)) in
+    let m = memory (size w) (now (a .places)) in
+    let x = sym (k .takes-vowel .ensures) ∙ c .if1 .left in
+    asked-none (takes-none L (w .text) (seen w) (a .tail) u (a .span .from) (a .span .to) m x)
 
 pub form-spec : {M : Type 1} → statement M
 form-spec =
@@ -131,7 +134,7 @@ form-spec =
     takes-vowel-requires
     is-bare-requires
     returns
-    number-at-requires
+    kind-at-requires
     class-flag-requires
     returns-2
     is-at-start-of-word-requires

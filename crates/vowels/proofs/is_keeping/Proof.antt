@@ -28,7 +28,9 @@ same-requires-2 c κs = search needs
 
 returns-2 : tie.Need-returns-2
 unfolding keeping any
-returns-2 c = or-next _ _ (sym (c .before .before .before .before .same .ensures) ∙ c .before .before .before .if1 .left) (or-here _ _ (sym (c .before .same2 .ensures) ∙ c .if2 .taken))
+returns-2 c =
+    or-next _ _ (sym (c .before .before .before .before .same .ensures) ∙ c .before .before .before .if1 .left)
+    (or-here _ _ (sym (c .before .same2 .ensures) ∙ c .if2 .taken))
 
 slice-aggregate-same-3 : tie.Need-slice-aggregate-same-3
 slice-aggregate-same-3 c = search needs
@@ -38,7 +40,10 @@ same-requires-3 c κs = search needs
 
 returns-3 : tie.Need-returns-3
 unfolding keeping any
-returns-3 c = or-next _ _ (sym (c .before .before .before .before .before .before .before .same .ensures) ∙ c .before .before .before .before .before .before .if1 .left) (or-next _ _ (sym (c .before .before .before .before .same2 .ensures) ∙ c .before .before .before .if2 .left) (or-here _ _ (sym (c .before .same3 .ensures) ∙ c .if3 .taken)))
+returns-3 c =
+    or-next _ _ (sym (c .before .before .before .before .before .before .before .same .ensures) ∙ c .before .before .before .before .before .before .if1 .left)
+    (or-next _ _ (sym (c .before .before .before .before .same2 .ensures) ∙ c .before .before .before .if2 .left)
+    (or-here _ _ (sym (c .before .same3 .ensures) ∙ c .if3 .taken)))
 
 slice-aggregate-same-4 : tie.Need-slice-aggregate-same-4
 slice-aggregate-same-4 c = search needs
@@ -48,7 +53,12 @@ same-requires-4 c κs = search needs
 
 returns-4 : tie.Need-returns-4
 unfolding keeping any
-returns-4 c = or-next _ _ (sym (c .before .before .before .before .before .before .before .before .before .before .same .ensures) ∙ c .before .before .before .before .before .before .before .before .before .if1 .left) (or-next _ _ (sym (c .before .before .before .before .before .before .before .same2 .ensures) ∙ c .before .before .before .before .before .before .if2 .left) (or-next _ _ (sym (c .before .before .before .before .same3 .ensures) ∙ c .before .before .before .if3 .left) (or-here _ _ (sym (c .before .same4 .ensures) ∙ c .if4 .taken))))
+returns-4 c =
+    let i = c .before .before .before .before .before .before .before .before .before in
+    or-next _ _ (sym (i .before .same .ensures) ∙ i .if1 .left)
+    (or-next _ _ (sym (c .before .before .before .before .before .before .before .same2 .ensures) ∙ c .before .before .before .before .before .before .if2 .left)
+    (or-next _ _ (sym (c .before .before .before .before .same3 .ensures) ∙ c .before .before .before .if3 .left)
+    (or-here _ _ (sym (c .before .same4 .ensures) ∙ c .if4 .taken))))
 
 slice-aggregate-same-5 : tie.Need-slice-aggregate-same-5
 slice-aggregate-same-5 c = search needs
@@ -58,7 +68,14 @@ same-requires-5 c κs = search needs
 
 returns-5 : tie.Need-returns-5
 unfolding keeping any
-returns-5 c = or-next _ _ (sym (c .before .before .before .before .before .before .before .before .before .before .before .before .same .ensures) ∙ c .before .before .before .before .before .before .before .before .before .before .before .if1 .left) (or-next _ _ (sym (c .before .before .before .before .before .before .before .before .before .same2 .ensures) ∙ c .before .before .before .before .before .before .before .before .if2 .left) (or-next _ _ (sym (c .before .before .before .before .before .before .same3 .ensures) ∙ c .before .before .before .before .before .if3 .left) (or-next _ _ (sym (c .before .before .before .same4 .ensures) ∙ c .before .before .if4 .left) ((c .same5 .ensures ∙ sym (or-false (same (now (c .before .before .before .before .before .before .before .before .before .before .before .before .before .before .before .args .code)) (chars "pan"))))))))
+returns-5 c =
+    let k = c .before .before .before .before .before .before .before .before .before .before .before .before in
+    or-next _ _ (sym (k .same .ensures) ∙ c .before .before .before .before .before .before .before .before .before .before .before .if1 .left)
+    (or-next _ _ (sym (c .before .before .before .before .before .before .before .before .before .same2 .ensures) ∙ c .before .before .before .before .before .before .before .before .if2 .left)
+    (or-next _ _ (sym (c .before .before .before .before .before .before .same3 .ensures) ∙ c .before .before .before .before .before .if3 .left)
+    (or-next _ _ (sym (c .before .before .before .same4 .ensures) ∙ c .before .before .if4 .left)
+    ((c .same5 .ensures ∙ sym
+    (or-false (same (now (k .before .before .before .args .code)) (chars "pan"))))))))
 
 pub is-keeping-spec : {M : Type 1} → statement M
 is-keeping-spec =

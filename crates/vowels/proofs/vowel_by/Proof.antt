@@ -11,7 +11,8 @@ use Rattle.definition.specs.Building.{grown}
 use Rattle.rom.specs.Rom.{text, text-length, bytes-length, len-by, text-by, clean-by}
 use Rattle.ends.specs.Shown.{Within, shown, chosen}
 use Rattle.ends.specs.Grew.{grown-as, chosen-length}
-use Rattle.words.specs.Given.{text-in, view-of}
+use Rattle.places.specs.Shows.{memory}
+use Rattle.words.specs.Given.{seen, size}
 use Rattle.rules.specs.Lent.{lexicon-of}
 use Rattle.vowels.specs.Ways.{by-forms}
 use borrow.Author.Needs.{needs}
@@ -19,10 +20,10 @@ use Rattle.vowels.proofs.vowel_by.Statement.{statement}
 use Rattle.vowels.proofs.vowel_by.Tie as tie
 
 array-share-prefix-b : tie.Need-array-share-prefix-b
-array-share-prefix-b c = let p = c .before .before .before .before .before .before .before .before .before .before .before .before .pre .1 in omega (arith, bytes-length p, p .fits)
+array-share-prefix-b c = let p = c .before .before .before .before .before .before .before .pre .1 in omega (arith, bytes-length p, p .fits)
 
 slice-aggregate-bases : tie.Need-slice-aggregate-bases
-slice-aggregate-bases c = sym (text-length (c .before .before .before .before .before .before .before .before .before .before .before .before .before .pre .1))
+slice-aggregate-bases c = sym (text-length (c .before .before .before .before .before .before .before .before .pre .1))
 
 add-bases : tie.Need-add-bases
 add-bases c = search needs
@@ -31,16 +32,19 @@ bases-requires : tie.Need-bases-requires
 bases-requires c κs = search needs
 
 array-share-prefix-b-2 : tie.Need-array-share-prefix-b-2
-array-share-prefix-b-2 c = let p = c .before .before .before .before .before .before .before .before .before .before .before .before .before .before .before .pre .1 in omega (arith, bytes-length p, p .fits)
+array-share-prefix-b-2 c = let p = c .before .before .before .before .before .before .before .before .before .before .before .before .pre .1 in omega (arith, bytes-length p, p .fits)
 
 slice-aggregate-form : tie.Need-slice-aggregate-form
-slice-aggregate-form c = sym (text-length (c .before .before .before .before .before .before .before .before .before .before .before .before .before .before .before .before .pre .1))
+slice-aggregate-form c = let k = c .before in sym (text-length (k .before .before .before .before .before .before .before .before .before .before .before .before .pre .1))
 
 form-requires : tie.Need-form-requires
 form-requires c κs = search needs
 
 shaped-requires : tie.Need-shaped-requires
-shaped-requires c κs = let p = c .before .before .before .before .before .before .before .before .before .before .before .before .before .before .before .before .before .before .before .pre in (p .1, subst (λ (n : ℕ). Within n (c .before .before .before .before .before .bases .result)) (text-length (p .1)) (c .before .before .before .before .before .bases .ensures .0), p .3)
+shaped-requires c κs =
+    let k = c .before .before .before .before .before in
+    let p = k .before .before .before .before .before .before .before .before .before .before .before .pre in
+    (p .1, subst (λ (n : ℕ). Within n (k .bases .result)) (text-length (p .1)) (k .bases .ensures .0), p .3)
 
 is-grown-requires : tie.Need-is-grown-requires
 is-grown-requires c κs = search needs
@@ -50,25 +54,26 @@ same-length c = search needs
 
 returns : tie.Need-returns
 returns c =
-    let p = c .before .before .before .before .before .before .before .before .before .before .before .before .before .before .before .before .before .before .before .before .before .pre in
-    let a = c .before .before .before .before .before .before .before .before .before .before .before .before .before .before .before .before .before .before .before .before .before .args in
-    let L = lexicon-of (now (a .rules)) (now (a .classes)) (now (a .code)) in
-    let t = text-in (now (a .line)) (a .n) in
-    let v = view-of (now (a .classes)) (now (a .slots)) (now (a .room)) (a .count) in
-    let m = now (a .starts) in
+    let i = c .before .before .before .before .before .before .before in
+    let p = i .before .before .before .before .before .before .before .before .before .before .before .pre in
+    let a = i .before .before .before .before .before .before .before .before .before .before .before .args in
     let r = text (a .r) in
     let x = now (a .letters) in
-    let f = c .before .before .before .before .before .before .before .bases in
-    let w = c .before .before .before .before .form .result in
+    let f = i .bases in
+    let o = c .before .before .before .before .form .result in
     let u = shown r x (f .result) in
-    let e = c .before .shaped .ensures in
-    let l = chosen-length r x (f .result) (f .ensures .0) w in
-    let h : length (chosen w u) ≤ most-bytes = omega (arith, l, text-length (p .1), p .3) in
-    let k = text-by (chosen w u) e h in (
-      by-forms L t v (a .tail) (a .s) (a .e) m u (bases (a .ao) x r (eqb (a .s + 1) (a .e))) (f .ensures .1 x) k (c .before .before .before .before .form .ensures x),
-      clean-by (chosen w u) e h,
-      omega (arith, len-by (chosen w u) e, l, text-length (p .1)),
-      c .is-grown .ensures ∙ sym (grown-as r x (f .result) (f .ensures .0) (p .2) w) ∙ ap (grown r) (sym k),
+    let d = c .before .shaped .ensures in
+    let l = chosen-length r x (f .result) (f .ensures .0) o in
+    let h : length (chosen o u) ≤ most-bytes = omega (arith, l, text-length (p .1), p .3) in
+    let k = text-by (chosen o u) d h in (
+      λ w e g. let A = c .before .before .before .before .form .ensures x w e g in record {
+        did = by-forms (lexicon-of (now (a .rules)) w (now (a .code))) (w .text) (seen w) (a .tail) (a .span .from) (a .span .to)
+            (memory (size w) (now (a .places))) u (bases (a .ao) x r (eqb (a .span .from + 1) (a .span .to))) (f .ensures .1 x) k (A .did);
+        kept = A .kept;
+      },
+      clean-by (chosen o u) d h,
+      omega (arith, len-by (chosen o u) d, l, text-length (p .1)),
+      c .is-grown .ensures ∙ sym (grown-as r x (f .result) (f .ensures .0) (p .2) o) ∙ ap (grown r) (sym k),
     )
 
 pub vowel-by-spec : {M : Type 1} → statement M

@@ -34,8 +34,8 @@ returns-2 c =
     let d = b .before .before .before .before .before .before in
     let s = drop (d .args .row) (now (d .args .rules)) in
     let f = sym (b .before .flag2 .ensures) ∙ b .if2 .taken in
-    λ classes e. c .has-letter .ensures ∙ ap (any (letter-byte (now (d .args .alphas)))) (c .before .target-text .ensures)
-    ∙ letters-told classes (now (d .args .alphas)) e _ (target-low s (d .pre .spoken) f)
+    λ classes e. c .has-letter .ensures ∙ ap (any (letter-byte (now (d .args .ready)))) (c .before .target-text .ensures)
+    ∙ letters-told classes (now (d .args .ready)) e _ (target-low s (d .pre .spoken) f)
     ∙ brings-target s (classes-of classes) (sym (b .before .before .before .flag .ensures) ∙ b .before .before .if1 .left) f
 
 returns-3 : tie.Need-returns-3

@@ -14,10 +14,10 @@ use Rattle.words.proofs.has_letter.Statement.{statement}
 use Rattle.words.proofs.has_letter.Tie as tie
 
 abbrev Inv-loop : tie.InvT-loop
-Inv-loop alphas text i₀ i = any (letter-byte alphas) (drop i text) ≡ any (letter-byte alphas) text
+Inv-loop ready text i₀ i = any (letter-byte ready) (drop i text) ≡ any (letter-byte ready) text
 
 abbrev μ-loop : tie.MeasureT-loop
-μ-loop alphas text i₀ i = length text - i
+μ-loop ready text i₀ i = length text - i
 
 loop-holds : tie.Need-loop-holds Inv-loop μ-loop
 loop-holds c = refl
@@ -25,18 +25,18 @@ loop-holds c = refl
 byte-requires : tie.Need-byte-requires Inv-loop μ-loop
 byte-requires c κs = search needs
 
-cast-byte : tie.Need-cast-byte Inv-loop μ-loop
-cast-byte c = search needs
+cast-number-at : tie.Need-cast-number-at Inv-loop μ-loop
+cast-number-at c = search needs
 
-byte-requires-2 : tie.Need-byte-requires-2 Inv-loop μ-loop
-byte-requires-2 c κs = search needs
+number-at-requires : tie.Need-number-at-requires Inv-loop μ-loop
+number-at-requires c κs = search needs
 
 returns : tie.Need-returns Inv-loop μ-loop
 returns c =
     let l = c .before .before .before .before in
     let a = l .before .before .before .args in
-    any-turn (letter-byte (now (a .alphas))) (now (a .text)) (l .loop .i) (omega arith) true
-    (byte-letter (now (a .alphas)) (now (a .text)) (l .loop .i) _ _ (c .before .before .byte .ensures .0) (c .before .byte2 .ensures .0) (omega arith))
+    any-turn (letter-byte (now (a .ready))) (now (a .text)) (l .loop .i) (omega arith) true
+    (byte-letter (now (a .ready)) (now (a .text)) (l .loop .i) _ _ (c .before .before .byte .ensures .0) (c .before .number-at .ensures) (omega arith))
     ∙ l .loop .inv
 
 add-i : tie.Need-add-i Inv-loop μ-loop
@@ -49,15 +49,12 @@ loop-again : tie.Need-loop-again Inv-loop μ-loop
 loop-again c =
     let l = c .before .before .before .before in
     let a = l .before .before .before .args in
-    any-turn (letter-byte (now (a .alphas))) (now (a .text)) (l .loop .i) (omega arith) false
-    (byte-other (now (a .alphas)) (now (a .text)) (l .loop .i) _ _ (c .before .before .byte .ensures .0) (c .before .byte2 .ensures .0) (λ z. omega arith))
+    any-turn (letter-byte (now (a .ready))) (now (a .text)) (l .loop .i) (omega arith) false
+    (byte-other (now (a .ready)) (now (a .text)) (l .loop .i) _ _ (c .before .before .byte .ensures .0) (c .before .number-at .ensures) (λ z. omega arith))
     ∙ l .loop .inv
 
 returns-2 : tie.Need-returns-2 Inv-loop μ-loop
-returns-2 c =
-    let l = c .before in
-    let a = l .before .before .before .args in
-    any-over (letter-byte (now (a .alphas))) (now (a .text)) (l .loop .i) (omega arith) ∙ l .loop .inv
+returns-2 c = let l = c .before in any-over (letter-byte (now (l .before .before .before .args .ready))) (now (l .before .before .before .args .text)) (l .loop .i) (omega arith) ∙ l .loop .inv
 
 pub has-letter-spec : {M : Type 1} → statement M
 has-letter-spec =
@@ -67,8 +64,8 @@ has-letter-spec =
     μ-loop
     loop-holds
     byte-requires
-    cast-byte
-    byte-requires-2
+    cast-number-at
+    number-at-requires
     returns
     add-i
     loop-less

@@ -5,14 +5,14 @@ use borrow.Author.Needs.{needs}
 use Rattle.words.proofs.is_alpha_at.Statement.{statement}
 use Rattle.words.proofs.is_alpha_at.Tie as tie
 
-number-at-requires : tie.Need-number-at-requires
-number-at-requires c κs = search needs
+kind-at-requires : tie.Need-kind-at-requires
+kind-at-requires c κs = search needs
 
 is-alpha-kind-requires : tie.Need-is-alpha-kind-requires
 is-alpha-kind-requires c κs = search needs
 
 returns : tie.Need-returns
-returns c = c .is-alpha-kind .ensures ∙ ap alpha-kind (c .before .number-at .ensures)
+returns c = c .is-alpha-kind .ensures ∙ ap alpha-kind (c .before .kind-at .ensures)
 
 pub is-alpha-at-spec : {M : Type 1} → statement M
-is-alpha-at-spec = tie.close (tie.spec number-at-requires is-alpha-kind-requires returns)
+is-alpha-at-spec = tie.close (tie.spec kind-at-requires is-alpha-kind-requires returns)

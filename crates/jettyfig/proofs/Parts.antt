@@ -1,0 +1,65 @@
+-- Parts of one list lent one after the other and come back: what is made ready of the tables, and a line.
+use Prim.Native.Nat.{ℕ, _+_, _-_, _*_, _/_, _≤_}
+use mathlib.Core.List.{List, _++_}
+use mathlib.Core.Path.{_≡_, ap, _∙_}
+use native.Mathlib.Omega.{arith}
+use lib.ListN.{length, take, drop, replicate, length-append, length-drop, length-replicate}
+use lib.Seq.{take-at, drop-at, take-take, length-take-le}
+use borrow.Rule.Slice.PartMut.{putMid, midOf}
+use Rattle.base.specs.Loans.{lent-end, back-end}
+use Rattle.definition.specs.Limits.{most-characters}
+use Rattle.definition.specs.Texts.{Text}
+use Rattle.utf8.specs.Lines.{spaced}
+use Rattle.classes.specs.Told.{kinds-of, alphas-of}
+use Rattle.classes.specs.Packing.{alphas-length, kinds-length}
+use Rattle.dicts.specs.Index.{index-entries, row-offsets, indexed, index-of}
+use Rattle.jettyfig.specs.Steps.{with-kinds}
+
+-- The letters have come back to a list of zeros, and the rest of it is lent for the index
+module _ (classes old letters : List ℕ) (z : old ≡ replicate (128 + index-entries) 0) (a : letters ≡ alphas-of classes) where
+  abbrev came : List ℕ
+  came = letters ++ drop 128 old
+
+  lettered : length letters ≡ 128
+  lettered = ap length a ∙ alphas-length classes
+
+  pub as-long : length came ≡ 128 + index-entries
+  as-long = omega (arith, lettered, length-append letters (drop 128 old), length-drop 128 old, ap length z, length-replicate {A = ℕ} (128 + index-entries) 0)
+
+  rest : midOf 128 (length came - 128) came ≡ replicate index-entries 0
+  rest = lent-end came 128 ∙ drop-at letters (drop 128 old) 128 lettered ∙ ap (drop 128) z
+
+  pub room-for-index : length (midOf 128 (length came - 128) came) ≤ index-entries
+  room-for-index = omega (arith, ap length rest, length-replicate {A = ℕ} index-entries 0)
+
+  pub made-ready : (rules index : List ℕ) → index ≡ indexed 0 (row-offsets rules) (midOf 128 (length came - 128) came)
+      → putMid 128 (length came - 128) came index ≡ alphas-of classes ++ index-of rules
+  unfolding index-of
+  made-ready rules index x =
+      back-end came 128 index
+      ∙ ap (λ (l : List ℕ). l ++ index) (take-at letters (drop 128 old) 128 lettered ∙ a)
+      ∙ ap (_++_ (alphas-of classes)) (x ∙ ap (indexed 0 (row-offsets rules)) rest)
+
+-- A line begins with a text between spaces, and as much again is lent with it for the classes
+module _ (line : List ℕ) (t : Text) (n : ℕ) (full : length line ≡ 2 * (most-characters + 3)) (few : n ≤ most-characters)
+    (s : take (n + 3) line ≡ spaced t) where
+  abbrev lent : List ℕ
+  lent = take (2 * (n + 3)) line
+
+  pub lent-length : length lent ≡ 2 * (n + 3)
+  lent-length = length-take-le (2 * (n + 3)) line (omega (arith, full, few))
+
+  abbrev half : List ℕ
+  half = take (length lent / 2) lent
+
+  half-is : half ≡ spaced t
+  half-is =
+      ap (λ (k : ℕ). take k lent) {x = length lent / 2} {y = n + 3} (omega (arith, lent-length))
+      ∙ take-take (n + 3) (2 * (n + 3)) line (omega arith) ∙ s
+
+  pub laid-out : (classes back : List ℕ) → back ≡ half ++ kinds-of classes half → take (2 * (n + 3)) (back ++ drop (2 * (n + 3)) line) ≡ with-kinds classes t
+  unfolding with-kinds
+  laid-out classes back b =
+      let h = length-take-le (length lent / 2) lent (omega arith) in
+      let l : length back ≡ 2 * (n + 3) = omega (arith, ap length b, length-append half (kinds-of classes half), kinds-length classes half, h, lent-length) in
+      take-at back (drop (2 * (n + 3)) line) (2 * (n + 3)) l ∙ b ∙ ap (λ (w : List ℕ). w ++ kinds-of classes w) half-is
