@@ -2,9 +2,9 @@
 // each edge of the path offer, where its text is new. They take no slot. Text room that is free keeps a filter of what
 // was offered, so that most texts are known as new without asking the rows before again.
 ghost use mathlib.Core.Bool.{not, true};
-ghost use mathlib.Core.List.{List, [], _∷_, _++_};
+ghost use mathlib.Core.List.{[], _∷_, _++_};
 ghost use mathlib.Core.Path.{_≡_};
-ghost use Prim.Native.Nat.{ℕ, _+_, _≤_, _<_};
+ghost use Prim.Native.Nat.{_+_, _≤_, _<_};
 ghost use lib.ListN.{length, take, drop};
 ghost use lib.Dec.{ltb};
 ghost use Rattle.base.specs.Lists.{put, any, same};
@@ -14,7 +14,7 @@ ghost use Rattle.definition.specs.Limits.{most-characters, most-rows, most-alte
 ghost use Rattle.definition.specs.Shorts.{Low, Short};
 ghost use Rattle.definition.specs.Notes.{note-alt, note-alt3};
 ghost use Rattle.definition.specs.RuleRows.{rule-of};
-ghost use Rattle.definition.specs.Paths.{other, join, next};
+ghost use Rattle.definition.specs.Paths.{other, join};
 ghost use Rattle.definition.specs.Offers.{offers, news, found-by};
 ghost use Rattle.definition.specs.Bounds.{Sound};
 ghost use Rattle.rom.specs.Rom.{text as text-of, Clean};
@@ -342,17 +342,6 @@ fn put_best_alternatives(
     }
 }
 
-// Where the path goes on: at its end, a number of two bytes, or one character on where there is none.
-fn next_from(slots: &[u8], best: BestEdge, p: usize) -> usize
-    requires { ⌜ p < 9223372036854775808 ⌝ }
-    ensures { λ r. ⌜ ((room : List ℕ) → r ≡ next (edge-at room (now (slots .entry)) best) p) × (r ≤ p + 65536) ⌝ }
-{
-    match best {
-        BestEdge::At(slot) => base::two(slots, slot, 2) as usize,
-        BestEdge::Nothing => p + 1,
-    }
-}
-
 // The alternatives of the path, edge by edge.
 pub fn put_alternatives(
     out: &mut [u8],
@@ -396,7 +385,7 @@ pub fn put_alternatives(
             here,
             best,
         );
-        p = next_from(slots, best, p);
+        p = paths::next_from(slots, best, p);
     }
     to
 }

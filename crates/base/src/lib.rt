@@ -35,11 +35,18 @@ pub fn at(s: &[u8], row: usize, i: usize) -> u32
     byte(s, row + i)
 }
 
-// Numbers of two, three and four bytes there. An offset in a row is small.
+// Numbers of two, three and four bytes there. An offset in a row is small. Where all of the bytes are there, they are read
+// one beside the other, which a compiler makes one load; at the end of the slice each is asked for by itself.
 pub fn two(s: &[u8], row: usize, i: usize) -> u32
     requires { ⌜ i < 65536 ⌝ }
     ensures { λ r. ⌜ (r ≡ be2 (drop row (now (s .entry))) i) × (r < 65536) ⌝ }
 {
+    if row < s.len() {
+        if i + 1 < s.len() - row {
+            let a = row + i;
+            return wide(s[a]) * 256 + wide(s[a + 1]);
+        }
+    }
     at(s, row, i) * 256 + at(s, row, i + 1)
 }
 
@@ -47,6 +54,12 @@ pub fn three(s: &[u8], row: usize, i: usize) -> u32
     requires { ⌜ i < 65536 ⌝ }
     ensures { λ r. ⌜ (r ≡ be3 (drop row (now (s .entry))) i) × (r < 16777216) ⌝ }
 {
+    if row < s.len() {
+        if i + 2 < s.len() - row {
+            let a = row + i;
+            return wide(s[a]) * 65536 + wide(s[a + 1]) * 256 + wide(s[a + 2]);
+        }
+    }
     two(s, row, i) * 256 + at(s, row, i + 2)
 }
 
@@ -54,6 +67,15 @@ pub fn four(s: &[u8], row: usize, i: usize) -> u64
     requires { ⌜ i < 65536 ⌝ }
     ensures { λ r. ⌜ (r ≡ be4 (drop row (now (s .entry))) i) × (r < 4294967296) ⌝ }
 {
+    if row < s.len() {
+        if i + 3 < s.len() - row {
+            let a = row + i;
+            return wide(s[a]) as u64 * 16777216
+                + wide(s[a + 1]) as u64 * 65536
+                + wide(s[a + 2]) as u64 * 256
+                + wide(s[a + 3]) as u64;
+        }
+    }
     three(s, row, i) as u64 * 256 + at(s, row, i + 3) as u64
 }
 

@@ -14,7 +14,7 @@ use Rattle.base.specs.Alls.{All}
 use Rattle.definition.specs.Texts.{latin}
 use Rattle.definition.specs.Tables.{Class, category-letter, category-other}
 use Rattle.definition.specs.ClassRows.{class-by, class-of, classes-of}
-use Rattle.definition.specs.Classes.{plain, class, alpha, mark, script}
+use Rattle.definition.specs.Classes.{plain, class, alpha, script}
 use Rattle.definition.specs.Checked.{class-checked}
 use Rattle.definition.specs.Accepted.{classes-all}
 use Rattle.classes.specs.Told.{Fine, flags-of, packed, from, kinds-of, alphas-of}
@@ -117,10 +117,6 @@ module _ (n c : ℕ) (ks : List Class) (s : Says n (class ks c)) where
   pub says-alpha : (leb 1 (n % 8) && leb (n % 8) 3) ≡ alpha ks c
   unfolding alpha
   says-alpha = rw (s .category)
-
-  pub says-mark : eqb (n % 8) 2 ≡ mark ks c
-  unfolding mark
-  says-mark = rw (s .category)
 
   pub says-script : n / 8 % 128 ≡ script ks c
   unfolding script

@@ -2,21 +2,23 @@
 use mathlib.Core.Bool.{Bool, true, false, _&&_, true≢false}
 use mathlib.Core.Path.{_≡_, refl, sym, ap, _∙_, subst}
 use mathlib.Core.List.{List, [], _∷_, append-nil}
-use Prim.Native.Nat.{ℕ, suc, _+_, _-_, _≤_, _<_}
+use Prim.Native.Nat.{ℕ, suc, _+_, _-_, _%_, _≤_, _<_}
 use native.Mathlib.Omega.{arith}
 use native.Mathlib.Decide.{decLt}
 use native.Mathlib.Numerals.{add-one}
 use lib.Dec.{eqb, ltb}
 use lib.ListN.{length, getD, drop, drop-of-length-le}
-use lib.Seq.{drop-cons}
+use lib.Seq.{drop-cons, getD-drop}
 use borrow.Author.Tests.{ltb-true, eqb-true, lt-ltb, le-ltb, eq-eqb, ne-eqb}
+use Rattle.base.specs.Big.{be3, be4}
 use Rattle.base.specs.Pick.{pick}
 use Rattle.base.specs.Bools.{and-left, and-right, or-cases}
 use Rattle.base.specs.Lists.{same, starts}
 use Rattle.base.specs.ListLaws.{same-true, starts-append}
 use Rattle.definition.specs.Texts.{Text}
 use Rattle.base.specs.Rows.{counted, counted-none, counted-some}
-use Rattle.definition.specs.RuleRows.{rises, three-at}
+use Rattle.definition.specs.RuleRows.{rises, three-at, source-count, rule-source}
+use Rattle.rulerow.specs.There.{three-there}
 use Rattle.dicts.specs.declared.Order.{Order}
 use Rattle.dicts.specs.declared.Order.the-variants.{Below, Equal, Above}
 
@@ -187,3 +189,27 @@ module _ (s w : List ℕ) (n o i : ℕ) where
 
     pub same-character : (d ≤ c) × (c ≤ d) → compared (counted three-at 3 (n - 1) (drop (o + 3) s)) (drop (i + 1) w) ≡ here
     same-character k = rw add-one (sym (one ∙ beside-same c d _ (omega arith)))
+
+-- A row's count of source characters and the first of them, read as one number: where there is one, and the text has one
+-- too, and they differ, they settle the order
+module _ (R w : List ℕ) (row key d : ℕ) (p : key ≡ be4 (drop row R) 5) (b : (i : ℕ) → getD R i 0 < 256) (h : 16777215 < key) (l : 0 < length w) (q : d ≡ getD w 0 0) where
+  abbrev s : List ℕ
+  s = drop row R
+
+  small : (i : ℕ) → getD s i 0 < 256
+  small i = rw getD-drop (b (row + i))
+
+  some : 0 < source-count s
+  unfolding source-count
+  some = omega (arith, small 6, small 7, small 8)
+
+  begins : key % 16777216 ≡ three-at (drop 6 s)
+  begins = (let e : key % 16777216 ≡ be3 s 6 = omega (arith, small 6, small 7, small 8) in e) ∙ three-there s 6
+
+  pub first-lower : key % 16777216 < d → Below ≡ compared (rule-source s) w
+  unfolding rule-source
+  first-lower k = lower s w (source-count s) 6 0 some l (key % 16777216) d begins q k
+
+  pub first-higher : d < key % 16777216 → Above ≡ compared (rule-source s) w
+  unfolding rule-source
+  first-higher k = higher s w (source-count s) 6 0 some l (key % 16777216) d begins q k

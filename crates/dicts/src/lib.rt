@@ -14,7 +14,6 @@ ghost use Rattle.dicts.specs.Index.{index-entries, offsets-from, row-off
 ghost use Rattle.dicts.specs.Seek.{is-below, is-equal, order-at, seek, first-at, equal-rows};
 ghost use Rattle.dicts.specs.Entries.{entry-below};
 ghost use Rattle.dicts.specs.Longer.{has-longer};
-ghost use Rattle.dicts.specs.Doors.{is-start};
 ghost use Rattle.base.specs.Lists.{starts};
 use blocks::TableRead;
 use rowread::RowRead;
@@ -24,12 +23,6 @@ pub enum Order {
     Below,
     Equal,
     Above,
-}
-
-// Rows one after another: where the first is, and how many there are.
-pub struct Rows {
-    pub first: usize,
-    pub count: usize,
 }
 
 // What the table has of a text: the rows with this source, where the first is and how many; and whether a longer source
@@ -198,8 +191,8 @@ pub fn check_rules(rules: &[u8]) -> TableRead
     TableRead::Fault(0)
 }
 
-// How the source of a row stands to a text.
-pub fn compare_source(rules: &[u8], row: usize, w: &[u32]) -> Order
+// How the source of a row stands to a text, character by character.
+fn compare_each(rules: &[u8], row: usize, w: &[u32]) -> Order
     ensures { λ r. ⌜ r ≡ compared (rule-source (drop row (now (rules .entry)))) (now (w .entry)) ⌝ }
 {
     let mut left = base::at(rules, row, 5);
@@ -225,6 +218,27 @@ pub fn compare_source(rules: &[u8], row: usize, w: &[u32]) -> Order
         return Order::Below;
     }
     Order::Equal
+}
+
+// The same. Most rows differ in the first character, which lies behind the count of them: one number has both, and where
+// there is a first character on each side and they differ, nothing more is read.
+pub fn compare_source(rules: &[u8], row: usize, w: &[u32]) -> Order
+    ensures { λ r. ⌜ r ≡ compared (rule-source (drop row (now (rules .entry)))) (now (w .entry)) ⌝ }
+{
+    let key = base::four(rules, row, 5);
+    if 0xFFFFFF < key {
+        if 0 < w.len() {
+            let first = (key % 0x1000000) as u32;
+            let sought = w[0];
+            if first < sought {
+                return Order::Below;
+            }
+            if sought < first {
+                return Order::Above;
+            }
+        }
+    }
+    compare_each(rules, row, w)
 }
 
 // The offset of row `n`, put into the index if it is a 16th one and there is room.
@@ -374,29 +388,4 @@ pub fn look_up(rules: &[u8], index: &[u32], w: &[u32]) -> Found
         count,
         more: false,
     }
-}
-
-// The rows with a source: the first, and how many.
-pub fn find_rows(rules: &[u8], index: &[u32], w: &[u32]) -> Rows
-    requires { ⌜ Ready (now rules) (now index) ⌝ }
-    ensures { λ r. ⌜ (r .first ≡ first-at (now (rules .entry)) (now (w .entry)))
-        × (r .count ≡ equal-rows (now (rules .entry)) (now (w .entry))) ⌝ }
-{
-    let found = look_up(rules, index, w);
-    Rows {
-        first: found.first,
-        count: found.count,
-    }
-}
-
-// Is a text the start of a source?
-pub fn is_prefix(rules: &[u8], index: &[u32], w: &[u32]) -> bool
-    requires { ⌜ Ready (now rules) (now index) ⌝ }
-    ensures { λ r. ⌜ r ≡ is-start (now (w .entry)) (rules-of (now (rules .entry))) ⌝ }
-{
-    let at = seek(rules, index, w);
-    if at < rules.len() {
-        return starts_with(rules, at, w);
-    }
-    false
 }

@@ -1,9 +1,9 @@
 -- A lattice that was built: all that showing it needs, and what is then written is what the call returns.
-use Prim.Native.Nat.{ℕ, _+_, _≤_, _<_}
+use Prim.Native.Nat.{ℕ, _+_, _≤_}
 use mathlib.Core.List.{List, [], _++_}
 use mathlib.Core.Path.{_≡_, refl, sym, ap, _∙_, subst}
 use native.Mathlib.Omega.{arith}
-use lib.ListN.{length, take, drop, replicate, length-replicate, length-append}
+use lib.ListN.{length, take, replicate, length-replicate, length-append}
 use lib.Seq.{take-at}
 use Rattle.base.specs.Alls.{All}
 use Rattle.base.specs.Rows.{counted}
@@ -24,7 +24,7 @@ use Rattle.edge.specs.Stored.{none-stored}
 use Rattle.places.specs.Shows.{memory}
 use Rattle.standing.specs.Stands.{Stands}
 use Rattle.words.specs.Given.{World, kinds, size, size-in, Prepared, Told, Lined, Lent, line-size, lent-none}
-use Rattle.lattice.specs.Reached.{nothing, Over, Somewhere, with-edges, Reached}
+use Rattle.lattice.specs.Reached.{nothing, Over, with-edges, Reached}
 use Rattle.output.specs.Whole.{Whole}
 use Rattle.jettyfig.specs.Verdicts.{given}
 use Rattle.jettyfig.specs.Calls.{built-all, reached-fits, reached-count, reached-sound}

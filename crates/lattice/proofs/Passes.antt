@@ -1,5 +1,5 @@
 -- A pass over all starts, a turn at a time; and the edges of the first pass go forward within the text.
-use Prim.Native.Nat.{ℕ, zero, suc, _+_, _-_, _*_, _%_, _≤_, _<_}
+use Prim.Native.Nat.{ℕ, zero, suc, _+_, _-_, _%_, _≤_, _<_}
 use mathlib.Core.Bool.{Bool, true, false}
 use mathlib.Core.List.{List, _∷_, [], _++_}
 use mathlib.Core.Option.{Option, none, some}
@@ -17,7 +17,7 @@ use Rattle.definition.specs.Tables.{Class, Tables}
 use Rattle.definition.specs.Edges.{Edge, State, starting, alike, new-in, add, view}
 use Rattle.definition.specs.Rules.{is-prefix}
 use Rattle.definition.specs.Building.{put-in, each, span-edge, rise, build, fall, lattice}
-use Rattle.definition.specs.Growth.{Added, Grown, each-grown}
+use Rattle.definition.specs.Growth.{Grown, each-grown}
 use Rattle.definition.specs.Bounds.{Bounded, Spelt, span-spelt}
 use Rattle.definition.specs.Within.{prefix-bound}
 use Rattle.edge.specs.declared.Added.{Added as Answer}

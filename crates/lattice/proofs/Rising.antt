@@ -4,15 +4,14 @@ use mathlib.Core.Bool.{Bool, true, false, _||_}
 use mathlib.Core.Option.{none}
 use lib.Dec.{ltb}
 use mathlib.Core.List.{List, _++_}
-use mathlib.Core.Path.{_≡_, refl, sym, ap, _∙_, subst}
-use native.Mathlib.Omega.{arith}
+use mathlib.Core.Path.{_≡_, sym, ap, _∙_, subst}
 use Rattle.definition.specs.Texts.{Text}
 use Rattle.definition.specs.RuleRows.{rule-fault, rules-of}
 use Rattle.definition.specs.Tables.{Class, Tables}
-use Rattle.definition.specs.Edges.{Edge, State, view}
+use Rattle.definition.specs.Edges.{State, view}
 use Rattle.definition.specs.Rules.{is-prefix}
 use Rattle.definition.specs.Building.{rise, span-edge}
-use Rattle.definition.specs.Growth.{Added, put-in-grown, rise-grown}
+use Rattle.definition.specs.Growth.{put-in-grown, rise-grown}
 use Rattle.edge.specs.declared.Filled.{Filled}
 use Rattle.edge.specs.declared.Added.{Added as Answer}
 use Rattle.edge.specs.declared.Added.the-variants.{Fits}

@@ -1,17 +1,16 @@
 -- The edge of a span as it is added: it can be written, it equals none of the first edges, and building has then come as far
 -- as the definition.
 use Prim.Native.Nat.{ℕ, _+_, _≤_, _<_}
-use mathlib.Core.Bool.{Bool, true, false}
+use mathlib.Core.Bool.{true, false}
 use mathlib.Core.List.{List}
 use mathlib.Core.Option.{Option, some}
 use mathlib.Core.Path.{_≡_, refl, sym, ap, _∙_}
 use native.Mathlib.Omega.{arith}
-use lib.ListN.{length}
 use Rattle.definition.specs.Limits.{most-bytes}
 use Rattle.definition.specs.Texts.{Text, last-is}
 use Rattle.definition.specs.Tables.{Tables}
 use Rattle.definition.specs.Classes.{alpha}
-use Rattle.definition.specs.Edges.{Edge, State, add, view}
+use Rattle.definition.specs.Edges.{Edge, add, view}
 use Rattle.definition.specs.Utf8.{decoded}
 use Rattle.definition.specs.Shorts.{Short}
 use Rattle.definition.specs.Building.{span-edge}

@@ -8,7 +8,7 @@ use lib.Dec.{eqb}
 use lib.ListN.{getD}
 use lib.Seq.{getD-take}
 use Rattle.base.specs.Lists.{head, is}
-use Rattle.base.specs.Alls.{All, All-head, Opt}
+use Rattle.base.specs.Alls.{All-head, Opt}
 use Rattle.base.specs.Bits.{is-set}
 use Rattle.definition.specs.Texts.{Text, last-is}
 use Rattle.definition.specs.Utf8.{decoded}

@@ -1,13 +1,12 @@
 -- A string as output: the texts of some edges, each put behind those before it.
 use Prim.Native.Nat.{ℕ, _+_}
 use mathlib.Core.List.{List, [], _∷_, _++_, append-assoc, append-nil}
-use mathlib.Core.Path.{_≡_, refl, sym, ap, _∙_}
+use mathlib.Core.Path.{_≡_, sym, ap, _∙_}
 use native.Mathlib.Omega.{arith}
-use lib.ListN.{length, length-append}
+use lib.ListN.{length}
 use Rattle.definition.specs.Utf8.{encoded}
 use Rattle.definition.specs.Edges.{Edge}
 use Rattle.definition.specs.Paths.{joined}
-use Rattle.definition.specs.Capacity.{bytes}
 use Rattle.utf8.specs.Encodings.{encoded-append}
 use Rattle.room.specs.Puts.{put-at, put-next}
 
@@ -23,10 +22,6 @@ string-next l x = ap encoded (joined-next l x) ∙ encoded-append (joined l) (x 
 
 abbrev pub string-size : List Edge → ℕ
 string-size l = length (encoded (joined l))
-
-pub next-string-size : (l : List Edge) (x : Edge) → string-size (l ++ x ∷ []) ≡ string-size l + bytes x
-unfolding bytes
-next-string-size l x = ap length (string-next l x) ∙ length-append (encoded (joined l)) (encoded (x .text))
 
 -- Writing it, from `at` on
 pub next-text : (done : List Edge) (x : Edge) (first out : List ℕ) (at : ℕ) → at ≡ string-size done

@@ -1,9 +1,9 @@
 // A growing romanization by value, questions about lent bytes, and sets of small letters.
 ghost use mathlib.Core.Path.{_≡_};
-ghost use mathlib.Core.List.{_++_, _∷_, [], reverse};
+ghost use mathlib.Core.List.{_++_, _∷_, []};
 ghost use Prim.Native.Nat.{_+_, _<_, _≤_};
 ghost use lib.ListN.{length};
-ghost use Rattle.base.specs.Lists.{any, all, head, tail, is, starts};
+ghost use Rattle.base.specs.Lists.{any, all, tail, is, starts};
 ghost use Rattle.definition.specs.Limits.{most-bytes};
 ghost use Rattle.definition.specs.Texts.{last-is, without-last};
 ghost use Rattle.rom.specs.Rom.{text, rom, Clean};
@@ -134,24 +134,6 @@ pub fn starts_with(s: &[u8], w: &[u8]) -> bool
     true
 }
 
-pub fn ends_with(s: &[u8], w: &[u8]) -> bool
-    ensures { λ r. ⌜ r ≡ starts (reverse (now (w .entry))) (reverse (now (s .entry))) ⌝ }
-{
-    let mut left = w.len();
-    let mut at = s.len();
-    while 0 < left {
-        if at == 0 {
-            return false;
-        }
-        left -= 1;
-        at -= 1;
-        if s[at] != w[left] {
-            return false;
-        }
-    }
-    true
-}
-
 // Is a character in a set?
 pub fn is_in(set: u32, c: u32) -> bool
     ensures { λ r. ⌜ r ≡ member set c ⌝ }
@@ -191,12 +173,6 @@ pub fn any_in(s: &[u8], set: u32) -> bool
         i += 1;
     }
     false
-}
-
-pub fn first_in(s: &[u8], set: u32) -> bool
-    ensures { λ r. ⌜ r ≡ is (member set) (head (now (s .entry))) ⌝ }
-{
-    is_in(set, base::byte(s, 0))
 }
 
 pub fn last_in(s: &[u8], set: u32) -> bool

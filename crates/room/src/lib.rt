@@ -75,11 +75,3 @@ pub fn clear(s: &mut [u8])
         i += 1;
     }
 }
-
-// Zero from a place on.
-pub fn clear_from(s: &mut [u8], at: usize)
-    requires { ⌜ at ≤ length (now s) ⌝ }
-    ensures { λ _. ⌜ now (s .exit) ≡ take at (now (s .entry)) ++ replicate (length (now (s .entry)) - at) 0 ⌝ }
-{
-    clear(&mut s[at..]);
-}

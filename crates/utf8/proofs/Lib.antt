@@ -5,5 +5,4 @@ pub mod Ranges
 pub mod Bytes
 -- The loops, and the answers
 pub mod Walks
-pub mod Lasts
 pub mod Answers

@@ -23,8 +23,6 @@ use Rattle.utf8.specs.declared.Decoded.{Decoded}
 use Rattle.utf8.specs.declared.Decoded.the-variants.{Characters, Bad as BadAt}
 use Rattle.utf8.specs.declared.Found.{Found}
 use Rattle.utf8.specs.declared.Found.the-variants.{At, Nothing}
-use Rattle.utf8.specs.declared.LastChar.{LastChar}
-use Rattle.utf8.specs.declared.LastChar.the-variants.{Char as Last, Nothing as NoLast}
 use Rattle.utf8.specs.declared.TextRead.{TextRead}
 use Rattle.utf8.specs.declared.TextRead.the-variants.{Characters as Text, NotUtf8, TooLong, LeftOut}
 
@@ -37,11 +35,6 @@ told Bad = bad
 unfoldable pub place : Found → Option ℕ
 place (At p) = some p
 place Nothing = none
-
--- a last character
-unfoldable pub last-of : LastChar → Option ℕ
-last-of (Last c) = some c
-last-of NoLast = none
 
 -- the answer for a text: the offset of its first bad sequence, or how many characters it has
 unfoldable pub answer : Option ℕ → ℕ → Decoded

@@ -1,17 +1,13 @@
 // UTF-8 by RFC 3629: a text's bytes as characters, and a character's bytes.
 ghost use mathlib.Core.Path.{_≡_};
-ghost use mathlib.Core.List.{reverse};
 ghost use Prim.Native.Nat.{ℕ, _+_, _<_, _≤_};
-ghost use lib.ListN.{length, take, drop, set, replicate};
-ghost use Rattle.base.specs.Lists.{head};
+ghost use lib.ListN.{length, take, drop, set};
 ghost use Rattle.definition.specs.Limits.{most-characters};
 ghost use Rattle.definition.specs.Utf8.{six, read, decoded, encode, sequence, checked};
 ghost use Rattle.definition.specs.Call.{left-out, first-left-out};
-ghost use Rattle.utf8.specs.Read.{told, place, last-of, answered, refused, text-refusal};
-ghost use Rattle.definition.specs.Texts.{the-space};
+ghost use Rattle.utf8.specs.Read.{told, place, answered, refused, text-refusal};
 ghost use Rattle.utf8.specs.Puts.{puts};
 ghost use Rattle.utf8.specs.Lines.{spaced};
-ghost use Rattle.utf8.specs.Encodings.{TextBytes, last-start};
 
 // Characters of a text, at most.
 pub const MOST_CHARACTERS: usize = 512;
@@ -30,12 +26,6 @@ pub enum Decoded {
 
 pub enum Found {
     At(usize),
-    Nothing,
-}
-
-// The last character of some text.
-pub enum LastChar {
-    Char(u32),
     Nothing,
 }
 
@@ -293,32 +283,4 @@ pub fn read_line(text: &[u8], line: &mut [u32]) -> TextRead
         TextRead::TooLong => read,
         TextRead::LeftOut(_) => read,
     }
-}
-
-// Where the last character starts: from the text's end back, the first byte that is no continuation byte.
-fn last_start(text: &[u8]) -> usize
-    requires { ⌜ TextBytes (now text) × (0 < length (now text)) ⌝ }
-    ensures { λ r. ⌜ r ≡ last-start (now (text .entry)) ⌝ }
-{
-    let mut at = text.len() - 1;
-    // a text's first byte is no continuation byte, so the place is not asked
-    while six(base::byte(text, at)) < 64 {
-        at -= 1;
-    }
-    at
-}
-
-// The last character of a text's bytes; an empty text has none.
-pub fn last_char(text: &[u8]) -> LastChar
-    requires { ⌜ TextBytes (now text) ⌝ }
-    ensures { λ r. ⌜ last-of r ≡ head (reverse (decoded (now (text .entry)))) ⌝ }
-{
-    if text.len() == 0 {
-        return LastChar::Nothing;
-    }
-    let CharRead::Char { value, size: _ } = read_char(text, last_start(text)) else {
-        // no sequence of a text is bad
-        return LastChar::Nothing;
-    };
-    LastChar::Char(value)
 }

@@ -1,6 +1,6 @@
 -- `classes::classify`: the first `i` places of the second half are written, and `kind` is the class of `known`.
 use Prim.Native.Nat.{_+_, _-_, _/_, _≤_}
-use mathlib.Core.Path.{_≡_, refl, sym, ap, _∙_}
+use mathlib.Core.Path.{_≡_, refl, _∙_}
 use native.Mathlib.Omega.{arith}
 use lib.ListN.{length-set, length}
 use denote.Ref.{now}

@@ -1,17 +1,17 @@
 -- `jettyfig::romanize`: an edge that did not fit is the whole lattice's refusal; else what is shown is the lattice's.
 use mathlib.Core.List.{List, [], _++_}
-use mathlib.Core.Path.{_≡_, refl, sym, ap, _∙_, subst}
+use mathlib.Core.Path.{refl, sym, ap, _∙_, subst}
 use Prim.Native.Nat.{ℕ, _+_, _*_}
 use native.Mathlib.Omega.{arith}
-use lib.ListN.{length, take, drop, length-append, length-drop}
-use lib.Seq.{length-take-le, take-append-seam, take-at}
+use lib.ListN.{length, take, drop}
+use lib.Seq.{length-take-le}
 use denote.Ref.{now}
 use Rattle.definition.specs.Limits.{most-edges, most-characters, most-bytes}
 use Rattle.definition.specs.Building.{lattice}
 use Rattle.definition.specs.Listing.{shown}
 use Rattle.definition.specs.Capacity.{refuse}
 use Rattle.definition.specs.Call.{tables-of, written}
-use Rattle.words.specs.Given.{World, kinds, size as size-of, size-in, Lent, line-size}
+use Rattle.words.specs.Given.{kinds, size as size-of, size-in, Lent, line-size}
 use Rattle.places.specs.Shows.{memory}
 use Rattle.lattice.specs.Starts.{Standing}
 use Rattle.output.specs.declared.Built.{Built}

@@ -1,7 +1,6 @@
 -- `jettyfig::show`: what fits stands over zeros, and what doesn't leaves zeros.
 use mathlib.Core.Path.{ap, _∙_}
 use native.Mathlib.Omega.{arith}
-use denote.Ref.{now}
 use Rattle.jettyfig.specs.Verdicts.{returned}
 use Rattle.jettyfig.specs.Calls.{shown-fits, shown-misses}
 use borrow.Author.Needs.{needs}

@@ -3,11 +3,11 @@ use mathlib.Core.List.{List, []}
 use mathlib.Core.Path.{_≡_, refl, sym, ap, _∙_, subst}
 use Prim.Native.Nat.{ℕ, _+_, _-_, _*_, _≤_, _<_}
 use native.Mathlib.Omega.{arith}
-use lib.ListN.{length, set, replicate, length-set, length-replicate}
+use lib.ListN.{length, set, length-set, length-replicate}
 use denote.Ref.{now}
 use Rattle.base.specs.Rows.{counted}
 use Rattle.base.specs.Alls.{All}
-use Rattle.definition.specs.Limits.{most-source, most-bytes, most-characters}
+use Rattle.definition.specs.Limits.{most-source, most-bytes}
 use Rattle.definition.specs.Edges.{Edge}
 use Rattle.definition.specs.Building.{each, build}
 use Rattle.definition.specs.Growth.{build-grown}

@@ -1,5 +1,5 @@
 -- `lattice::build_lattice`: the fallbacks come behind the first pass; a refusal of either is the whole's.
-use mathlib.Core.Path.{_≡_, sym, ap, _∙_, subst}
+use mathlib.Core.Path.{sym, ap, _∙_, subst}
 use Prim.Native.Nat.{_+_, _*_}
 use native.Mathlib.Omega.{arith}
 use denote.Ref.{now}

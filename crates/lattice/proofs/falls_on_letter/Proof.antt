@@ -1,10 +1,8 @@
 -- `lattice::falls_on_letter`: by what was answered.
 use mathlib.Core.Bool.{Bool}
 use mathlib.Core.Path.{sym, ap, _∙_}
-use native.Mathlib.Omega.{arith}
 use denote.Ref.{now}
 use Rattle.base.specs.Pick.{pick}
-use Rattle.base.specs.Lists.{has}
 use Prim.Native.Nat.{_+_}
 use Rattle.words.specs.Given.{kind-in, alpha-kind}
 use Rattle.lattice.specs.Endings.{last-letter}

@@ -1,7 +1,6 @@
 -- `lattice::is_known`: a row is there, or else what was told of longer sources.
 use mathlib.Core.Bool.{Bool, _||_}
 use mathlib.Core.Path.{sym, ap}
-use lib.Dec.{ltb}
 use native.Mathlib.Omega.{arith}
 use borrow.Author.Tests.{lt-ltb, le-ltb}
 use Rattle.lattice.proofs.is_known.Statement.{statement}

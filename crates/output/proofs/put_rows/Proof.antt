@@ -1,25 +1,22 @@
 -- `output::put_rows`: by its mode all edges, or the path and what is put behind it.
-use mathlib.Core.Bool.{Bool, true, false}
+use mathlib.Core.Bool.{true}
 use mathlib.Core.List.{List}
 use mathlib.Core.Path.{_≡_, sym, ap, _∙_, subst}
 use Prim.Native.Nat.{ℕ, _-_}
 use native.Mathlib.Omega.{arith}
-use lib.ListN.{length}
 use denote.Ref.{now}
 use Rattle.definition.specs.Tables.{lexicon}
-use Rattle.definition.specs.Edges.{Edge, State, view}
-use Rattle.definition.specs.Paths.{joined, path-from, path-of, sorted}
+use Rattle.definition.specs.Edges.{Edge, view}
+use Rattle.definition.specs.Paths.{path-from, sorted}
 use Rattle.definition.specs.Offers.{found-all}
 use Rattle.definition.specs.Bounds.{Sound}
-use Rattle.definition.specs.Utf8.{encoded}
 use Rattle.definition.specs.Call.{tables-of}
 use Rattle.base.specs.Alls.{All}
-use Rattle.edge.specs.Slots.{edges-of}
 use Rattle.edge.specs.Asked.{stored-readable}
 use Rattle.places.specs.Shows.{memory}
 use Rattle.standing.specs.Starts.{end-of}
 use Rattle.listing.specs.Items.{put-items, put-items-append}
-use Rattle.words.specs.Given.{World, seen, size, line-size}
+use Rattle.words.specs.Given.{size, line-size}
 use Rattle.output.specs.Shows.{lists-all, lists-alternatives, lists-path}
 use borrow.Author.Needs.{needs}
 use Rattle.output.proofs.put_rows.Statement.{statement}

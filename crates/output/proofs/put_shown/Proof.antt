@@ -1,25 +1,19 @@
 -- `output::put_shown`: the path's string, or the rows and then the header in front of them.
-use mathlib.Core.Bool.{Bool, true, false}
+use mathlib.Core.Bool.{false}
 use mathlib.Core.List.{List, []}
 use mathlib.Core.Path.{_≡_, sym, ap, _∙_, subst}
 use Prim.Native.Nat.{ℕ, _-_}
 use native.Mathlib.Omega.{arith}
-use lib.ListN.{length}
 use denote.Ref.{now}
-use Rattle.definition.specs.Tables.{lexicon}
-use Rattle.definition.specs.Edges.{Edge, State, view}
-use Rattle.definition.specs.Paths.{joined, path-from, path-of, sorted}
-use Rattle.definition.specs.Offers.{found-all}
-use Rattle.definition.specs.Bounds.{Sound}
+use Rattle.definition.specs.Edges.{Edge, State}
+use Rattle.definition.specs.Paths.{joined, path-from, path-of}
 use Rattle.definition.specs.Utf8.{encoded}
 use Rattle.definition.specs.Call.{tables-of}
-use Rattle.base.specs.Alls.{All}
-use Rattle.edge.specs.Slots.{edges-of}
 use Rattle.edge.specs.Asked.{stored-readable}
 use Rattle.places.specs.Shows.{memory}
 use Rattle.standing.specs.Starts.{end-of}
-use Rattle.listing.specs.Items.{put-items, put-items-append}
-use Rattle.words.specs.Given.{World, seen, size, line-size}
+use Rattle.listing.specs.Items.{put-items}
+use Rattle.words.specs.Given.{size, line-size}
 use Rattle.output.specs.Shows.{Shows, listed, shown-string, shown-listed, shows-string, rows-end, shows-listing}
 use borrow.Author.Needs.{needs}
 use Rattle.output.proofs.put_shown.Statement.{statement}
