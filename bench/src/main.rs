@@ -1,5 +1,11 @@
-//! The same labels through the published Rust and the proved library, in one run: `bench FOLDER`, which holds rules.bin,
-//! classes.bin, vowels.bin and labels.txt.
+//! The same texts through the published Rust and the proved library, in one run. FOLDER holds rules.bin, classes.bin,
+//! vowels.bin and labels.txt.
+//!
+//!   bench FOLDER                                 times: labels, and texts of 64 to 512 characters, which are labels joined
+//!                                                by spaces, in all four modes
+//!   bench FOLDER count WHO LENGTH MODE TIMES     so many calls, to count their instructions: WHO is `rust`, `library`, or
+//!                                                `empty` for the library with empty texts; LENGTH 0 takes labels
+//!   bench FOLDER once MODE                       one call with the text of text.txt, and the Rust's answer beside it
 //!
 //! A call of the library checks its tables each time, and the Rust reads its tables once. So the engine is told apart from the
 //! whole call: its time is that of the call less that of one with the same tables and rooms and an empty text.
@@ -12,11 +18,12 @@ use std::time::{Duration, Instant};
 
 const ROUNDS: usize = 7;
 const MODES: [(u8, &str); 4] = [(0, "string"), (1, "path"), (2, "alternatives"), (3, "all edges")];
+const LENGTHS: [usize; 5] = [0, 64, 128, 256, 512];
 
-/// enough for any label here: they have some forty characters
-const SLOTS: usize = 12 * 1024;
-const ROOM: usize = 8 * 1024;
-const OUT: usize = 16 * 1024;
+/// enough for a text of 512 characters of these labels
+const SLOTS: usize = 64 * 1024;
+const ROOM: usize = 64 * 1024;
+const OUT: usize = 256 * 1024;
 
 /// What the library is lent for all calls.
 struct Lent<'a> {
@@ -59,43 +66,90 @@ impl Times {
     }
 }
 
-fn round(published: &oracle::Tables, library: &mut Lent, mode: u8, labels: &[&str]) -> Times {
+fn round(published: &oracle::Tables, library: &mut Lent, mode: u8, texts: &[String]) -> Times {
     Times {
-        rust: timed(|| labels.iter().for_each(|label| drop(published.romanize(mode, "", label)))),
-        whole: timed(|| labels.iter().for_each(|label| drop(library.romanize(mode, label).len()))),
-        checks: timed(|| labels.iter().for_each(|_| drop(library.romanize(mode, "").len()))),
+        rust: timed(|| texts.iter().for_each(|text| drop(published.romanize(mode, "", text)))),
+        whole: timed(|| texts.iter().for_each(|text| drop(library.romanize(mode, text).len()))),
+        checks: timed(|| texts.iter().for_each(|_| drop(library.romanize(mode, "").len()))),
+    }
+}
+
+/// The labels themselves, or joined by spaces and cut to so many characters each.
+fn texts(labels: &str, length: usize) -> Vec<String> {
+    if length == 0 {
+        return labels.lines().map(str::to_string).collect();
+    }
+    let all: Vec<char> = labels.lines().collect::<Vec<_>>().join(" ").chars().collect();
+    all.chunks_exact(length).map(|part| part.iter().collect()).collect()
+}
+
+fn compare(published: &oracle::Tables, library: &mut Lent, labels: &str) {
+    for length in LENGTHS {
+        let texts = texts(labels, length);
+        let n = texts.len();
+        let characters = texts.iter().map(|text| text.chars().count()).sum::<usize>();
+        println!("{n} texts of {:.1} characters on average; microseconds a text", characters as f64 / n as f64);
+        for (mode, name) in MODES {
+            for text in &texts {
+                assert_eq!(published.romanize(mode, "", text), library.romanize(mode, text), "{text}");
+            }
+            let rounds = (0..ROUNDS).map(|_| round(published, library, mode, &texts));
+            let Times { rust, whole, checks } = rounds.reduce(Times::least).unwrap();
+            let each = |d: Duration| d.as_secs_f64() * 1e6 / n as f64;
+            let engine = each(whole) - each(checks);
+            println!(
+                "{name}: the Rust's engine {:.1}, the library's engine {engine:.1} ({:.1} times as fast); its whole call {:.1}, with tables checked in {:.1}",
+                each(rust),
+                each(rust) / engine,
+                each(whole),
+                each(checks)
+            );
+        }
     }
 }
 
 fn main() {
-    let folder = std::env::args().nth(1).expect("usage: bench FOLDER");
+    let words: Vec<String> = std::env::args().skip(1).collect();
+    let folder = words.first().expect("usage: bench FOLDER");
     let read = |name: &str| std::fs::read(format!("{folder}/{name}")).expect(name);
+    let text = |name: &str| String::from_utf8(read(name)).expect("UTF-8");
+    let number = |at: usize| words[at].parse::<usize>().expect("a number");
     let (rules, classes, vowels) = (read("rules.bin"), read("classes.bin"), read("vowels.bin"));
-    let text = String::from_utf8(read("labels.txt")).expect("labels.txt is UTF-8");
-    let labels: Vec<&str> = text.lines().collect();
-    let n = labels.len();
     let tables = Tables { rules: &rules, classes: &classes, vowels: &vowels };
     let mut library = Lent { tables, slots: vec![0; SLOTS], room: vec![0; ROOM], out: vec![0; OUT] };
-    let published = oracle::Tables::read(&rules, &classes, &vowels).expect("the tables are right");
-
-    let characters = labels.iter().map(|label| label.chars().count()).sum::<usize>();
-    println!("{n} labels of {:.1} characters on average; microseconds a label", characters as f64 / n as f64);
-    for (mode, name) in MODES {
-        for label in &labels {
-            assert_eq!(published.romanize(mode, "", label), library.romanize(mode, label), "{label}");
+    let published = || oracle::Tables::read(&rules, &classes, &vowels).expect("the tables are right");
+    match words.get(1).map(String::as_str) {
+        None => {
+            compare(&published(), &mut library, &text("labels.txt"));
+            println!("the Rust reads its tables once, in {:.0}", timed(|| drop(published())).as_secs_f64() * 1e6);
         }
-        let rounds = (0..ROUNDS).map(|_| round(&published, &mut library, mode, &labels));
-        let Times { rust, whole, checks } = rounds.reduce(Times::least).unwrap();
-        let each = |d: Duration| d.as_secs_f64() * 1e6 / n as f64;
-        let engine = each(whole) - each(checks);
-        println!(
-            "{name}: the Rust's engine {:.1}, the library's engine {engine:.1} ({:.1} times as fast); its whole call {:.1}, with tables checked in {:.1}",
-            each(rust),
-            each(rust) / engine,
-            each(whole),
-            each(checks)
-        );
+        Some("count") => {
+            let (who, texts, mode, times) = (&words[2], texts(&text("labels.txt"), number(3)), number(4) as u8, number(5));
+            let taken = texts.iter().take(times);
+            match who.as_str() {
+                "rust" => {
+                    let published = published();
+                    taken.for_each(|text| drop(published.romanize(mode, "", text)));
+                }
+                "empty" => taken.for_each(|_| drop(library.romanize(mode, "").len())),
+                _ => taken.for_each(|text| drop(library.romanize(mode, text).len())),
+            }
+        }
+        _ => {
+            let (text, mode) = (text("text.txt"), number(2) as u8);
+            library.slots = vec![0; 12 * 17 * 512];
+            library.room = vec![0; 198 * 17 * 512];
+            library.out = vec![0; 1 << 26];
+            // the first call touches memory that was never used
+            let answered = library.romanize(mode, &text).to_vec();
+            let whole = timed(|| drop(library.romanize(mode, &text).len()));
+            let checks = timed(|| drop(library.romanize(mode, "").len()));
+            println!("the library {:.0} microseconds, with tables checked in {:.0}", whole.as_secs_f64() * 1e6, checks.as_secs_f64() * 1e6);
+            let published = published();
+            let mut answer = Vec::new();
+            let rust = timed(|| answer = published.romanize(mode, "", &text));
+            println!("the Rust {:.0}", rust.as_secs_f64() * 1e6);
+            assert_eq!(answer, answered);
+        }
     }
-    let read = timed(|| drop(oracle::Tables::read(&rules, &classes, &vowels)));
-    println!("the Rust reads its tables once, in {:.0}", read.as_secs_f64() * 1e6);
 }

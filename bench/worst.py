@@ -1,0 +1,43 @@
+#!/usr/bin/env python3
+"""Tables and texts that ask the most of the engine, a folder for each: rules.bin, classes.bin, vowels.bin, text.txt.
+
+Usage: worst.py FOLDER"""
+import pathlib
+import sys
+
+sys.path.insert(0, str(pathlib.Path(__file__).resolve().parents[1] / "tests" / "generate"))
+from tables import *
+
+MOST_ROWS = 8192
+LETTERS = "abcdefghijklmnopqrstuvwxyz"
+
+
+def write(folder, rule_table, class_table, text):
+    folder.mkdir(parents=True, exist_ok=True)
+    (folder / "rules.bin").write_bytes(rule_table)
+    (folder / "classes.bin").write_bytes(class_table)
+    (folder / "vowels.bin").write_bytes(vowels())
+    (folder / "text.txt").write_text(text, encoding="utf-8")
+
+
+def word(k):
+    """a word of its own for each number"""
+    letters = []
+    for _ in range(5):
+        letters.append(LETTERS[k % 26])
+        k //= 26
+    return "".join(letters)
+
+
+def main():
+    folder = pathlib.Path(sys.argv[1])
+    kana = classes({"か": (LETTER, HIRAGANA)})
+    write(folder / "one_character", rules(*(Rule("か" * (1 + k % 16), "k") for k in range(MOST_ROWS))), kana, "か" * 512)
+    thai = classes({"ก": (LETTER, THAI), "อ": (LETTER, THAI), "่": (NONSPACING, THAI)})
+    write(folder / "o_ang", rules(("ก", "k"), ("อ", "o"), ("่", "")), thai, "ก" + "่" * 500 + "อก" * 5)
+    many = rules(*(Rule("か", "ka", others=[word(8 * k + i) for i in range(8)]) for k in range(MOST_ROWS)))
+    write(folder / "alternatives", many, kana, "か" * 4)
+
+
+if __name__ == "__main__":
+    main()
