@@ -1,28 +1,91 @@
 -- `jettyfig::romanize`: an edge that did not fit is the whole lattice's refusal; else what is shown is the lattice's.
 use mathlib.Core.List.{List, [], _++_}
-use mathlib.Core.Path.{refl, sym, ap, _∙_, subst}
-use Prim.Native.Nat.{ℕ, _+_, _*_}
+use mathlib.Core.Path.{_≡_, refl, sym, ap, _∙_, subst}
+use Prim.Native.Nat.{ℕ, _+_, _*_, _/_, _≤_}
 use native.Mathlib.Omega.{arith}
-use lib.ListN.{length, take, drop}
+use lib.ListN.{length, take, drop, replicate}
 use lib.Seq.{length-take-le}
 use denote.Ref.{now}
-use Rattle.definition.specs.Limits.{most-edges, most-characters, most-bytes}
+use Rattle.definition.specs.Limits.{slot-bytes, most-edges, most-characters, most-bytes}
 use Rattle.definition.specs.Building.{lattice}
 use Rattle.definition.specs.Listing.{shown}
-use Rattle.definition.specs.Capacity.{refuse}
-use Rattle.definition.specs.Call.{tables-of, written}
-use Rattle.words.specs.Given.{kinds, size as size-of, size-in, Lent, line-size}
+use Rattle.definition.specs.Capacity.{refuse, misfit}
+use Rattle.definition.specs.Call.{Inputs, tables-of, written, accepted}
+use Rattle.words.specs.Given.{World, Told, Lined, kinds, size as size-of, size-in, Lent, line-size}
 use Rattle.places.specs.Shows.{memory}
+use Rattle.edge.specs.declared.Added.{Added}
+use Rattle.definition.specs.Tables.{Tables}
+use mathlib.Core.Option.{some}
 use Rattle.lattice.specs.Starts.{Standing}
 use Rattle.output.specs.declared.Built.{Built}
 use Rattle.output.specs.Whole.{Whole}
-use Rattle.lattice.specs.Reached.{with-edges, Reached}
+use Rattle.lattice.specs.Reached.{Over, nothing, with-edges, Reached}
 use Rattle.jettyfig.specs.Verdicts.{given, returned}
-use Rattle.jettyfig.specs.Calls.{as-refused, built-refused}
+use Rattle.jettyfig.specs.Calls.{refusing, as-refused, built-refused}
 use Rattle.jettyfig.proofs.Wholes.{cut-zeros, zeros-long, back-is, back-inside, back-long, first-over, built-lent, built-whole, built-written}
 use borrow.Author.Needs.{needs}
 use Rattle.jettyfig.proofs.romanize.Statement.{statement}
 use Rattle.jettyfig.proofs.romanize.Tie as tie
+
+-- where the function began, and where it had the text's length
+abbrev start : tie.After-text-len → tie.Start
+start z = z .before .before .before .before .before .before .before .before .before .before
+
+abbrev sized : tie.After-build-lattice → tie.After-text-len
+sized b = b .before .before .before .before .before .before .before
+
+-- Zeros are cut to one for each character and one for the end
+module _ (z : tie.After-text-len) (zeros : List ℕ) (e : zeros ≡ replicate (most-characters + 1) 0) where
+  fits : z .text-len .result + 1 ≤ length zeros
+  fits =
+      let lined = start z .pre .3 .lined in
+      omega (arith, lined .few, line-size lined, z .text-len .ensures, zeros-long zeros e)
+
+  long : length (take (z .text-len .result + 1) zeros) ≡ z .text-len .result + 1
+  long = length-take-le (z .text-len .result + 1) zeros fits
+
+  cut : take (z .text-len .result + 1) zeros ≡ replicate (size-in (now (start z .args .line)) + 1) 0
+  cut =
+      let lined = start z .pre .3 .lined in
+      cut-zeros zeros (size-in (now (start z .args .line))) (z .text-len .result + 1) e (omega (arith, lined .few, line-size lined)) (omega (arith, z .text-len .ensures))
+
+-- The lattice was built over no edges, in each world that line and tables stand for: its answer is of the definition's lattice.
+module _ (b : tie.After-build-lattice) (u : World) (told : Told u (now (start (sized b) .args .ready))) (lined : Lined u (now (start (sized b) .args .line))) where
+  abbrev zeros : List ℕ
+  zeros = b .before .before .before .before .before .before .no-entries .result
+
+  empty : Over (with-edges u []) (now (start (sized b) .args .ready)) (now (start (sized b) .args .line)) (now (start (sized b) .args .slots))
+      (now (start (sized b) .args .room)) (take (sized b .text-len .result + 1) zeros) nothing
+  empty =
+      let a = start (sized b) .args in
+      first-over told lined (now (a .slots)) (now (a .room)) (take (sized b .text-len .result + 1) zeros)
+      (cut (sized b) zeros (b .before .before .before .before .before .before .no-entries .ensures))
+
+  answered : (r : Added) → b .build-lattice .result ≡ r
+      → Reached (kinds u) (size-of u) (now (start (sized b) .args .slots)) (now (start (sized b) .args .room)) (b .build-lattice .last .1 .1 .1 .1 .1 .1 .0)
+      (b .build-lattice .last .1 .1 .1 .1 .1 .1 .1 .0) (b .build-lattice .last .1 .1 .1 .1 .1 .1 .1 .1 .0) (most-edges * most-characters * most-bytes)
+      (lattice (tables-of (now (start (sized b) .args .rules)) (u .classes) (now (start (sized b) .args .vowels)) (now (start (sized b) .args .code))) (u .text)) r
+  answered r e =
+      let a = start (sized b) .args in
+      let x = b .build-lattice in
+      let D = tables-of (now (a .rules)) (u .classes) (now (a .vowels)) (now (a .code)) in
+      subst (Reached (kinds u) (size-of u) (now (a .slots)) (now (a .room)) (x .last .1 .1 .1 .1 .1 .1 .0) (x .last .1 .1 .1 .1 .1 .1 .1 .0)
+      (x .last .1 .1 .1 .1 .1 .1 .1 .1 .0) (most-edges * most-characters * most-bytes) (lattice D (u .text))) e (x .ensures .0 (with-edges u []) empty)
+
+  -- what the call was asked, and with which tables
+  abbrev asked : Inputs
+  asked =
+      let a = start (sized b) .args in
+      given (a .mode) (now (a .rules)) (u .classes) (now (a .vowels)) (now (a .code)) (now (a .text))
+      (length (now (a .slots))) (length (now (a .room))) (length (now (a .out)))
+
+  abbrev D : Tables
+  D = let a = start (sized b) .args in tables-of (now (a .rules)) (u .classes) (now (a .vowels)) (now (a .code))
+
+  -- an edge that did not fit is what the call refuses
+  stops : (n p : ℕ) → misfit (asked .slots / slot-bytes) (asked .room) (lattice D (u .text) .0) ≡ some (refuse n p)
+      → returned (refusing n p) (now (start (sized b) .args .out)) ≡ accepted asked D (u .text)
+  stops n p e = as-refused asked (now (start (sized b) .args .out)) (start (sized b) .pre .5) n p ∙ built-refused asked D (u .text) (refuse n p) e
 
 text-len-requires : tie.Need-text-len-requires
 text-len-requires c κs = search needs
@@ -38,45 +101,23 @@ no-entries-requires-2 c κs = search needs
 
 array-borrow-prefix-places : tie.Need-array-borrow-prefix-places
 array-borrow-prefix-places c =
-    let z = c .before .before .before .before in
-    let k = z .before .before .before .before .before .before .before .before .before .before in
-    let p = k .pre in
-    let few = p .3 .lined .few in
-    let is = line-size (p .3 .lined) in
-    let n = z .text-len .ensures in
-    omega (arith, few, is, n, zeros-long (c .before .before .before .no-entries .result) (c .before .before .before .no-entries .ensures))
+    let y = c .before .before .before .no-entries in
+    fits (c .before .before .before .before) (y .result) (y .ensures)
 
 slice-aggregate-build-lattice : tie.Need-slice-aggregate-build-lattice
 slice-aggregate-build-lattice c =
-    let z = c .before .before .before .before .before in
-    let k = z .before .before .before .before .before .before .before .before .before .before in
-    let p = k .pre in
-    let few = p .3 .lined .few in
-    let is = line-size (p .3 .lined) in
-    let n = z .text-len .ensures in
     let y = c .before .before .before .before .no-entries in
-    sym (length-take-le (z .text-len .result + 1) (y .result) (omega (arith, few, is, n, zeros-long (y .result) (y .ensures))))
+    sym (long (c .before .before .before .before .before) (y .result) (y .ensures))
 
 array-borrow-prefix-starts : tie.Need-array-borrow-prefix-starts
 array-borrow-prefix-starts c =
-    let z = c .before .before .before .before .before in
-    let k = z .before .before .before .before .before .before .before .before .before .before in
-    let p = k .pre in
-    let few = p .3 .lined .few in
-    let is = line-size (p .3 .lined) in
-    let n = z .text-len .ensures in
-    omega (arith, few, is, n, zeros-long (c .before .before .before .no-entries2 .result) (c .before .before .before .no-entries2 .ensures))
+    let y = c .before .before .before .no-entries2 in
+    fits (c .before .before .before .before .before) (y .result) (y .ensures)
 
 slice-aggregate-build-lattice-2 : tie.Need-slice-aggregate-build-lattice-2
 slice-aggregate-build-lattice-2 c =
-    let z = c .before .before .before .before .before .before in
-    let k = z .before .before .before .before .before .before .before .before .before .before in
-    let p = k .pre in
-    let few = p .3 .lined .few in
-    let is = line-size (p .3 .lined) in
-    let n = z .text-len .ensures in
     let y = c .before .before .before .before .no-entries2 in
-    sym (length-take-le (z .text-len .result + 1) (y .result) (omega (arith, few, is, n, zeros-long (y .result) (y .ensures))))
+    sym (long (c .before .before .before .before .before .before) (y .result) (y .ensures))
 
 build-lattice-requires : tie.Need-build-lattice-requires
 build-lattice-requires c κs =
@@ -106,89 +147,62 @@ enum-known-count c = search needs
 array-borrow-prefix-places-2 : tie.Need-array-borrow-prefix-places-2
 array-borrow-prefix-places-2 c =
     let b = c .before .before .before .before .before .before .before .before .before .before .before in
-    let z = b .before .before .before .before .before .before .before in
-    let k = z .before .before .before .before .before .before .before .before .before .before in
-    let p = k .pre in
-    let few = p .3 .lined .few in
-    let is = line-size (p .3 .lined) in
-    let n = z .text-len .ensures in
+    let z = sized b in
     let y = b .before .before .before .before .before .before .no-entries in
-    let end = z .text-len .result + 1 in
-    let long = length-take-le end (y .result) (omega (arith, few, is, n, zeros-long (y .result) (y .ensures))) in
-    back-inside (b .build-lattice .last .1 .1 .1 .1 .1 .1 .1 .1 .0) (drop end (y .result)) end (omega (arith, b .build-lattice .kept .1 .1 .1 .1 .1 .1 .1 .1 .0, long))
+    let x = b .build-lattice in
+    back-inside (x .last .1 .1 .1 .1 .1 .1 .1 .1 .0) (drop (z .text-len .result + 1) (y .result)) (z .text-len .result + 1)
+    (omega (arith, x .kept .1 .1 .1 .1 .1 .1 .1 .1 .0, long z (y .result) (y .ensures)))
 
 slice-aggregate-show : tie.Need-slice-aggregate-show
 slice-aggregate-show c =
     let b = c .before .before .before .before .before .before .before .before .before .before .before .before in
-    let z = b .before .before .before .before .before .before .before in
-    let k = z .before .before .before .before .before .before .before .before .before .before in
-    let p = k .pre in
-    let few = p .3 .lined .few in
-    let is = line-size (p .3 .lined) in
-    let n = z .text-len .ensures in
+    let z = sized b in
     let y = b .before .before .before .before .before .before .no-entries in
-    let end = z .text-len .result + 1 in
-    let long = length-take-le end (y .result) (omega (arith, few, is, n, zeros-long (y .result) (y .ensures))) in
-    back-long (b .build-lattice .last .1 .1 .1 .1 .1 .1 .1 .1 .0) (drop end (y .result)) end (omega (arith, b .build-lattice .kept .1 .1 .1 .1 .1 .1 .1 .1 .0, long))
+    let x = b .build-lattice in
+    back-long (x .last .1 .1 .1 .1 .1 .1 .1 .1 .0) (drop (z .text-len .result + 1) (y .result)) (z .text-len .result + 1)
+    (omega (arith, x .kept .1 .1 .1 .1 .1 .1 .1 .1 .0, long z (y .result) (y .ensures)))
 
 array-share-prefix-starts : tie.Need-array-share-prefix-starts
 array-share-prefix-starts c =
     let b = c .before .before .before .before .before .before .before .before .before .before .before .before in
-    let z = b .before .before .before .before .before .before .before in
-    let k = z .before .before .before .before .before .before .before .before .before .before in
-    let p = k .pre in
-    let few = p .3 .lined .few in
-    let is = line-size (p .3 .lined) in
-    let n = z .text-len .ensures in
+    let z = sized b in
     let y = b .before .before .before .before .before .no-entries2 in
-    let end = z .text-len .result + 1 in
-    let long = length-take-le end (y .result) (omega (arith, few, is, n, zeros-long (y .result) (y .ensures))) in
-    back-inside (b .build-lattice .last .1 .1 .1 .1 .1 .1 .1 .1 .1 .0) (drop end (y .result)) end (omega (arith, b .build-lattice .kept .1 .1 .1 .1 .1 .1 .1 .1 .1 .0, long))
+    let x = b .build-lattice in
+    back-inside (x .last .1 .1 .1 .1 .1 .1 .1 .1 .1 .0) (drop (z .text-len .result + 1) (y .result)) (z .text-len .result + 1)
+    (omega (arith, x .kept .1 .1 .1 .1 .1 .1 .1 .1 .1 .0, long z (y .result) (y .ensures)))
 
 slice-aggregate-show-2 : tie.Need-slice-aggregate-show-2
 slice-aggregate-show-2 c =
     let b = c .before .before .before .before .before .before .before .before .before .before .before .before .before in
-    let z = b .before .before .before .before .before .before .before in
-    let k = z .before .before .before .before .before .before .before .before .before .before in
-    let p = k .pre in
-    let few = p .3 .lined .few in
-    let is = line-size (p .3 .lined) in
-    let n = z .text-len .ensures in
+    let z = sized b in
     let y = b .before .before .before .before .before .no-entries2 in
-    let end = z .text-len .result + 1 in
-    let long = length-take-le end (y .result) (omega (arith, few, is, n, zeros-long (y .result) (y .ensures))) in
-    back-long (b .build-lattice .last .1 .1 .1 .1 .1 .1 .1 .1 .1 .0) (drop end (y .result)) end (omega (arith, b .build-lattice .kept .1 .1 .1 .1 .1 .1 .1 .1 .1 .0, long))
+    let x = b .build-lattice in
+    back-long (x .last .1 .1 .1 .1 .1 .1 .1 .1 .1 .0) (drop (z .text-len .result + 1) (y .result)) (z .text-len .result + 1)
+    (omega (arith, x .kept .1 .1 .1 .1 .1 .1 .1 .1 .1 .0, long z (y .result) (y .ensures)))
 
 show-requires : tie.Need-show-requires
 unfolding tables-of
 show-requires c κs =
     let b = c .before .before .before .before .before .before .before .before .before .before .before .before .before .before in
-    let z = b .before .before .before .before .before .before .before in
-    let k = z .before .before .before .before .before .before .before .before .before .before in
+    let z = sized b in
+    let k = start z in
     let a = k .args in
     let p = k .pre in
-    let few = p .3 .lined .few in
-    let is = line-size (p .3 .lined) in
     let n = z .text-len .ensures in
     let x = b .build-lattice in
     let y = b .before .before .before .before .before .before .no-entries in
     let v = b .before .before .before .before .before .no-entries2 in
     let end = z .text-len .result + 1 in
-    let size = size-in (now (a .line)) in
-    let places = cut-zeros (y .result) size end (y .ensures) (omega (arith, few, is)) (omega (arith, n)) in
     let S = x .last .1 .1 .1 .1 .1 .1 .0 in
     let R = x .last .1 .1 .1 .1 .1 .1 .1 .0 in
     let P = x .last .1 .1 .1 .1 .1 .1 .1 .1 .0 in
     let T = x .last .1 .1 .1 .1 .1 .1 .1 .1 .1 .0 in
-    let long = length-take-le end (y .result) (omega (arith, few, is, n, zeros-long (y .result) (y .ensures))) in
-    let tall = length-take-le end (v .result) (omega (arith, few, is, n, zeros-long (v .result) (v .ensures))) in
-    let P-back = back-is P (drop end (y .result)) end (omega (arith, x .kept .1 .1 .1 .1 .1 .1 .1 .1 .0, long)) in
+    let tall = long z (v .result) (v .ensures) in
+    let P-back = back-is P (drop end (y .result)) end (omega (arith, x .kept .1 .1 .1 .1 .1 .1 .1 .1 .0, long z (y .result) (y .ensures))) in
     let T-back = back-is T (drop end (v .result)) end (omega (arith, x .kept .1 .1 .1 .1 .1 .1 .1 .1 .1 .0, tall)) in
-    let w = with-edges (p .3 .world) [] in
-    let o = first-over (p .3 .told) (p .3 .lined) (now (a .slots)) (now (a .room)) (take end (y .result)) places in
-    let D = tables-of (now (a .rules)) (w .classes) (now (a .vowels)) (now (a .code)) in
+    let o = empty b (p .3 .world) (p .3 .told) (p .3 .lined) in
     let d = c .before .before .before .before .before .before .count .given in
-    let r = subst (Reached (kinds w) (size-of w) (now (a .slots)) (now (a .room)) S R P (most-edges * most-characters * most-bytes) (lattice D (w .text))) (d .1) (x .ensures .0 w o) in
+    let r = answered b (p .3 .world) (p .3 .told) (p .3 .lined) _ (d .1) in
     let built : Built = record { mode = a .mode; count = d .0 .0; used = d .0 .1 .0 } in
     let whole = built-whole (now (a .rules)) (now (a .vowels)) (now (a .code)) o (p .0) (p .1) r (a .mode) (p .4) T (subst (Standing S T) (d .1) (x .ensures .1))
     (omega (arith, x .kept .1 .1 .1 .1 .1 .1 .1 .1 .1 .0, tall, n)) in (
@@ -222,36 +236,23 @@ returns : tie.Need-returns
 unfolding tables-of
 returns c =
     let b = c .before .before .before .before .before .before .before .before .before .before .before .before .before .before .before .before .before .before .before .before in
-    let z = b .before .before .before .before .before .before .before in
-    let k = z .before .before .before .before .before .before .before .before .before .before in
+    let z = sized b in
+    let k = start z in
     let a = k .args in
     let p = k .pre in
-    let few = p .3 .lined .few in
-    let is = line-size (p .3 .lined) in
-    let n = z .text-len .ensures in
     let x = b .build-lattice in
     let y = b .before .before .before .before .before .before .no-entries in
-    let v = b .before .before .before .before .before .no-entries2 in
     let end = z .text-len .result + 1 in
-    let size = size-in (now (a .line)) in
-    let places = cut-zeros (y .result) size end (y .ensures) (omega (arith, few, is)) (omega (arith, n)) in
-    let S = x .last .1 .1 .1 .1 .1 .1 .0 in
-    let R = x .last .1 .1 .1 .1 .1 .1 .1 .0 in
     let P = x .last .1 .1 .1 .1 .1 .1 .1 .1 .0 in
-    let T = x .last .1 .1 .1 .1 .1 .1 .1 .1 .1 .0 in
-    let long = length-take-le end (y .result) (omega (arith, few, is, n, zeros-long (y .result) (y .ensures))) in
-    let tall = length-take-le end (v .result) (omega (arith, few, is, n, zeros-long (v .result) (v .ensures))) in
-    let P-back = back-is P (drop end (y .result)) end (omega (arith, x .kept .1 .1 .1 .1 .1 .1 .1 .1 .0, long)) in
-    let T-back = back-is T (drop end (v .result)) end (omega (arith, x .kept .1 .1 .1 .1 .1 .1 .1 .1 .1 .0, tall)) in
+    let P-back = back-is P (drop end (y .result)) end (omega (arith, x .kept .1 .1 .1 .1 .1 .1 .1 .1 .0, long z (y .result) (y .ensures))) in
     let d = c .before .before .before .before .before .before .before .before .before .before .before .before .count .given in
     let y′ = c .before .before .before .before .before .show in
     λ u told lined.
-    let w = with-edges (u) [] in
-    let o = first-over (told) (lined) (now (a .slots)) (now (a .room)) (take end (y .result)) places in
+    let w = with-edges u [] in
+    let o = empty b u told lined in
     let D = tables-of (now (a .rules)) (w .classes) (now (a .vowels)) (now (a .code)) in
-    let r = subst (Reached (kinds w) (size-of w) (now (a .slots)) (now (a .room)) S R P (most-edges * most-characters * most-bytes) (lattice D (w .text))) (d .1) (x .ensures .0 w o) in
-    let i = given (a .mode) (now (a .rules)) (u .classes) (now (a .vowels)) (now (a .code)) (now (a .text))
-    (length (now (a .slots))) (length (now (a .room))) (length (now (a .out))) in
+    let r = answered b u told lined _ (d .1) in
+    let i = asked b u told lined in
     let e = y′ .ensures i refl (now (a .vowels)) (with-edges w (lattice D (w .text) .0)) told
     (subst (Lent (with-edges w (lattice D (w .text) .0)) (now (a .line))) (sym P-back)
     (built-lent (now (a .rules)) (now (a .vowels)) (now (a .code)) o (p .0) (p .1) r)) (r .came .0 .edges) in
@@ -265,31 +266,11 @@ same-length-5 : tie.Need-same-length-5
 same-length-5 c = search needs
 
 returns-2 : tie.Need-returns-2
-unfolding tables-of
 returns-2 c =
     let b = c .before .before .before .before .before .before .before .before .before .before in
-    let z = b .before .before .before .before .before .before .before in
-    let k = z .before .before .before .before .before .before .before .before .before .before in
-    let a = k .args in
-    let p = k .pre in
-    let few = p .3 .lined .few in
-    let is = line-size (p .3 .lined) in
-    let n = z .text-len .ensures in
-    let x = b .build-lattice in
-    let y = b .before .before .before .before .before .before .no-entries in
-    let end = z .text-len .result + 1 in
-    let size = size-in (now (a .line)) in
-    let places = cut-zeros (y .result) size end (y .ensures) (omega (arith, few, is)) (omega (arith, n)) in
     let d = c .before .before .p .given in
     λ u told lined.
-    let w = with-edges u [] in
-    let o = first-over told lined (now (a .slots)) (now (a .room)) (take end (y .result)) places in
-    let D = tables-of (now (a .rules)) (w .classes) (now (a .vowels)) (now (a .code)) in
-    let r = subst (Reached (kinds w) (size-of w) (now (a .slots)) (now (a .room)) _ _ _ (most-edges * most-characters * most-bytes) (lattice D (w .text))) (d .1)
-    (x .ensures .0 w o) in
-    let i = given (a .mode) (now (a .rules)) (u .classes) (now (a .vowels)) (now (a .code)) (now (a .text))
-    (length (now (a .slots))) (length (now (a .room))) (length (now (a .out))) in
-    ap (λ r. returned r (now (a .out))) (c .refuse .ensures) ∙ as-refused i (now (a .out)) (p .5) 9 (d .0 .0) ∙ built-refused i D (w .text) (refuse 9 (d .0 .0)) (r .came)
+    ap (λ r. returned r (now (start (sized b) .args .out))) (c .refuse .ensures) ∙ stops b u told lined 9 (d .0 .0) (answered b u told lined _ (d .1) .came)
 
 same-length-6 : tie.Need-same-length-6
 same-length-6 c = search needs
@@ -298,31 +279,11 @@ same-length-7 : tie.Need-same-length-7
 same-length-7 c = search needs
 
 returns-3 : tie.Need-returns-3
-unfolding tables-of
 returns-3 c =
     let b = c .before .before .before .before .before .before .before .before .before .before in
-    let z = b .before .before .before .before .before .before .before in
-    let k = z .before .before .before .before .before .before .before .before .before .before in
-    let a = k .args in
-    let p = k .pre in
-    let few = p .3 .lined .few in
-    let is = line-size (p .3 .lined) in
-    let n = z .text-len .ensures in
-    let x = b .build-lattice in
-    let y = b .before .before .before .before .before .before .no-entries in
-    let end = z .text-len .result + 1 in
-    let size = size-in (now (a .line)) in
-    let places = cut-zeros (y .result) size end (y .ensures) (omega (arith, few, is)) (omega (arith, n)) in
     let d = c .before .before .p2 .given in
     λ u told lined.
-    let w = with-edges u [] in
-    let o = first-over told lined (now (a .slots)) (now (a .room)) (take end (y .result)) places in
-    let D = tables-of (now (a .rules)) (w .classes) (now (a .vowels)) (now (a .code)) in
-    let r = subst (Reached (kinds w) (size-of w) (now (a .slots)) (now (a .room)) _ _ _ (most-edges * most-characters * most-bytes) (lattice D (w .text))) (d .1)
-    (x .ensures .0 w o) in
-    let i = given (a .mode) (now (a .rules)) (u .classes) (now (a .vowels)) (now (a .code)) (now (a .text))
-    (length (now (a .slots))) (length (now (a .room))) (length (now (a .out))) in
-    ap (λ r. returned r (now (a .out))) (c .refuse2 .ensures) ∙ as-refused i (now (a .out)) (p .5) 10 (d .0 .0) ∙ built-refused i D (w .text) (refuse 10 (d .0 .0)) (r .came)
+    ap (λ r. returned r (now (start (sized b) .args .out))) (c .refuse2 .ensures) ∙ stops b u told lined 10 (d .0 .0) (answered b u told lined _ (d .1) .came)
 
 pub romanize-spec : {M : Type 1} → statement M
 romanize-spec =

@@ -11,11 +11,32 @@ use Rattle.definition.specs.Call.{tables-of}
 use Rattle.edge.specs.declared.Filled.{Filled}
 use Rattle.words.specs.Given.{kinds, size, size-in, line-size}
 use Rattle.lattice.specs.Reached.{state-of, with-edges, over-now, Reached, Refused, reached-wide, reached-refused, reached-as, reached-since}
-use Rattle.lattice.specs.Starts.{Began, Standing}
+use Rattle.lattice.specs.Starts.{Began, Standing, Lattice}
 use Rattle.lattice.proofs.Passes.{whole-lattice}
 use borrow.Author.Needs.{needs}
 use Rattle.lattice.proofs.build_lattice.Statement.{statement}
 use Rattle.lattice.proofs.build_lattice.Tie as tie
+
+-- where the function began
+abbrev start : tie.After-add-romanization → tie.Start
+start b = b .before .before .before .before .before .before .before .before .before .before .before .before .before .before .before
+
+-- An edge of the first pass that doesn't fit is the whole lattice's refusal.
+stops : (b : tie.After-add-romanization) → Refused (b .add-romanization .result)
+    → Lattice (now (start b .args .rules)) (now (start b .args .ready)) (now (start b .args .vowels)) (now (start b .args .code)) (now (start b .args .line))
+    (now (start b .args .slots), now (start b .args .room), now (start b .args .places))
+    (b .add-romanization .last .1 .1 .1 .1 .1 .0, b .add-romanization .last .1 .1 .1 .1 .1 .1 .0, b .add-romanization .last .1 .1 .1 .1 .1 .1 .1 .0)
+    (b .add-romanization .result)
+unfolding tables-of
+stops b q = λ w o.
+    let a = start b .args in
+    let x = b .add-romanization in
+    let D = tables-of (now (a .rules)) (w .classes) (now (a .vowels)) (now (a .code)) in
+    let first : State = each (build D (w .text)) (size w) 0 (state-of w (now (a .places))) in
+    let is = whole-lattice D o (size-in (now (a .line)) + 1) (start b .pre .4) (omega (arith, line-size (o .lent .text))) in
+    reached-as _ is (x .result)
+    (reached-refused (λ y. Unit {0}) (most-edges * most-characters * most-bytes) (each (fall D (w .text)) (size w) 0 first)
+    (each-grown (fall D (w .text)) 1 (fall-grown D (w .text)) (size w) 0 first .added) (x .result) q (x .ensures .0 w o))
 
 add-romanization-requires : tie.Need-add-romanization-requires
 add-romanization-requires c κs = search needs
@@ -27,7 +48,7 @@ add-rom-fall-back-singles-requires : tie.Need-add-rom-fall-back-singles-requires
 unfolding tables-of
 add-rom-fall-back-singles-requires c κs =
     let b = c .before .before .before .before .before .before .before .before .before .before .before .before .before .before .before in
-    let k = b .before .before .before .before .before .before .before .before .before .before .before .before .before .before .before in
+    let k = start b in
     let a = k .args in
     let p = k .pre in
     let n = size-in (now (a .line)) in
@@ -75,7 +96,7 @@ returns c =
     let y = c .before .before .before .before .before .before .before .before .add-rom-fall-back-singles in
     let q = c .before .before .before .before .before .before .before .before .before in
     let b = q .before .before .before .before .before .before .before .before .before .before .before .before .before .before .before in
-    let k = b .before .before .before .before .before .before .before .before .before .before .before .before .before .before .before in
+    let k = start b in
     let a = k .args in
     let p = k .pre in
     let n = size-in (now (a .line)) in
@@ -115,27 +136,11 @@ same-length-8 : tie.Need-same-length-8
 same-length-8 c = search needs
 
 returns-2 : tie.Need-returns-2
-unfolding tables-of
 returns-2 c =
     let b = c .before .before .before .before .before .before .before .before .before .before in
-    let k = b .before .before .before .before .before .before .before .before .before .before .before .before .before .before .before in
-    let a = k .args in
-    let p = k .pre in
-    let n = size-in (now (a .line)) in
     let x = b .add-romanization in
-    let e = c .enum-told .given .1 in (
-      λ w o.
-          let D = tables-of (now (a .rules)) (w .classes) (now (a .vowels)) (now (a .code)) in
-          let t = w .text in
-          let first : State = each (build D t) (size w) 0 (state-of w (now (a .places))) in
-          let sized = line-size (o .lent .text) in
-          let is = whole-lattice D o (n + 1) (p .4) (omega (arith, sized)) in
-          let few = o .lent .text .few in
-          reached-as _ is (x .result)
-          (reached-refused (λ y. Unit {0}) (most-edges * most-characters * most-bytes) (each (fall D t) (size w) 0 first)
-          (each-grown (fall D t) 1 (fall-grown D t) (size w) 0 first .added) (x .result) (subst Refused (sym e) tt) (x .ensures .0 w o)),
-      subst (Standing (x .last .1 .1 .1 .1 .1 .0) (x .last .1 .1 .1 .1 .1 .1 .1 .1 .0)) (sym e) tt,
-    )
+    let e = c .enum-told .given .1 in
+    (stops b (subst Refused (sym e) tt), subst (Standing (x .last .1 .1 .1 .1 .1 .0) (x .last .1 .1 .1 .1 .1 .1 .1 .1 .0)) (sym e) tt)
 
 same-length-9 : tie.Need-same-length-9
 same-length-9 c = search needs
@@ -150,27 +155,11 @@ same-length-12 : tie.Need-same-length-12
 same-length-12 c = search needs
 
 returns-3 : tie.Need-returns-3
-unfolding tables-of
 returns-3 c =
     let b = c .before .before .before .before .before .before .before .before .before .before in
-    let k = b .before .before .before .before .before .before .before .before .before .before .before .before .before .before .before in
-    let a = k .args in
-    let p = k .pre in
-    let n = size-in (now (a .line)) in
     let x = b .add-romanization in
-    let e = c .enum-told2 .given .1 in (
-      λ w o.
-          let D = tables-of (now (a .rules)) (w .classes) (now (a .vowels)) (now (a .code)) in
-          let t = w .text in
-          let first : State = each (build D t) (size w) 0 (state-of w (now (a .places))) in
-          let sized = line-size (o .lent .text) in
-          let is = whole-lattice D o (n + 1) (p .4) (omega (arith, sized)) in
-          let few = o .lent .text .few in
-          reached-as _ is (x .result)
-          (reached-refused (λ y. Unit {0}) (most-edges * most-characters * most-bytes) (each (fall D t) (size w) 0 first)
-          (each-grown (fall D t) 1 (fall-grown D t) (size w) 0 first .added) (x .result) (subst Refused (sym e) tt) (x .ensures .0 w o)),
-      subst (Standing (x .last .1 .1 .1 .1 .1 .0) (x .last .1 .1 .1 .1 .1 .1 .1 .1 .0)) (sym e) tt,
-    )
+    let e = c .enum-told2 .given .1 in
+    (stops b (subst Refused (sym e) tt), subst (Standing (x .last .1 .1 .1 .1 .1 .0) (x .last .1 .1 .1 .1 .1 .1 .1 .1 .0)) (sym e) tt)
 
 pub build-lattice-spec : {M : Type 1} → statement M
 build-lattice-spec =
