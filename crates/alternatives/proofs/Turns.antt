@@ -18,7 +18,6 @@ use Rattle.definition.specs.Limits.{most-alternative}
 use Rattle.definition.specs.Notes.{note-alt, note-alt3}
 use Rattle.definition.specs.Texts.{Text}
 use Rattle.definition.specs.Tables.{Rule}
-use Rattle.definition.specs.Utf8.{decoded}
 use Rattle.definition.specs.Capacity.{bytes}
 use Rattle.definition.specs.Edges.{Edge}
 use Rattle.definition.specs.RuleRows.{rule-size, rule-of}
@@ -30,7 +29,7 @@ use Rattle.utf8.specs.Encodings.{low-decoded}
 use Rattle.edge.specs.declared.Numbers.{Numbers}
 use Rattle.edge.specs.Slots.{edge-by}
 use Rattle.listing.specs.Rows.{row-of, row-size, row-length}
-use Rattle.listing.specs.Items.{Written, item, put-bytes, put-items, put-items-append}
+use Rattle.listing.specs.Items.{Written, item, put-bytes, put-items, Puts, put-items-append}
 use Rattle.dicts.specs.Sorted.{rules-from, rules-next}
 use Rattle.words.specs.Found.{Rows, rules-in, none-in, one-in, row-there}
 use Rattle.marks.specs.Marked.{Marked}
@@ -86,14 +85,14 @@ module _ (at : ℕ) (out : List ℕ) (new : Bool) (e : Numbers) (note : ℕ) (w 
   N = record { from = e .from; to = e .to; note = note; core = 0 }
 
   abbrev Put : Written → Type 0
-  Put o = (o ≡ put-items true (put new Y []) (at, out)) × (o .0 ≤ at + offer-bytes)
+  Put o = Puts true (put new Y []) offer-bytes (at, out) o
 
-  pub put-one : new ≡ true → Short most-alternative w → (o : Written) → o ≡ put-bytes (row-of (edge-by N (w ++ []))) (at, out) → Put o
+  pub put-one : new ≡ true → Short most-alternative w → (o : Written) → o ≡ put-bytes (row-of (edge-by N w)) (at, out) → Put o
   put-one n s o q = (q ∙ ap (λ x. put-bytes (row-of x) (at, out)) is-other ∙ written, small)
     where
-      is-other : edge-by N (w ++ []) ≡ Y
+      is-other : edge-by N w ≡ Y
       is-other = unfold edge-by other in
-          ap (λ t. record { from = e .from; to = e .to; note = note; core = 0; text = t }) (ap decoded (append-nil w) ∙ low-decoded w (s .low))
+          ap (λ t. record { from = e .from; to = e .to; note = note; core = 0; text = t }) (low-decoded w (s .low))
 
       written : put-bytes (row-of Y) (at, out) ≡ put-items true (put new Y []) (at, out)
       written = unfold put-items item pick in sym (ap (λ b. put-items true (put b Y []) (at, out)) n)

@@ -10,6 +10,7 @@ use Rattle.definition.specs.Tables.{Rule}
 use Rattle.definition.specs.Edges.{Edge}
 use Rattle.definition.specs.Rules.{holds-at}
 use Rattle.definition.specs.Offers.{all-offers}
+use Rattle.listing.specs.Sizes.{head-bytes}
 use Rattle.offers.specs.declared.Asked.{Asked}
 use Rattle.offers.specs.Texts.{texts, most-offers, holding}
 
@@ -29,9 +30,9 @@ holding-offers x code a r = all-offers x (put (holds-at code (a .start) (a .end)
 abbrev pub Blank : List ℕ → Type 0
 Blank cells = cells ≡ replicate (length cells) 0
 
--- How much of the listing an alternative takes at most, eight bytes and its text; those of a row, those of an edge
+-- How much of the listing an alternative takes at most, a row's head and its text; those of a row, of an edge, of a path
 abbrev pub offer-bytes : ℕ
-offer-bytes = 8 + most-alternative
+offer-bytes = head-bytes + most-alternative
 
 abbrev pub row-bytes : ℕ
 row-bytes = most-offers * offer-bytes
@@ -39,6 +40,5 @@ row-bytes = most-offers * offer-bytes
 abbrev pub edge-bytes : ℕ
 edge-bytes = most-rows * row-bytes
 
--- where an edge's alternatives start at most
-abbrev pub most-at : ℕ
-most-at = 4294967296 + most-characters * edge-bytes
+abbrev pub path-bytes : ℕ
+path-bytes = most-characters * edge-bytes

@@ -15,20 +15,21 @@ ghost use Rattle.definition.specs.Shorts.{Low, Short};
 ghost use Rattle.definition.specs.Notes.{note-alt, note-alt3};
 ghost use Rattle.definition.specs.RuleRows.{rule-of};
 ghost use Rattle.definition.specs.Paths.{other, join};
-ghost use Rattle.definition.specs.Offers.{offers, news, found-by};
+ghost use Rattle.definition.specs.Offers.{offers, found-by};
 ghost use Rattle.definition.specs.Bounds.{Sound};
 ghost use Rattle.rom.specs.Rom.{text as text-of, Clean};
 ghost use Rattle.edge.specs.Slots.{edge-by, edges-of};
 ghost use Rattle.edge.specs.Stored.{Stored};
 ghost use Rattle.edge.specs.Best.{edge-at, Found};
-ghost use Rattle.listing.specs.Items.{put-items};
+ghost use Rattle.listing.specs.Sizes.{Countable};
+ghost use Rattle.listing.specs.Items.{Puts};
 ghost use Rattle.standing.specs.Stands.{Stands};
 ghost use Rattle.words.specs.Found.{Row, Rows};
 ghost use Rattle.words.specs.Given.{size-in, Prepared};
 ghost use Rattle.marks.specs.Marked.{Marked};
 ghost use Rattle.offers.specs.Texts.{texts, Spoken, holding};
-ghost use Rattle.alternatives.specs.News.{offered, earlier, holding-offers, Blank, offer-bytes, row-bytes, edge-bytes, most-at};
-ghost use Rattle.alternatives.specs.Written.{Alternatives, PathAlternatives};
+ghost use Rattle.alternatives.specs.News.{offered, earlier, holding-offers, Blank, offer-bytes, edge-bytes, path-bytes};
+ghost use Rattle.alternatives.specs.Written.{Offering, Offered, Alternatives, PathAlternatives};
 use edge::BestEdge;
 use edge::Numbers;
 use offers::Asked;
@@ -113,9 +114,8 @@ fn note_of(o: Offers, k: usize) -> u8
 
 // An edge with the span of another, where it is new.
 fn put_new(out: &mut [u8], at: usize, new: bool, e: Numbers, note: u8, w: &[u8]) -> usize
-    requires { ⌜ (at < 9223372036854775808) × Short most-alternative (now w) ⌝ }
-    ensures { λ r. ⌜ ((r, now (out .exit)) ≡ put-items true (put new (other (edge-by e []) note (now (w .entry))) []) (at, now (out .entry)))
-        × (r ≤ at + offer-bytes) ⌝ }
+    requires { ⌜ Countable at offer-bytes × Short most-alternative (now w) ⌝ }
+    ensures { λ r. ⌜ Puts true (put new (other (edge-by e []) note (now (w .entry))) []) offer-bytes (at, now (out .entry)) (r, now (out .exit)) ⌝ }
 {
     if new {
         let other = Numbers {
@@ -124,7 +124,7 @@ fn put_new(out: &mut [u8], at: usize, new: bool, e: Numbers, note: u8, w: &[u8])
             note,
             core: 0,
         };
-        return listing::put_other(out, at, other, w, b"");
+        return listing::put_other(out, at, other, w);
     }
     at
 }
@@ -142,12 +142,10 @@ fn put_offers(
     text: &[u8],
     cells: &mut [u8],
 ) -> usize
-    requires { ⌜ Rows (now rules) (asked .first) before × Row (drop row (now rules)) × Spoken e (now text) × (at ≤ most-at + edge-bytes)
-        × Marked (offered (edge-by e (now text)) (now code) asked (now rules) before) (now cells) ⌝ }
-    ensures { λ r. ⌜ ((r, now (out .exit)) ≡ put-items true (news (earlier (edge-by e (now (text .entry))) (now (code .entry)) asked (now (rules .entry)) before)
-        (offers (edge-by e (now (text .entry))) (rule-of (drop row (now (rules .entry)))))) (at, now (out .entry))) × (r ≤ at + row-bytes)
-        × Marked (offered (edge-by e (now (text .entry))) (now (code .entry)) asked (now (rules .entry)) before
-        ++ texts (offers (edge-by e (now (text .entry))) (rule-of (drop row (now (rules .entry)))))) (now (cells .exit)) ⌝ }
+    requires { ⌜ Offering (now rules) (now code) asked before row e (now text) at (now cells) ⌝ }
+    ensures { λ r. ⌜ Offered (now (rules .entry)) (now (code .entry)) asked before (edge-by e (now (text .entry)))
+        (offers (edge-by e (now (text .entry))) (rule-of (drop row (now (rules .entry)))))
+        (at, now (out .entry)) (r, now (out .exit)) (now (cells .exit)) ⌝ }
 {
     let o = offers::offers_of(rules, row, e, text);
     let n = offers::offers_count(o);
@@ -178,12 +176,10 @@ fn put_holding(
     text: &[u8],
     cells: &mut [u8],
 ) -> usize
-    requires { ⌜ Rows (now rules) (asked .first) before × Row (drop row (now rules)) × Spoken e (now text) × (at ≤ most-at + edge-bytes)
-        × Marked (offered (edge-by e (now text)) (now code) asked (now rules) before) (now cells) ⌝ }
-    ensures { λ r. ⌜ ((r, now (out .exit)) ≡ put-items true (news (earlier (edge-by e (now (text .entry))) (now (code .entry)) asked (now (rules .entry)) before)
-        (holding-offers (edge-by e (now (text .entry))) (now (code .entry)) asked (rule-of (drop row (now (rules .entry)))))) (at, now (out .entry))) × (r ≤ at + row-bytes)
-        × Marked (offered (edge-by e (now (text .entry))) (now (code .entry)) asked (now (rules .entry)) before
-        ++ texts (holding-offers (edge-by e (now (text .entry))) (now (code .entry)) asked (rule-of (drop row (now (rules .entry)))))) (now (cells .exit)) ⌝ }
+    requires { ⌜ Offering (now rules) (now code) asked before row e (now text) at (now cells) ⌝ }
+    ensures { λ r. ⌜ Offered (now (rules .entry)) (now (code .entry)) asked before (edge-by e (now (text .entry)))
+        (holding-offers (edge-by e (now (text .entry))) (now (code .entry)) asked (rule-of (drop row (now (rules .entry)))))
+        (at, now (out .entry)) (r, now (out .exit)) (now (cells .exit)) ⌝ }
 {
     if rules::holds(rules, code, row, asked.start, asked.end) {
         return put_offers(out, at, rules, code, asked, before, row, e, text, cells);
@@ -204,10 +200,10 @@ fn put_rows(
     text: &[u8],
     cells: &mut [u8],
 ) -> usize
-    requires { ⌜ Rows (now rules) (asked .first) rows × (rows ≤ most-rows) × Spoken e (now text) × (at ≤ most-at) × Blank (now cells) ⌝ }
-    ensures { λ r. ⌜ ((r, now (out .exit)) ≡ put-items true (found-by (edge-by e (now (text .entry)))
-        (holding (now (code .entry)) (asked .start) (asked .end) (now (rules .entry)) (asked .first) rows)) (at, now (out .entry)))
-        × (r ≤ at + edge-bytes) ⌝ }
+    requires { ⌜ Rows (now rules) (asked .first) rows × (rows ≤ most-rows) × Spoken e (now text) × Countable at edge-bytes × Blank (now cells) ⌝ }
+    ensures { λ r. ⌜ Puts true (found-by (edge-by e (now (text .entry)))
+        (holding (now (code .entry)) (asked .start) (asked .end) (now (rules .entry)) (asked .first) rows)) edge-bytes
+        (at, now (out .entry)) (r, now (out .exit)) ⌝ }
 {
     let mut to = at;
     let mut row = asked.first;
@@ -232,10 +228,10 @@ fn put_filtered(
     text: &[u8],
     cells: &mut [u8],
 ) -> usize
-    requires { ⌜ Rows (now rules) (asked .first) rows × (rows ≤ most-rows) × Spoken e (now text) × (at ≤ most-at) ⌝ }
-    ensures { λ r. ⌜ ((r, now (out .exit)) ≡ put-items true (found-by (edge-by e (now (text .entry)))
-        (holding (now (code .entry)) (asked .start) (asked .end) (now (rules .entry)) (asked .first) rows)) (at, now (out .entry)))
-        × (r ≤ at + edge-bytes) ⌝ }
+    requires { ⌜ Rows (now rules) (asked .first) rows × (rows ≤ most-rows) × Spoken e (now text) × Countable at edge-bytes ⌝ }
+    ensures { λ r. ⌜ Puts true (found-by (edge-by e (now (text .entry)))
+        (holding (now (code .entry)) (asked .start) (asked .end) (now (rules .entry)) (asked .first) rows)) edge-bytes
+        (at, now (out .entry)) (r, now (out .exit)) ⌝ }
 {
     room::clear(cells);
     put_rows(out, at, rules, code, asked, rows, e, text, cells)
@@ -270,7 +266,7 @@ fn put_edge_alternatives(
     text: Rom,
 ) -> usize
     requires { ⌜ Prepared (now rules) (now ready) × Clean text × Spoken e (text-of text) × (e .from < e .to) × (e .to ≤ size-in (now line))
-        × (at ≤ most-at) ⌝ }
+        × Countable at edge-bytes ⌝ }
     ensures { λ r. ⌜ Alternatives (now (rules .entry)) (now (ready .entry)) (now (code .entry)) (now (line .entry)) (now (places .entry)) (now (places .exit))
         (edge-by e (text-of text) ∷ []) (at, now (out .entry)) (r, now (out .exit)) × (r ≤ at + edge-bytes) ⌝ }
 {
@@ -315,7 +311,7 @@ fn put_best_alternatives(
     best: BestEdge,
 ) -> usize
     requires { ⌜ Prepared (now rules) (now ready) × Stored (now slots) (now room) (listed .count) (listed .used) × Found (listed .count) best
-        × Opt (Sound (size-in (now line))) (edge-at (now room) (now slots) best) × (listed .at ≤ most-at) ⌝ }
+        × Opt (Sound (size-in (now line))) (edge-at (now room) (now slots) best) × Countable (listed .at) edge-bytes ⌝ }
     ensures { λ r. ⌜ Alternatives (now (rules .entry)) (now (ready .entry)) (now (code .entry)) (now (line .entry)) (now (places .entry)) (now (places .exit))
         (join (edge-at (now (room .entry)) (now (slots .entry)) best) []) (listed .at, now (out .entry)) (r, now (out .exit)) × (r ≤ listed .at + edge-bytes)
         × (take (listed .used) (now (room .exit)) ≡ take (listed .used) (now (room .entry))) ⌝ }
@@ -355,9 +351,10 @@ pub fn put_alternatives(
     starts: &[u32],
     listed: Listed,
 ) -> usize
-    requires { ⌜ Prepared (now rules) (now ready) × Stored (now slots) (now room) (listed .count) (listed .used) × Stands (now slots) (now starts) (listed .count)
-        × (length (now starts) ≡ size-in (now line) + 1) × All (Sound (size-in (now line))) (edges-of (now room) (listed .count) (now slots))
-        × (size-in (now line) ≤ most-characters) × (listed .at < 4294967296) ⌝ }
+    requires { ⌜ Prepared (now rules) (now ready) × Stored (now slots) (now room) (listed .count) (listed .used)
+        × Stands (now slots) (now starts) (listed .count) × (length (now starts) ≡ size-in (now line) + 1)
+        × All (Sound (size-in (now line))) (edges-of (now room) (listed .count) (now slots))
+        × (size-in (now line) ≤ most-characters) × Countable (listed .at) path-bytes ⌝ }
     ensures { λ r. ⌜ PathAlternatives (now (rules .entry)) (now (ready .entry)) (now (code .entry)) (now (line .entry)) (now (places .entry))
         (edges-of (now (room .entry)) (listed .count) (now (slots .entry))) (listed .at, now (out .entry)) (r, now (out .exit)) ⌝ }
 {
@@ -367,7 +364,7 @@ pub fn put_alternatives(
     let mut to = listed.at;
     let mut p: usize = 0;
     while p < n {
-        let best = standing::best_right_neighbor_edge(slots, starts, count, p);
+        let best = standing::best_right_neighbor_edge(slots, starts, p);
         let here = Listed {
             at: to,
             count,

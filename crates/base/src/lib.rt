@@ -1,8 +1,8 @@
 // Bytes and big-endian numbers of lent slices. Past the end a byte is 0, as the definition reads it, so that no reader
 // has to ask for the length.
 ghost use mathlib.Core.Path.{_≡_};
-ghost use Prim.Native.Nat.{_<_};
-ghost use lib.ListN.{getD, drop};
+ghost use Prim.Native.Nat.{_+_, _<_};
+ghost use lib.ListN.{length, getD, drop};
 ghost use Rattle.base.specs.Big.{be2, be3, be4};
 ghost use Rattle.base.specs.Bits.{flagged};
 
@@ -56,8 +56,7 @@ pub fn three(s: &[u8], row: usize, i: usize) -> u32
 {
     if row < s.len() {
         if i + 2 < s.len() - row {
-            let a = row + i;
-            return wide(s[a]) * 65536 + wide(s[a + 1]) * 256 + wide(s[a + 2]);
+            return three_there(s, row, i);
         }
     }
     two(s, row, i) * 256 + at(s, row, i + 2)
@@ -69,14 +68,27 @@ pub fn four(s: &[u8], row: usize, i: usize) -> u64
 {
     if row < s.len() {
         if i + 3 < s.len() - row {
-            let a = row + i;
-            return wide(s[a]) as u64 * 16777216
-                + wide(s[a + 1]) as u64 * 65536
-                + wide(s[a + 2]) as u64 * 256
-                + wide(s[a + 3]) as u64;
+            return four_there(s, row, i) as u64;
         }
     }
     three(s, row, i) as u64 * 256 + at(s, row, i + 3) as u64
+}
+
+// The same, for those who know that all of the bytes are there.
+pub fn three_there(s: &[u8], row: usize, i: usize) -> u32
+    requires { ⌜ row + i + 2 < length (now s) ⌝ }
+    ensures { λ r. ⌜ (r ≡ be3 (drop row (now (s .entry))) i) × (r < 16777216) ⌝ }
+{
+    let a = row + i;
+    wide(s[a]) * 65536 + wide(s[a + 1]) * 256 + wide(s[a + 2])
+}
+
+pub fn four_there(s: &[u8], row: usize, i: usize) -> u32
+    requires { ⌜ row + i + 3 < length (now s) ⌝ }
+    ensures { λ r. ⌜ (r ≡ be4 (drop row (now (s .entry))) i) × (r < 4294967296) ⌝ }
+{
+    let a = row + i;
+    wide(s[a]) * 16777216 + wide(s[a + 1]) * 65536 + wide(s[a + 2]) * 256 + wide(s[a + 3])
 }
 
 // Bit `k` of a byte, by a shift and a mask.

@@ -7,6 +7,9 @@ ghost use Rattle.definition.specs.Texts.{latin};
 ghost use Rattle.definition.specs.Utf8.{scalar};
 ghost use Rattle.definition.specs.Blocks.{headed, small};
 
+// Rows of a rule table and of a class table, at most.
+pub const MOST_ROWS: u32 = 8192;
+
 // A table is valid, or has its first fault at this row's offset (0 for the header).
 pub enum TableRead {
     Valid,

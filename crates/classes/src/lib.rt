@@ -178,13 +178,13 @@ fn plain_classes(classes: &[u8], at: usize, left: u32, low: u32) -> Walk
     }
 }
 
-// The first fault of a class table. No more than 8192 rows, and characters rise.
+// The first fault of a class table. No more than `MOST_ROWS` rows, and characters rise.
 pub fn check_classes(classes: &[u8]) -> TableRead
     ensures { λ r. ⌜ fault-place r ≡ class-fault (now (classes .entry)) ⌝ }
 {
     if blocks::headed(classes) {
         let mut at: usize = 5;
-        let mut left: u32 = 8192;
+        let mut left: u32 = blocks::MOST_ROWS;
         let mut low: u32 = 0;
         while at < classes.len() {
             if left == 0 {
@@ -229,7 +229,7 @@ fn class_of(classes: &[u8], c: u32) -> ClassOf
     while low < high {
         let mid = low + (high - low) / 2;
         let row = 5 + mid * 6;
-        let char = base::three(classes, row, 0);
+        let char = base::three_there(classes, row, 0);
         if char == c {
             return ClassOf::Row(class_row(classes, row));
         }

@@ -20,7 +20,8 @@ use Rattle.definition.specs.Tables.{Rule, Lexicon, lexicon}
 use Rattle.definition.specs.Edges.{Edge, View, M, starting, right-best, new-in, view}
 use Rattle.definition.specs.Building.{lattice}
 use Rattle.definition.specs.Capacity.{bytes}
-use Rattle.definition.specs.Paths.{join, next, path-from, akin, other, also-all, cored, by-target, by-end-target, by-rule, by-rules, by-edges, path-of, with-alternatives-of, path, with-alternatives, alternatives}
+use Rattle.definition.specs.Paths.{join, next, path-from, akin, other, also-all, cored, by-target, by-end-target, by-rule, by-rules, by-edges, path-of}
+use Rattle.definition.specs.Paths.{with-alternatives-of, path, with-alternatives, alternatives}
 use Rattle.definition.specs.Call.{Inputs, tables, characters, refusal}
 use Rattle.definition.specs.Accepted.{accepted-of}
 use Rattle.definition.specs.Growth.{Added, added-not, added-twice, added-new}

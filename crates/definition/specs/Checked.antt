@@ -15,7 +15,8 @@ use Rattle.definition.specs.Texts.{Text, latin, the-space}
 use Rattle.definition.specs.Utf8.{scalar}
 use Rattle.definition.specs.Tables.{category-letter, category-Zs, script-none}
 use Rattle.definition.specs.Blocks.{small}
-use Rattle.definition.specs.RuleRows.{rule-size, rule-flag, zero-bit, source-count, rule-source, codes-count, rule-codes, others-at, others-end, rises, rule-fits, source-right, codes-right, target-right, end-target-right, others-right, rule-right}
+use Rattle.definition.specs.RuleRows.{rule-size, rule-flag, zero-bit, source-count, rule-source, codes-count, rule-codes, others-at, others-end, rises}
+use Rattle.definition.specs.RuleRows.{rule-fits, source-right, codes-right, target-right, end-target-right, others-right, rule-right}
 use Rattle.definition.specs.ClassRows.{class-char, class-category, class-script, class-flags, class-fits, space-right, latin-right, class-right}
 use Rattle.definition.specs.VowelRows.{vowel-size, vowel-script, vowel-type, vowel-length, vowel-letters, vowel-fits, letters-right, vowel-right}
 

@@ -22,7 +22,8 @@ use Rattle.definition.specs.Tables.{Lexicon}
 use Rattle.definition.specs.Edges.{Edge, View, alike}
 use Rattle.definition.specs.Rules.{simple}
 use Rattle.definition.specs.Vowels.{consonant-only}
-use Rattle.definition.specs.Expansion.{Work, work, double, around, around-by, widen, framed, before, pre-vowel, silent, small-target, trim-front, trim-back, trim, finish, grave, small-y, rest, o-ang-step, thai, by-script, expand}
+use Rattle.definition.specs.Expansion.{Work, work, double, around, around-by, widen, framed, before, pre-vowel, silent, small-target, trim-front}
+use Rattle.definition.specs.Expansion.{trim-back, trim, finish, grave, small-y, rest, o-ang-step, thai, by-script, expand}
 use Rattle.definition.specs.Building.{grown, as-edge}
 use Rattle.definition.specs.Posts.{Post, post-ret, post-bind, post-then, post-pick, post-maybe}
 use Rattle.definition.specs.VowelBounds.{Voiced}

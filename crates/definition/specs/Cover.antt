@@ -123,7 +123,8 @@ module _ (n : ℕ) (es : List Edge) (sound : All (Sound n) es) (cover : (p : ℕ
   path-abuts zero p l m = omega arith
   path-abuts (suc k) p l m = go (decLt p n) (λ q a b. path-abuts k q a b)
     where
-      step : (o : Option Edge) → right-best es p ≡ o → Opt (λ x. Sound n x × (x .from ≡ p)) o → p < n → ((q : ℕ) → q ≤ n → n ≤ q + k → Abut q n (path-from k q es)) → Abut p n (join o (path-from k (next o p) es))
+      step : (o : Option Edge) → right-best es p ≡ o → Opt (λ x. Sound n x × (x .from ≡ p)) o → p < n
+          → ((q : ℕ) → q ≤ n → n ≤ q + k → Abut q n (path-from k q es)) → Abut p n (join o (path-from k (next o p) es))
       step none e s d f = absurd (right-there p es (cover p d) e)
       step (some x) e s d f = let a = s .0 .forward in let b = s .0 .inside in let c = s .1 in (c, omega arith, f (x .to) b (omega arith))
 

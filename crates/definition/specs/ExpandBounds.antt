@@ -21,7 +21,9 @@ use Rattle.definition.specs.Notes.{note-exp}
 use Rattle.definition.specs.Classes.{class}
 use Rattle.definition.specs.Edges.{View}
 use Rattle.definition.specs.Rules.{first-rule, simple}
-use Rattle.definition.specs.Expansion.{Work, work, doubling, doubled, double, framed, widen, around-by, around, pre-vowel, before, silent, small-ya, small-target, lengthens, trim-front, trim-back, trim, finish, grave, small-y, rest, o-ang-step, thai, by-script, expand}
+use Rattle.definition.specs.Expansion.{Work, work, doubling, doubled, double, framed, widen, around-by, around, pre-vowel, before, silent, small-ya}
+use Rattle.definition.specs.Expansion.{small-target, lengthens, trim-front, trim-back, trim, finish, grave, small-y, rest, o-ang-step, thai, by-script}
+use Rattle.definition.specs.Expansion.{expand}
 use Rattle.definition.specs.Shorts.{Short, short-none, short-wide, short-append, short-letter, short-reverse, short-tail, short-without-last, short-one}
 use Rattle.definition.specs.Posts.{Post, post-ret, post-bind, post-then, post-if, post-pick, post-maybe}
 use Rattle.definition.specs.Within.{fits-bound, inner}

@@ -9,7 +9,8 @@ use lib.Dec.{eqb}
 use lib.ListN.{length, take, drop}
 use Rattle.base.specs.Pick.{pick}
 use Rattle.base.specs.Lists.{keep, all, head, tail, or-else, has, is, maybe, bind, same, starts}
-use Rattle.definition.specs.Texts.{Text, chars, among, at, prev, stands, fits, vowels, consonants, last-is, without-last, the-space, letter-e, letter-i, addak, en-dash, long-mark, coptic-grave, o-ang}
+use Rattle.definition.specs.Texts.{Text, chars, among, at, prev, stands, fits, vowels, consonants, last-is, without-last, the-space, letter-e, letter-i}
+use Rattle.definition.specs.Texts.{addak, en-dash, long-mark, coptic-grave, o-ang}
 use Rattle.definition.specs.Tables.{Rule, Class, Lexicon, script-thai, script-coptic, script-hiragana, script-katakana}
 use Rattle.definition.specs.Notes.{note-none, note-exp, note-del}
 use Rattle.definition.specs.Classes.{class, script}

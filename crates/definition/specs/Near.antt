@@ -13,7 +13,8 @@ use Rattle.definition.specs.Edges.{Edge, View}
 use Rattle.definition.specs.Rules.{simple}
 use Rattle.definition.specs.Syllables.{full}
 use Rattle.definition.specs.Vowels.{vowel-step}
-use Rattle.definition.specs.Expansion.{Work, work, double, framed, widen, around-by, around, pre-vowel, before, silent, small-target, trim, finish, grave, small-y, rest, o-ang-step, thai, by-script, expand}
+use Rattle.definition.specs.Expansion.{Work, work, double, framed, widen, around-by, around, pre-vowel, before, silent, small-target, trim, finish, grave}
+use Rattle.definition.specs.Expansion.{small-y, rest, o-ang-step, thai, by-script, expand}
 use Rattle.definition.specs.Building.{is-tail, without-plus, as-edge, edge-of, span-edge}
 use Rattle.definition.specs.Posts.{Post, post-ret, post-bind, post-then, post-pick, post-any, post-maybe}
 

@@ -10,7 +10,8 @@ use Rattle.base.specs.Rows.{Each, each-map}
 use Rattle.definition.specs.Limits.{most-source}
 use Rattle.definition.specs.Texts.{Text}
 use Rattle.definition.specs.Blocks.{head-bytes}
-use Rattle.definition.specs.RuleRows.{rule-size, rule-flag, target-bit, end-target-bit, source-count, codes-at, codes-count, target-at, past-text, end-target-at, others-at, others-end, rule-source, rule-right, rule-fault}
+use Rattle.definition.specs.RuleRows.{rule-size, rule-flag, target-bit, end-target-bit, source-count, codes-at, codes-count, target-at, past-text}
+use Rattle.definition.specs.RuleRows.{end-target-at, others-at, others-end, rule-source, rule-right, rule-fault}
 use Rattle.definition.specs.ClassRows.{class-size, class-next, class-right, class-fault}
 use Rattle.definition.specs.VowelRows.{vowel-size, vowel-next, vowel-right, vowel-fault}
 use Rattle.definition.specs.BlockTurns.{chain-each}

@@ -37,7 +37,17 @@ sequence-three q m n z l k j = let e : 224 + q - 224 ≡ q = omega arith in
 sequence-four : (q m n o : ℕ) → q < 8 → m < 64 → n < 64 → o < 64 → sequence (240 + q) m n o ≡ checked 0x10000 4 (q * 262144 + m * 4096 + n * 64 + o)
 unfolding sequence pick
 sequence-four q m n o l k j i = let e : 240 + q - 240 ≡ q = omega arith in
-    rw (le-ltb (240 + q) 128 (omega arith), le-ltb (240 + q) 192 (omega arith), lt-leb 64 m k, le-ltb (240 + q) 224 (omega arith), lt-leb 64 n j, le-ltb (240 + q) 240 (omega arith), lt-leb 64 o i, lt-leb 248 (240 + q) (omega arith), e)
+    rw (
+      le-ltb (240 + q) 128 (omega arith),
+      le-ltb (240 + q) 192 (omega arith),
+      lt-leb 64 m k,
+      le-ltb (240 + q) 224 (omega arith),
+      lt-leb 64 n j,
+      le-ltb (240 + q) 240 (omega arith),
+      lt-leb 64 o i,
+      lt-leb 248 (240 + q) (omega arith),
+      e,
+    )
 
 scalar-top : (c : ℕ) → scalar c ≡ true → c < 0x110000
 unfolding scalar

@@ -1,19 +1,18 @@
 -- Does a longer source start with a text? The row behind those with this source says it: sources rise, so a longer one
 -- that starts with the text stands right behind them.
-use mathlib.Core.Bool.{Bool, true, false, _&&_, _||_, and-false, true≢false}
+use mathlib.Core.Bool.{Bool, true, false, _&&_, _||_, and-false}
 use mathlib.Core.Path.{_≡_, refl, sym, ap, _∙_}
 use mathlib.Core.List.{List, [], _∷_, _++_, append-nil}
 use mathlib.Core.Option.{none}
 use Prim.Native.Nat.{ℕ, _+_, _≤_, _<_}
 use native.Mathlib.Omega.{arith}
 use native.Mathlib.Decide.{decLt}
-use lib.Dec.{eqb, ltb}
+use lib.Dec.{ltb}
 use lib.ListN.{length, drop, length-append}
 use borrow.Author.Tests.{lt-ltb, le-ltb}
 use Rattle.base.specs.Lists.{any, starts}
-use Rattle.base.specs.ListLaws.{any-append, any-none, any-implies, same-true, starts-split}
+use Rattle.base.specs.ListLaws.{any-append, any-none, same-true, starts-split}
 use Rattle.base.specs.Alls.{All-map, any-cong}
-use Rattle.base.specs.Bools.{and-left, and-right}
 use Rattle.definition.specs.Texts.{Text}
 use Rattle.definition.specs.Tables.{Rule}
 use Rattle.definition.specs.RuleRows.{rule-size, rule-source, rule-of, rule-fault, rules-of}
@@ -120,21 +119,3 @@ start-or-longer b w e = go (decLt at (length b)) (is-equal (order-at b w at)) re
     go (yes l) false i =
         sym (start-there b w e at refl l) ∙ passed-here b w at (passed-first b w e at refl) l i
         ∙ ap (λ (n : Bool). n || has-longer w (rules-of b)) (sym (le-ltb 0 (run b w (offsets-from b at)) (omega (arith, run-ends b w at l i))))
-
--- A source that starts with more than the text goes past it
-starts-shorter : (w u a : Text) → starts (w ++ u) a ≡ true → starts w a ≡ true
-unfolding starts
-starts-shorter [] u a e = refl
-starts-shorter (x ∷ w) u [] e = absurd (true≢false (sym e))
-starts-shorter (x ∷ w) u (y ∷ a) e =
-    rw (and-left (eqb x y) (starts (w ++ u) a) e) (starts-shorter w u a (and-right (eqb x y) (starts (w ++ u) a) e))
-
-pub longer-start : (rs : List Rule) (w u : Text) → 0 < length u → is-start (w ++ u) rs ≡ true → has-longer w rs ≡ true
-unfolding is-start has-longer
-longer-start rs w u h e = any-implies (λ r. starts (w ++ u) (r .source)) (goes-past w) (λ r q. past r q) rs e
-  where
-    past : (r : Rule) → starts (w ++ u) (r .source) ≡ true → (starts w (r .source) && ltb (length w) (length (r .source))) ≡ true
-    past r q =
-        rw (starts-shorter w u (r .source) q)
-        (lt-ltb (length w) (length (r .source))
-        (omega (arith, ap length (starts-split (w ++ u) (r .source) q), length-append (w ++ u) (drop (length (w ++ u)) (r .source)), length-append w u)))

@@ -190,26 +190,34 @@ module _ (s w : List ℕ) (n o i : ℕ) where
     pub same-character : (d ≤ c) × (c ≤ d) → compared (counted three-at 3 (n - 1) (drop (o + 3) s)) (drop (i + 1) w) ≡ here
     same-character k = rw add-one (sym (one ∙ beside-same c d _ (omega arith)))
 
--- A row's count of source characters and the first of them, read as one number: where there is one, and the text has one
--- too, and they differ, they settle the order
-module _ (R w : List ℕ) (row key d : ℕ) (p : key ≡ be4 (drop row R) 5) (b : (i : ℕ) → getD R i 0 < 256) (h : 16777215 < key) (l : 0 < length w) (q : d ≡ getD w 0 0) where
-  abbrev s : List ℕ
-  s = drop row R
+-- One more than the first character of a row's source, where it is told
+abbrev pub First : List ℕ → ℕ → Type 0
+First s k = (0 < k → (0 < source-count s) × (k ≡ three-at (drop 6 s) + 1)) × (k ≤ 16777216)
 
-  small : (i : ℕ) → getD s i 0 < 256
-  small i = rw getD-drop (b (row + i))
+-- the count and the first character, read as one number
+pub first-told : (R : List ℕ) (row key : ℕ) → key ≡ be4 (drop row R) 5 → ((i : ℕ) → getD R i 0 < 256) → 16777215 < key
+    → First (drop row R) (key % 16777216 + 1)
+unfolding source-count
+first-told R row key p b h = (λ _. (omega (arith, small 6, small 7, small 8), ap (λ n. n + 1) begins), omega arith)
+  where
+    s : List ℕ
+    s = drop row R
 
-  some : 0 < source-count s
-  unfolding source-count
-  some = omega (arith, small 6, small 7, small 8)
+    small : (i : ℕ) → getD s i 0 < 256
+    small i = rw getD-drop (b (row + i))
 
-  begins : key % 16777216 ≡ three-at (drop 6 s)
-  begins = (let e : key % 16777216 ≡ be3 s 6 = omega (arith, small 6, small 7, small 8) in e) ∙ three-there s 6
+    begins : key % 16777216 ≡ three-at (drop 6 s)
+    begins = (let e : key % 16777216 ≡ be3 s 6 = omega (arith, small 6, small 7, small 8) in e) ∙ three-there s 6
 
-  pub first-lower : key % 16777216 < d → Below ≡ compared (rule-source s) w
+-- where it differs from the text's first, it settles the order
+module _ (s w : List ℕ) (k d : ℕ) (f : First s k) (z : 0 < k) (l : 0 < length w) (q : d ≡ getD w 0 0) where
+  begins : k - 1 ≡ three-at (drop 6 s)
+  begins = let e = f .0 z .1 in omega (arith, e)
+
+  pub first-lower : k ≤ d → Below ≡ compared (rule-source s) w
   unfolding rule-source
-  first-lower k = lower s w (source-count s) 6 0 some l (key % 16777216) d begins q k
+  first-lower h = lower s w (source-count s) 6 0 (f .0 z .0) l (k - 1) d begins q (omega arith)
 
-  pub first-higher : d < key % 16777216 → Above ≡ compared (rule-source s) w
+  pub first-higher : d < k - 1 → Above ≡ compared (rule-source s) w
   unfolding rule-source
-  first-higher k = higher s w (source-count s) 6 0 some l (key % 16777216) d begins q k
+  first-higher h = higher s w (source-count s) 6 0 (f .0 z .0) l (k - 1) d begins q h

@@ -9,7 +9,7 @@ ghost use Rattle.definition.specs.RuleRows.{printable, rule-source, rule-right,
 ghost use Rattle.blocks.specs.Faults.{fault-place};
 ghost use Rattle.dicts.specs.Marks.{mark-of};
 ghost use Rattle.dicts.specs.Plain.{Plain, Rising, fault-from};
-ghost use Rattle.dicts.specs.Order.{compared};
+ghost use Rattle.dicts.specs.Order.{compared, First};
 ghost use Rattle.dicts.specs.Index.{index-entries, offsets-from, row-offsets, entered, indexed, Ready};
 ghost use Rattle.dicts.specs.Seek.{is-below, is-equal, order-at, seek, first-at, equal-rows};
 ghost use Rattle.dicts.specs.Entries.{entry-below};
@@ -17,6 +17,14 @@ ghost use Rattle.dicts.specs.Longer.{has-longer};
 ghost use Rattle.base.specs.Lists.{starts};
 use blocks::TableRead;
 use rowread::RowRead;
+
+// The index has the offset of every so manieth row, and so many entries.
+const INDEX_STEP: usize = 16;
+
+pub const INDEX_ENTRIES: usize = 512;
+
+// Bytes of a target, at most.
+const MOST_TARGET: usize = rowread::MOST_TARGET as usize;
 
 // How a source stands to what is looked for.
 pub enum Order {
@@ -75,7 +83,7 @@ fn plain_row(rules: &[u8], row: usize, low: u32) -> u32
         return 0;
     }
     let n = base::at(rules, row, 10) as usize;
-    if 64 < n {
+    if MOST_TARGET < n {
         return 0;
     }
     if rulerow::size(rules, row) != 12 + n {
@@ -161,13 +169,13 @@ fn row_right(rules: &[u8], row: usize, old: usize, first: bool) -> bool
     }
 }
 
-// The first fault of a rule table. No more than 8192 rows, and sources rise.
+// The first fault of a rule table. No more than `MOST_ROWS` rows, and sources rise.
 pub fn check_rules(rules: &[u8]) -> TableRead
     ensures { λ r. ⌜ fault-place r ≡ rule-fault (now (rules .entry)) ⌝ }
 {
     if blocks::headed(rules) {
         let mut at: usize = 5;
-        let mut left: u32 = 8192;
+        let mut left: u32 = blocks::MOST_ROWS;
         let mut old: usize = 5;
         let mut first = true;
         while at < rules.len() {
@@ -192,7 +200,7 @@ pub fn check_rules(rules: &[u8]) -> TableRead
 }
 
 // How the source of a row stands to a text, character by character.
-fn compare_each(rules: &[u8], row: usize, w: &[u32]) -> Order
+pub fn compare_source(rules: &[u8], row: usize, w: &[u32]) -> Order
     ensures { λ r. ⌜ r ≡ compared (rule-source (drop row (now (rules .entry)))) (now (w .entry)) ⌝ }
 {
     let mut left = base::at(rules, row, 5);
@@ -220,37 +228,16 @@ fn compare_each(rules: &[u8], row: usize, w: &[u32]) -> Order
     Order::Equal
 }
 
-// The same. Most rows differ in the first character, which lies behind the count of them: one number has both, and where
-// there is a first character on each side and they differ, nothing more is read.
-pub fn compare_source(rules: &[u8], row: usize, w: &[u32]) -> Order
-    ensures { λ r. ⌜ r ≡ compared (rule-source (drop row (now (rules .entry)))) (now (w .entry)) ⌝ }
-{
-    let key = base::four(rules, row, 5);
-    if 0xFFFFFF < key {
-        if 0 < w.len() {
-            let first = (key % 0x1000000) as u32;
-            let sought = w[0];
-            if first < sought {
-                return Order::Below;
-            }
-            if sought < first {
-                return Order::Above;
-            }
-        }
-    }
-    compare_each(rules, row, w)
-}
-
-// The offset of row `n`, put into the index if it is a 16th one and there is room.
+// The offset of row `n`, put into the index if it is one of those and there is room.
 fn put_offset(index: &mut [u32], n: usize, at: usize)
     requires { ⌜ at < 0x100000000 ⌝ }
     ensures { λ r. ⌜ now (index .exit) ≡ entered n at (now (index .entry)) ⌝ }
 {
-    let k = n / 16;
+    let k = n / INDEX_STEP;
     if index.len() <= k {
         return;
     }
-    if n % 16 == 0 {
+    if n % INDEX_STEP == 0 {
         index[k] = at as u32;
     }
 }
@@ -263,7 +250,7 @@ pub fn fill_index(rules: &[u8], index: &mut [u32])
     let mut at: usize = 5;
     let mut n: usize = 0;
     while at < rules.len() {
-        if index.len() <= n / 16 {
+        if index.len() <= n / INDEX_STEP {
             return;
         }
         put_offset(index, n, at);
@@ -272,7 +259,7 @@ pub fn fill_index(rules: &[u8], index: &mut [u32])
     }
 }
 
-// Is the row's source below a text, or equal to it?
+// Is the row's source below a text?
 fn is_below(rules: &[u8], row: usize, w: &[u32]) -> bool
     ensures { λ r. ⌜ r ≡ is-below (order-at (now (rules .entry)) (now (w .entry)) row) ⌝ }
 {
@@ -283,6 +270,7 @@ fn is_below(rules: &[u8], row: usize, w: &[u32]) -> bool
     }
 }
 
+// Is it equal to a text?
 fn is_equal(rules: &[u8], row: usize, w: &[u32]) -> bool
     ensures { λ r. ⌜ r ≡ is-equal (order-at (now (rules .entry)) (now (w .entry)) row) ⌝ }
 {
@@ -293,7 +281,24 @@ fn is_equal(rules: &[u8], row: usize, w: &[u32]) -> bool
     }
 }
 
-// Is there an entry, and is its row below a text? Past the table's last row the index is 0.
+// One more than the first character of a row's source; 0 where it has none. The count of characters lies before it: one
+// number has both.
+fn first_of(rules: &[u8], row: usize) -> u32
+    ensures { λ r. ⌜ First (drop row (now (rules .entry))) r ⌝ }
+{
+    if row < rules.len() {
+        if 8 < rules.len() - row {
+            let key = base::four_there(rules, row, 5);
+            if 0xFFFFFF < key {
+                return key % 0x1000000 + 1;
+            }
+        }
+    }
+    0
+}
+
+// Is there an entry, and is its row below a text? Past the table's last row the index is 0. Most rows differ from a text in
+// the first character, which settles it.
 fn is_entry_below(rules: &[u8], index: &[u32], k: usize, w: &[u32]) -> bool
     requires { ⌜ k < length (now index) ⌝ }
     ensures { λ r. ⌜ r ≡ entry-below (now (rules .entry)) (now (w .entry)) (getD (now (index .entry)) k 0) ⌝ }
@@ -301,6 +306,18 @@ fn is_entry_below(rules: &[u8], index: &[u32], k: usize, w: &[u32]) -> bool
     let at = index[k];
     if at == 0 {
         return false;
+    }
+    if 0 < w.len() {
+        let first = first_of(rules, at as usize);
+        if 0 < first {
+            let sought = w[0];
+            if first <= sought {
+                return true;
+            }
+            if sought < first - 1 {
+                return false;
+            }
+        }
     }
     is_below(rules, at as usize, w)
 }
@@ -327,12 +344,35 @@ fn walk_start(rules: &[u8], index: &[u32], w: &[u32]) -> usize
     index[low - 1] as usize
 }
 
+// Past the rows from a place on whose first character is lower than the text's.
+fn past_lower(rules: &[u8], from: usize, w: &[u32]) -> usize
+    ensures { λ r. ⌜ seek (now (rules .entry)) (now (w .entry)) (offsets-from (now (rules .entry)) r)
+        ≡ seek (now (rules .entry)) (now (w .entry)) (offsets-from (now (rules .entry)) from) ⌝ }
+{
+    let mut at = from;
+    if 0 < w.len() {
+        let sought = w[0];
+        while at < rules.len() {
+            let first = first_of(rules, at);
+            if first == 0 {
+                return at;
+            }
+            if sought < first {
+                return at;
+            }
+            at += rulerow::size(rules, at);
+        }
+    }
+    at
+}
+
 // The first row that is not below a text, or the end of the table.
 fn seek(rules: &[u8], index: &[u32], w: &[u32]) -> usize
     requires { ⌜ Ready (now rules) (now index) ⌝ }
     ensures { λ r. ⌜ r ≡ first-at (now (rules .entry)) (now (w .entry)) ⌝ }
 {
-    let mut at = walk_start(rules, index, w);
+    let start = walk_start(rules, index, w);
+    let mut at = past_lower(rules, start, w);
     while at < rules.len() {
         if is_below(rules, at, w) {
             at += rulerow::size(rules, at);

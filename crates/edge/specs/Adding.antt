@@ -21,7 +21,7 @@ use Rattle.room.specs.Puts.{put-at, put-before, put-from, put-there, put-length
 use Rattle.edge.specs.declared.Numbers.{Numbers}
 use Rattle.edge.specs.declared.Added.{Added}
 use Rattle.edge.specs.declared.Added.the-variants.{Fits, NoSlot, NoRoom}
-use Rattle.edge.specs.Slots.{offset-of, length-of, bytes-of, edge-by, numbers-of, edge-of, edges-of, slot-of}
+use Rattle.edge.specs.Slots.{two-bytes, four-bytes, offset-of, length-of, bytes-of, edge-by, numbers-of, edge-of, edges-of, slot-of}
 use Rattle.edge.specs.Counted.{counted-snoc, counted-agree, all-snoc, all-agree}
 use Rattle.edge.specs.Stored.{Slot, Stored, edge-agree, slot-agree}
 
@@ -93,10 +93,10 @@ module _ (slots room : List ℕ) (count used : ℕ) (e : Numbers) (text : List �
 
 -- What can be written: numbers that their bytes hold, and a text in UTF-8
 pub record Writable (used : ℕ) (e : Numbers) (text : List ℕ) : Type 0 where
-  pub from : e .from < 65536
-  pub to : e .to < 65536
-  pub offset : used < 4294967296
-  pub long : length text < 65536
+  pub from : e .from < two-bytes
+  pub to : e .to < two-bytes
+  pub offset : used < four-bytes
+  pub long : length text < two-bytes
   pub utf8 : TextBytes text
 
 pub written-bytes : (used : ℕ) (e : Numbers) (text : List ℕ) → Writable used e text → bytes (edge-by e text) ≡ length text

@@ -10,7 +10,20 @@ use Rattle.definition.specs.Utf8.{decoded}
 use Rattle.definition.specs.Edges.{Edge}
 use Rattle.edge.specs.declared.Numbers.{Numbers}
 
+-- numbers of two bytes, and of four, are below these
+abbrev pub two-bytes : ℕ
+two-bytes = 65536
+
+abbrev pub four-bytes : ℕ
+four-bytes = 4294967296
+
 -- `s` are the bytes from a slot on
+abbrev pub from-of : List ℕ → ℕ
+from-of s = be2 s 0
+
+abbrev pub to-of : List ℕ → ℕ
+to-of s = be2 s 2
+
 abbrev pub offset-of : List ℕ → ℕ
 offset-of s = be4 s 4
 
@@ -25,7 +38,7 @@ unfoldable pub edge-by : Numbers → List ℕ → Edge
 edge-by e w = record { from = e .from; to = e .to; note = e .note; core = e .core; text = decoded w }
 
 unfoldable pub numbers-of : List ℕ → Numbers
-numbers-of s = record { from = be2 s 0; to = be2 s 2; note = getD s 10 0; core = getD s 11 0 }
+numbers-of s = record { from = from-of s; to = to-of s; note = getD s 10 0; core = getD s 11 0 }
 
 abbrev pub edge-of : List ℕ → List ℕ → Edge
 edge-of room s = edge-by (numbers-of s) (bytes-of room s)

@@ -8,7 +8,7 @@ ghost use Rattle.definition.specs.Limits.{slot-bytes};
 ghost use Rattle.definition.specs.Edges.{alike};
 ghost use Rattle.utf8.specs.Encodings.{TextBytes};
 ghost use Rattle.room.specs.Puts.{put-at};
-ghost use Rattle.edge.specs.Slots.{length-of, bytes-of, edge-by, numbers-of, edge-of, edges-of, slot-of};
+ghost use Rattle.edge.specs.Slots.{two-bytes, length-of, bytes-of, edge-by, numbers-of, edge-of, edges-of, slot-of};
 ghost use Rattle.edge.specs.Stored.{Slot, Stored};
 ghost use Rattle.edge.specs.Adding.{there, added, slots-after, room-after, Writable};
 ghost use Rattle.edge.specs.Asked.{Readable};
@@ -45,6 +45,22 @@ pub const ALT3: u8 = 14;
 // Nothing yet.
 pub const UNTOUCHED: u8 = 0;
 
+// A slot's bytes, and where in it an edge's start, end, offset of the text, length of the text, annotation and core
+// length stand (specs Slots).
+pub const SLOT_BYTES: usize = 12;
+
+pub const FROM: usize = 0;
+
+pub const TO: usize = 2;
+
+const OFFSET: usize = 4;
+
+const LEN: usize = 8;
+
+const NOTE: usize = 10;
+
+const CORE_LEN: usize = 11;
+
 // An edge without its text: start, end, annotation and core length.
 pub struct Numbers {
     pub from: usize,
@@ -80,18 +96,18 @@ pub fn numbers_at(slots: &[u8], slot: usize) -> Numbers
     ensures { λ r. ⌜ r ≡ numbers-of (drop slot (now (slots .entry))) ⌝ }
 {
     Numbers {
-        from: base::two(slots, slot, 0) as usize,
-        to: base::two(slots, slot, 2) as usize,
-        note: base::at(slots, slot, 10) as u8,
-        core: base::at(slots, slot, 11) as u8,
+        from: base::two(slots, slot, FROM) as usize,
+        to: base::two(slots, slot, TO) as usize,
+        note: base::at(slots, slot, NOTE) as u8,
+        core: base::at(slots, slot, CORE_LEN) as u8,
     }
 }
 
 // How many bytes its text has.
 pub fn text_len(slots: &[u8], slot: usize) -> usize
-    ensures { λ r. ⌜ (r ≡ length-of (drop slot (now (slots .entry)))) × (r < 65536) ⌝ }
+    ensures { λ r. ⌜ (r ≡ length-of (drop slot (now (slots .entry)))) × (r < two-bytes) ⌝ }
 {
-    base::two(slots, slot, 8) as usize
+    base::two(slots, slot, LEN) as usize
 }
 
 // Its text, as it stands in the text room.
@@ -99,7 +115,7 @@ pub fn edge_text<'a>(slots: &[u8], room: &'a [u8], slot: usize) -> &'a [u8]
     requires { ⌜ Slot (now room) (length (now room)) (drop slot (now slots)) ⌝ }
     ensures { λ r. ⌜ now r ≡ bytes-of (now (room .entry)) (drop slot (now (slots .entry))) ⌝ }
 {
-    let offset = base::four(slots, slot, 4) as usize;
+    let offset = base::four(slots, slot, OFFSET) as usize;
     room::part(room, offset, text_len(slots, slot))
 }
 
@@ -131,13 +147,13 @@ pub fn is_there(slots: &[u8], room: &[u8], filled: Filled, e: Numbers, text: &[u
     let count = filled.count;
     let since = filled.since;
     let mut left = count - since;
-    let mut slot = since * 12;
+    let mut slot = since * SLOT_BYTES;
     while 0 < left {
         if is_alike(slots, room, slot, e, text) {
             return true;
         }
         left -= 1;
-        slot += 12;
+        slot += SLOT_BYTES;
     }
     false
 }
@@ -180,8 +196,8 @@ pub fn add_edge(slots: &mut [u8], room: &mut [u8], filled: Filled, e: Numbers, t
     if is_there(slots, room, filled, e, text) {
         return Added::Fits { count, used };
     }
-    let at = count * 12;
-    if slots.len() - at < 12 {
+    let at = count * SLOT_BYTES;
+    if slots.len() - at < SLOT_BYTES {
         return Added::NoSlot(e.from);
     }
     let len = text.len();

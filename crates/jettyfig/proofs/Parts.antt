@@ -1,7 +1,7 @@
 -- Parts of one list lent one after the other and come back: what is made ready of the tables, and a line.
 use Prim.Native.Nat.{ℕ, _+_, _-_, _*_, _/_, _≤_}
 use mathlib.Core.List.{List, _++_}
-use mathlib.Core.Path.{_≡_, ap, _∙_}
+use mathlib.Core.Path.{_≡_, sym, ap, _∙_, subst}
 use native.Mathlib.Omega.{arith}
 use lib.ListN.{length, take, drop, replicate, length-append, length-drop, length-replicate}
 use lib.Seq.{take-at, drop-at, take-take, length-take-le}
@@ -12,33 +12,31 @@ use Rattle.definition.specs.Texts.{Text}
 use Rattle.utf8.specs.Lines.{spaced}
 use Rattle.classes.specs.Told.{kinds-of, alphas-of}
 use Rattle.classes.specs.Packing.{alphas-length, kinds-length}
-use Rattle.dicts.specs.Index.{index-entries, row-offsets, indexed, index-of}
+use Rattle.memo.specs.Kept.{all-places, Kept}
+use Rattle.words.specs.Given.{letters-in, index-in}
 use Rattle.jettyfig.specs.Steps.{with-kinds}
 
--- The letters have come back to a list of zeros, and the rest of it is lent for the index
-module _ (classes old letters : List ℕ) (z : old ≡ replicate (128 + index-entries) 0) (a : letters ≡ alphas-of classes) where
+-- The letters have come back to a list of zeros, and the rest of it is lent for the index and what is kept behind it
+module _ (classes old letters : List ℕ) (z : old ≡ replicate (128 + all-places) 0) (a : letters ≡ alphas-of classes) where
   abbrev came : List ℕ
   came = letters ++ drop 128 old
 
   lettered : length letters ≡ 128
   lettered = ap length a ∙ alphas-length classes
 
-  pub as-long : length came ≡ 128 + index-entries
-  as-long = omega (arith, lettered, length-append letters (drop 128 old), length-drop 128 old, ap length z, length-replicate {A = ℕ} (128 + index-entries) 0)
+  pub as-long : length came ≡ 128 + all-places
+  as-long = omega (arith, lettered, length-append letters (drop 128 old), length-drop 128 old, ap length z, length-replicate {A = ℕ} (128 + all-places) 0)
 
-  rest : midOf 128 (length came - 128) came ≡ replicate index-entries 0
-  rest = lent-end came 128 ∙ drop-at letters (drop 128 old) 128 lettered ∙ ap (drop 128) z
+  pub zeros-left : midOf 128 (length came - 128) came ≡ replicate all-places 0
+  zeros-left = lent-end came 128 ∙ drop-at letters (drop 128 old) 128 lettered ∙ ap (drop 128) z
 
-  pub room-for-index : length (midOf 128 (length came - 128) came) ≤ index-entries
-  room-for-index = omega (arith, ap length rest, length-replicate {A = ℕ} index-entries 0)
-
-  pub made-ready : (rules index : List ℕ) → index ≡ indexed 0 (row-offsets rules) (midOf 128 (length came - 128) came)
-      → putMid 128 (length came - 128) came index ≡ alphas-of classes ++ index-of rules
-  unfolding index-of
+  pub made-ready : (rules index : List ℕ) → Kept rules index
+      → (letters-in (putMid 128 (length came - 128) came index) ≡ alphas-of classes) × Kept rules (index-in (putMid 128 (length came - 128) came index))
   made-ready rules index x =
-      back-end came 128 index
-      ∙ ap (λ (l : List ℕ). l ++ index) (take-at letters (drop 128 old) 128 lettered ∙ a)
-      ∙ ap (_++_ (alphas-of classes)) (x ∙ ap (indexed 0 (row-offsets rules)) rest)
+      let e = back-end came 128 index ∙ ap (λ (l : List ℕ). l ++ index) (take-at letters (drop 128 old) 128 lettered) in (
+        ap (take 128) e ∙ take-at letters index 128 lettered ∙ a,
+        subst (Kept rules) (sym (ap (drop 128) e ∙ drop-at letters index 128 lettered)) x,
+      )
 
 -- A line begins with a text between spaces, and as much again is lent with it for the classes
 module _ (line : List ℕ) (t : Text) (n : ℕ) (full : length line ≡ 2 * (most-characters + 3)) (few : n ≤ most-characters)

@@ -1,22 +1,19 @@
 -- What `romanize` is lent, made ready from an accepted call: there is a world that the line and the tables stand for.
-use mathlib.Core.List.{List, [], _++_}
+use mathlib.Core.List.{List, []}
 use mathlib.Core.Option.{none}
-use mathlib.Core.Path.{_≡_, sym, ap, _∙_, subst}
+use mathlib.Core.Path.{_≡_, sym, subst}
 use Prim.Native.Nat.{ℕ, _≤_}
 use native.Mathlib.Omega.{arith}
-use lib.ListN.{length, take, drop, length-append}
-use lib.Seq.{take-at, drop-at}
+use lib.ListN.{length, length-drop}
 use Rattle.definition.specs.Limits.{most-characters}
 use Rattle.definition.specs.Utf8.{decoded}
 use Rattle.definition.specs.Call.{Inputs, characters, refusal}
 use Rattle.definition.specs.Accepted.{Accepted, accepted-of}
 use Rattle.definition.specs.Parts.{scalars}
 use Rattle.definition.specs.Rewritten.{encoded-decoded}
-use Rattle.classes.specs.Told.{alphas-of}
-use Rattle.classes.specs.Packing.{alphas-length}
-use Rattle.dicts.specs.Index.{index-of}
-use Rattle.words.specs.Given.{World, Prepared, Told, Lined}
-use Rattle.lattice.specs.Fallback.{Own, chars-in, chars-are}
+use Rattle.memo.specs.Kept.{Kept}
+use Rattle.words.specs.Given.{World, index-in, Prepared, Lined}
+use Rattle.second_pass.specs.Fallback.{Own, chars-in, chars-are}
 use Rattle.jettyfig.specs.Steps.{with-kinds}
 
 module _ (i : Inputs) (e : refusal i ≡ none) where
@@ -42,21 +39,5 @@ module _ (i : Inputs) (e : refusal i ≡ none) where
     own = subst (Own (i .text)) (sym (chars-are world-lined))
         (record { bytes = sym (encoded-decoded (i .text) (passed .text)); scalars = scalars i })
 
-  module _ (ready : List ℕ) (r : ready ≡ alphas-of (i .classes) ++ index-of (i .rules)) where
-    abbrev letters : List ℕ
-    letters = alphas-of (i .classes)
-
-    abbrev index : List ℕ
-    index = index-of (i .rules)
-
-    pub world-told : Told world ready
-    world-told = ap (take 128) r ∙ take-at letters index 128 (alphas-length (i .classes))
-
-    pub prepared : Prepared (i .rules) ready
-    prepared = record {
-      table = record {
-        accepted = passed .rules;
-        is = ap (drop 128) r ∙ drop-at letters index 128 (alphas-length (i .classes));
-      };
-      long = omega (arith, ap length r, length-append letters index, alphas-length (i .classes));
-    }
+  pub prepared : (ready : List ℕ) → Kept (i .rules) (index-in ready) → Prepared (i .rules) ready
+  prepared ready k = record { table = k; long = omega (arith, k .long, length-drop 128 ready) }

@@ -24,7 +24,7 @@ use Rattle.edge.specs.Stored.{none-stored}
 use Rattle.places.specs.Shows.{memory}
 use Rattle.standing.specs.Stands.{Stands}
 use Rattle.words.specs.Given.{World, kinds, size, size-in, Prepared, Told, Lined, Lent, line-size, lent-none}
-use Rattle.lattice.specs.Reached.{nothing, Over, with-edges, Reached}
+use Rattle.passes.specs.Reached.{nothing, Over, with-edges, Reached}
 use Rattle.output.specs.Whole.{Whole}
 use Rattle.jettyfig.specs.Verdicts.{given}
 use Rattle.jettyfig.specs.Calls.{built-all, reached-fits, reached-count, reached-sound}

@@ -24,7 +24,7 @@ use Rattle.edge.specs.declared.Added.the-variants.{Fits}
 use Rattle.edge.specs.Slots.{edges-of}
 use Rattle.edge.specs.Stored.{edge-count}
 use Rattle.edge.specs.Fitting.{stored-fits}
-use Rattle.lattice.specs.Reached.{Reached}
+use Rattle.passes.specs.Reached.{Reached}
 use Rattle.output.specs.Shows.{Shows}
 use Rattle.jettyfig.specs.declared.Answer.{Answer}
 use Rattle.jettyfig.specs.Verdicts.{returned, before-text, all-refusals}

@@ -13,7 +13,7 @@ use Rattle.base.specs.Lists.{or-else}
 use Rattle.definition.specs.Limits.{slot-bytes}
 use Rattle.definition.specs.Texts.{Text}
 use Rattle.definition.specs.Tables.{Tables}
-use Rattle.definition.specs.Edges.{Edge, State}
+use Rattle.definition.specs.Edges.{Edge}
 use Rattle.definition.specs.Building.{lattice}
 use Rattle.definition.specs.Listing.{shown}
 use Rattle.definition.specs.Capacity.{Refusal, refuse, bytes, misfit}

@@ -4,7 +4,9 @@ use mathlib.Core.List.{List, _++_}
 use mathlib.Core.Path.{_≡_}
 use Rattle.definition.specs.Texts.{Text}
 use Rattle.definition.specs.Listing.{shown}
-use Rattle.definition.specs.Call.{Inputs, Called, tables-of, written, accepted}
+use Rattle.definition.specs.Utf8.{decoded}
+use Rattle.definition.specs.Call.{Inputs, Called, tables-of, written, accepted, unless-refused}
+use Rattle.utf8.specs.Read.{text-refusal}
 use Rattle.utf8.specs.Lines.{spaced}
 use Rattle.classes.specs.Told.{kinds-of}
 use Rattle.edge.specs.Slots.{edges-of}
@@ -34,3 +36,12 @@ abbrev pub Romanizes : ℕ → List ℕ → List ℕ → List ℕ → List ℕ �
 Romanizes mode rules ready vowels code text line slots room out r =
     (w : World) → Told w ready → Lined w line
     → r ≡ accepted (given mode rules (w .classes) vowels code text slots room out) (tables-of rules (w .classes) vowels code) (w .text)
+
+-- the same in terms of the call, whose tables and text are right; and of one whose text may be refused
+abbrev pub Prepares : ℕ → List ℕ → List ℕ → List ℕ → List ℕ → List ℕ → ℕ → ℕ → ℕ → Called → Type 0
+Prepares mode rules classes vowels code text slots room out r =
+    r ≡ accepted (given mode rules classes vowels code text slots room out) (tables-of rules classes vowels code) (decoded text)
+
+abbrev pub Reads : ℕ → List ℕ → List ℕ → List ℕ → List ℕ → List ℕ → ℕ → ℕ → ℕ → Called → Type 0
+Reads mode rules classes vowels code text slots room out r =
+    r ≡ unless-refused (given mode rules classes vowels code text slots room out) (text-refusal text)

@@ -1,6 +1,5 @@
 // The call: a text romanized by three lent tables and a language code, in lent slots and text room, into a lent output; or
 // one numbered refusal. Nothing is assumed of what is lent.
-ghost use mathlib.Core.List.{_++_};
 ghost use mathlib.Core.Option.{none};
 ghost use mathlib.Core.Path.{_≡_};
 ghost use Prim.Native.Nat.{ℕ, _+_, _*_, _≤_};
@@ -8,30 +7,32 @@ ghost use lib.ListN.{length, take, replicate};
 ghost use Rattle.definition.specs.Limits.{most-characters};
 ghost use Rattle.definition.specs.Utf8.{decoded};
 ghost use Rattle.definition.specs.ClassRows.{class-fault};
-ghost use Rattle.definition.specs.Call.{Inputs, tables-of, refusal, accepted, unless-refused, called};
+ghost use Rattle.definition.specs.RuleRows.{rule-fault};
+ghost use Rattle.definition.specs.Call.{Inputs, refusal, called};
 ghost use Rattle.utf8.specs.Read.{refused as refused-text, text-refusal};
 ghost use Rattle.classes.specs.Told.{alphas-of};
 ghost use Rattle.vowelrows.specs.Told.{FineVowels};
-ghost use Rattle.dicts.specs.Index.{index-entries, index-of};
-ghost use Rattle.words.specs.Given.{Prepared};
-ghost use Rattle.lattice.specs.Fallback.{Own, chars-in};
+ghost use Rattle.memo.specs.Kept.{all-places, Kept};
+ghost use Rattle.words.specs.Given.{letters-in, index-in, Prepared};
+ghost use Rattle.second_pass.specs.Fallback.{Own, chars-in};
 ghost use Rattle.output.specs.Whole.{Whole};
 ghost use Rattle.jettyfig.specs.Verdicts.{refusal-of, given, returned, by-code, by-vowels, by-classes, by-tables, before-text};
-ghost use Rattle.jettyfig.specs.Steps.{with-kinds, Readied, Writes, Romanizes};
+ghost use Rattle.jettyfig.specs.Steps.{with-kinds, Readied, Writes, Romanizes, Prepares, Reads};
 use blocks::TableRead;
 use edge::Added;
 use output::Built;
 use utf8::TextRead;
 
-// What is prepared for a text of the most characters: the text between spaces and the classes of its characters; an
-// entry for each position, its end too; and of the tables 128 ASCII letters and the index, of every 16th rule.
-const MOST_CHARACTERS: usize = 512;
+// What is prepared for a text of the most characters: the text between spaces and the classes of its characters; and an
+// entry for each position, its end too.
+const LINE: usize = 2 * utf8::MOST_LINE;
 
-const LINE: usize = 2 * (MOST_CHARACTERS + 3);
+const MOST_PLACES: usize = utf8::MOST_CHARACTERS + 1;
 
-const MOST_PLACES: usize = MOST_CHARACTERS + 1;
+// What is prepared of the tables: the ASCII letters, and what a look-up goes by.
+const ASCII: usize = 128;
 
-const READY: usize = 128 + 512;
+const READY: usize = ASCII + memo::PLACES;
 
 // What a call returns: 0, the output's length and the number of edges; or a refusal's number and its place.
 #[repr(C)]
@@ -214,13 +215,15 @@ fn romanize<'a>(
     }
 }
 
-// What the engine asks of the tables besides their rows: the ASCII letters, then the index of the rule table.
-fn make_ready(rules: &[u8], classes: &[u8], ready: &mut [u32])
-    requires { ⌜ (class-fault (now classes) ≡ none) × (now ready ≡ replicate (128 + index-entries) 0) ⌝ }
-    ensures { λ _. ⌜ now (ready .exit) ≡ alphas-of (now (classes .entry)) ++ index-of (now (rules .entry)) ⌝ }
+// What the engine asks of the tables besides their rows: the ASCII letters, then the index of the rule table with what it
+// has of the line's characters.
+fn make_ready(rules: &[u8], classes: &[u8], line: &[u32], ready: &mut [u32])
+    requires { ⌜ (rule-fault (now rules) ≡ none) × (class-fault (now classes) ≡ none) × (now ready ≡ replicate (128 + all-places) 0) ⌝ }
+    ensures { λ _. ⌜ (letters-in (now (ready .exit)) ≡ alphas-of (now (classes .entry))) × Kept (now (rules .entry)) (index-in (now (ready .exit))) ⌝ }
 {
-    classes::classify_ascii(classes, &mut ready[..128]);
-    dicts::fill_index(rules, &mut ready[128..]);
+    classes::classify_ascii(classes, &mut ready[..ASCII]);
+    let half = line.len() / 2;
+    memo::fill(rules, &line[..half], &mut ready[ASCII..]);
 }
 
 // The same, with what the engine is lent made ready.
@@ -238,12 +241,11 @@ fn prepare<'a>(
 ) -> Answer
     requires { ⌜ (refusal (given mode (now rules) (now classes) (now vowels) (now code) (now text) 0 0 0) ≡ none)
         × (now line ≡ with-kinds (now classes) (decoded (now text))) × (now out ≡ replicate (length (now out)) 0) ⌝ }
-    ensures { λ r. ⌜ returned r (now (out .exit)) ≡ accepted (given mode (now (rules .entry)) (now (classes .entry)) (now (vowels .entry)) (now (code .entry)) (now (text .entry))
-        (length (now (slots .entry))) (length (now (room .entry))) (length (now (out .entry))))
-        (tables-of (now (rules .entry)) (now (classes .entry)) (now (vowels .entry)) (now (code .entry))) (decoded (now (text .entry))) ⌝ }
+    ensures { λ r. ⌜ Prepares mode (now (rules .entry)) (now (classes .entry)) (now (vowels .entry)) (now (code .entry)) (now (text .entry))
+        (length (now (slots .entry))) (length (now (room .entry))) (length (now (out .entry))) (returned r (now (out .exit))) ⌝ }
 {
     let mut ready = [0u32; READY];
-    make_ready(rules, classes, &mut ready);
+    make_ready(rules, classes, line, &mut ready);
     romanize(
         mode,
         rules,
@@ -290,8 +292,8 @@ fn read<'a>(
     out: &mut [u8],
 ) -> Answer
     requires { ⌜ (before-text mode (now rules) (now classes) (now vowels) (now code) ≡ none) × (now out ≡ replicate (length (now out)) 0) ⌝ }
-    ensures { λ r. ⌜ returned r (now (out .exit)) ≡ unless-refused (given mode (now (rules .entry)) (now (classes .entry)) (now (vowels .entry)) (now (code .entry)) (now (text .entry))
-        (length (now (slots .entry))) (length (now (room .entry))) (length (now (out .entry)))) (text-refusal (now (text .entry))) ⌝ }
+    ensures { λ r. ⌜ Reads mode (now (rules .entry)) (now (classes .entry)) (now (vowels .entry)) (now (code .entry)) (now (text .entry))
+        (length (now (slots .entry))) (length (now (room .entry))) (length (now (out .entry))) (returned r (now (out .exit))) ⌝ }
 {
     let mut line = [0u32; LINE];
     match lay_out(classes, text, &mut line) {
@@ -308,7 +310,7 @@ fn read<'a>(
             out,
         ),
         TextRead::NotUtf8(at) => refuse(6, at as u64),
-        TextRead::TooLong => refuse(7, MOST_CHARACTERS as u64),
+        TextRead::TooLong => refuse(7, utf8::MOST_CHARACTERS as u64),
         TextRead::LeftOut(p) => refuse(8, p as u64),
     }
 }

@@ -1,5 +1,1 @@
-pub mod Spans
-pub mod Rising
-pub mod Passes
-pub mod Falls
-pub mod Falling
+pub mod Whole

@@ -37,6 +37,10 @@ unfoldable pub put-items : Bool → List Edge → Written → Written
 put-items rows [] o = o
 put-items rows (x ∷ l) o = put-items rows l (put-bytes (item rows x) o)
 
+-- some edges were put, in so many bytes at most
+abbrev pub Puts : Bool → List Edge → ℕ → Written → Written → Type 0
+Puts rows l most o p = (p ≡ put-items rows l o) × (p .0 ≤ o .0 + most)
+
 -- A listing's rows, and the texts of a string
 pub items-rows : (l : List Edge) → items true l ≡ edge-rows l
 unfolding items item pick edge-rows

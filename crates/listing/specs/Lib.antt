@@ -1,3 +1,4 @@
+pub mod Sizes
 pub mod Rows
 pub mod Strings
 pub mod Items

@@ -1,7 +1,7 @@
 // The bytes of an output: a listing's header and its rows, or the texts of a string.
 ghost use mathlib.Core.Path.{_≡_};
-ghost use mathlib.Core.List.{_∷_, _++_};
-ghost use Prim.Native.Nat.{_+_, _<_, _≤_};
+ghost use mathlib.Core.List.{_∷_};
+ghost use Prim.Native.Nat.{_+_, _≤_};
 ghost use lib.ListN.{length, drop};
 ghost use Rattle.base.specs.Big.{four};
 ghost use Rattle.definition.specs.Utf8.{encoded};
@@ -11,8 +11,12 @@ ghost use Rattle.utf8.specs.Encodings.{TextBytes};
 ghost use Rattle.room.specs.Puts.{put-at};
 ghost use Rattle.edge.specs.Slots.{length-of, edge-by, edge-of};
 ghost use Rattle.edge.specs.Stored.{Slot};
+ghost use Rattle.listing.specs.Sizes.{head-bytes, row-most, Countable};
 ghost use Rattle.listing.specs.Rows.{row-head, row-of, row-size};
 ghost use Rattle.listing.specs.Items.{item, put-bytes};
+
+// Bytes of a row before its text.
+const HEAD_BYTES: usize = 8;
 
 // The header of a listing whose rows take `rows` bytes: version 1, and that number in four bytes.
 pub fn put_header(out: &mut [u8], rows: usize)
@@ -29,9 +33,9 @@ pub fn put_header(out: &mut [u8], rows: usize)
     room::put_at(out, 0, &header);
 }
 
-// A row's first eight bytes, before a text of `len` bytes.
+// A row's bytes before a text of `len` bytes.
 fn put_row_head(out: &mut [u8], at: usize, e: edge::Numbers, len: usize)
-    requires { ⌜ at + 8 + len ≤ length (now out) ⌝ }
+    requires { ⌜ at + head-bytes + len ≤ length (now out) ⌝ }
     ensures { λ _. ⌜ now (out .exit) ≡ put-at at (row-head e len) (now (out .entry)) ⌝ }
 {
     let rest = 6 + len;
@@ -48,26 +52,23 @@ fn put_row_head(out: &mut [u8], at: usize, e: edge::Numbers, len: usize)
     room::put_at(out, at, &head);
 }
 
-// A row whose text is `text` and, behind it, `more`: an alternative is a rule's text and an edge's vowel.
-pub fn put_row(out: &mut [u8], at: usize, e: edge::Numbers, text: &[u8], more: &[u8]) -> usize
-    requires { ⌜ at + 8 + length (now text) + length (now more) ≤ length (now out) ⌝ }
-    ensures end { λ r. ⌜ r ≡ at + 8 + length (now (text .entry)) + length (now (more .entry)) ⌝ }
-    ensures row { λ _. ⌜ now (out .exit) ≡ put-at at (edge-row (edge-by e (now (text .entry) ++ now (more .entry)))
-        (now (text .entry) ++ now (more .entry))) (now (out .entry)) ⌝ }
+// A row with the text `text`.
+fn put_row(out: &mut [u8], at: usize, e: edge::Numbers, text: &[u8]) -> usize
+    requires { ⌜ at + head-bytes + length (now text) ≤ length (now out) ⌝ }
+    ensures end { λ r. ⌜ r ≡ at + head-bytes + length (now (text .entry)) ⌝ }
+    ensures row { λ _. ⌜ now (out .exit) ≡ put-at at (edge-row (edge-by e (now (text .entry))) (now (text .entry))) (now (out .entry)) ⌝ }
 {
-    let start = at + 8;
-    let seam = start + text.len();
-    put_row_head(out, at, e, text.len() + more.len());
+    let start = at + HEAD_BYTES;
+    put_row_head(out, at, e, text.len());
     room::put_at(out, start, text);
-    room::put_at(out, seam, more);
-    seam + more.len()
+    start + text.len()
 }
 
 // How many bytes the row of the edge in a slot takes.
 pub fn edge_row_len(slots: &[u8], slot: usize) -> usize
-    ensures { λ r. ⌜ (r ≡ 8 + length-of (drop slot (now (slots .entry)))) × (r < 65544) ⌝ }
+    ensures { λ r. ⌜ (r ≡ head-bytes + length-of (drop slot (now (slots .entry)))) × (r ≤ row-most) ⌝ }
 {
-    8 + edge::text_len(slots, slot)
+    HEAD_BYTES + edge::text_len(slots, slot)
 }
 
 // The text of the edge in a slot.
@@ -95,11 +96,11 @@ pub fn put_edge_row(out: &mut [u8], at: usize, slots: &[u8], room: &[u8], slot: 
         edge::numbers_at(slots, slot),
         edge::text_len(slots, slot),
     );
-    put_edge_text(out, at + 8, slots, room, slot)
+    put_edge_text(out, at + HEAD_BYTES, slots, room, slot)
 }
 
 // The row of the edge in a slot, or in a string its text alone. Where it does not fit nothing is written, but it is
-// counted. A row has at most 65543 bytes: eight, and a text whose length has two bytes.
+// counted.
 pub fn put_item(
     out: &mut [u8],
     at: usize,
@@ -108,9 +109,9 @@ pub fn put_item(
     slot: usize,
     rows: bool,
 ) -> usize
-    requires { ⌜ Slot (now room) (length (now room)) (drop slot (now slots)) × (at < 9223372036854775808) ⌝ }
+    requires { ⌜ Slot (now room) (length (now room)) (drop slot (now slots)) × Countable at row-most ⌝ }
     ensures { λ r. ⌜ ((r, now (out .exit)) ≡ put-bytes (item rows (edge-of (now (room .entry)) (drop slot (now (slots .entry))))) (at, now (out .entry)))
-        × (r ≤ at + 65543) ⌝ }
+        × (r ≤ at + row-most) ⌝ }
 {
     if rows {
         let end = at + edge_row_len(slots, slot);
@@ -126,14 +127,14 @@ pub fn put_item(
     put_edge_text(out, at, slots, room, slot)
 }
 
-// A row whose text is `text` and, behind it, `more`, likewise.
-pub fn put_other(out: &mut [u8], at: usize, e: edge::Numbers, text: &[u8], more: &[u8]) -> usize
-    requires { ⌜ (at < 9223372036854775808) × (length (now text) < 65536) × (length (now more) < 65536) × TextBytes (now text ++ now more) ⌝ }
-    ensures { λ r. ⌜ (r, now (out .exit)) ≡ put-bytes (row-of (edge-by e (now (text .entry) ++ now (more .entry)))) (at, now (out .entry)) ⌝ }
+// A row with the text `text`, likewise.
+pub fn put_other(out: &mut [u8], at: usize, e: edge::Numbers, text: &[u8]) -> usize
+    requires { ⌜ Countable at (head-bytes + length (now text)) × TextBytes (now text) ⌝ }
+    ensures { λ r. ⌜ (r, now (out .exit)) ≡ put-bytes (row-of (edge-by e (now (text .entry)))) (at, now (out .entry)) ⌝ }
 {
-    let end = at + 8 + text.len() + more.len();
+    let end = at + HEAD_BYTES + text.len();
     if out.len() < end {
         return end;
     }
-    put_row(out, at, e, text, more)
+    put_row(out, at, e, text)
 }

@@ -3,6 +3,7 @@ use Prim.Native.Nat.{ℕ, _+_, _*_, _≤_}
 use mathlib.Core.Bool.{true}
 use mathlib.Core.List.{List}
 use mathlib.Core.Path.{_≡_}
+use native.Mathlib.Omega.{arith}
 use lib.ListN.{length}
 use Rattle.base.specs.Alls.{All}
 use Rattle.definition.specs.Limits.{most-characters, most-edges}
@@ -14,8 +15,10 @@ use Rattle.definition.specs.Listing.{shown}
 use Rattle.definition.specs.Call.{tables-of}
 use Rattle.edge.specs.Slots.{edges-of}
 use Rattle.edge.specs.Stored.{Stored}
+use Rattle.edge.specs.Asked.{stored-readable}
 use Rattle.places.specs.Shows.{memory}
 use Rattle.standing.specs.Stands.{Stands}
+use Rattle.paths.specs.Laid.{Laid}
 use Rattle.words.specs.Given.{World, size, size-in, Prepared, Told, Lent}
 use Rattle.listing.specs.Items.{put-items}
 use Rattle.output.specs.Shows.{Shows, listed}
@@ -36,6 +39,17 @@ pub record Whole (rules ready line slots room places starts : List ℕ) (built :
   pub told : Told world ready
   pub lent : Lent world line places
   pub edges : edges-of room (built .count) slots ≡ world .edges
+
+-- a path goes over them
+pub whole-laid : {rules ready line slots room places starts : List ℕ} {built : Built} → Whole rules ready line slots room places starts built
+    → Laid slots room starts (built .count)
+whole-laid {rules} {ready} {line} {slots} {room} {places} {starts} {built} h =
+    let n = h .short in
+    let long = h .sized in record {
+      read = stored-readable slots room (built .count) (built .used) (h .stored);
+      stands = h .stands;
+      short = omega (arith, n, long);
+    }
 
 -- of every world that is lent with these edges
 abbrev Of : List ℕ → List ℕ → List ℕ → List ℕ → List ℕ → List ℕ → List ℕ → Built → (Tables → Text → State → Type 0) → Type 0

@@ -1,3 +1,4 @@
+pub mod Laid
 pub mod Steps
 pub mod Orders
 pub mod Ahead

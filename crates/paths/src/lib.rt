@@ -7,18 +7,19 @@ ghost use Prim.Native.Nat.{ℕ, _+_, _-_, _*_, _≤_, _<_};
 ghost use lib.ListN.{length, drop};
 ghost use Rattle.definition.specs.Limits.{most-characters, most-edges, slot-bytes};
 ghost use Rattle.definition.specs.Paths.{next, path-from, longer, sorted};
-ghost use Rattle.edge.specs.Slots.{edge-of, edges-of};
+ghost use Rattle.edge.specs.Slots.{two-bytes, edge-of, edges-of};
 ghost use Rattle.edge.specs.Stored.{Slot};
 ghost use Rattle.edge.specs.Asked.{Readable};
 ghost use Rattle.edge.specs.Best.{edge-at, Found};
-ghost use Rattle.listing.specs.Items.{put-items};
+ghost use Rattle.listing.specs.Sizes.{row-most, rows-most, ends-most, start-most, path-most, starts-most, countable, Countable};
+ghost use Rattle.listing.specs.Items.{put-items, Puts};
 ghost use Rattle.standing.specs.Starts.{end-of};
-ghost use Rattle.standing.specs.Stands.{Stands};
+ghost use Rattle.paths.specs.Laid.{Laid};
 ghost use Rattle.paths.specs.Steps.{best-list};
 ghost use Rattle.paths.specs.Orders.{farther, last-end, over};
 use edge::BestEdge;
 
-// The edge that was answered, if any. A row has at most 65543 bytes: eight, and a text whose length has two bytes.
+// The edge that was answered, if any.
 fn put_best(
     out: &mut [u8],
     at: usize,
@@ -28,9 +29,8 @@ fn put_best(
     best: BestEdge,
     rows: bool,
 ) -> usize
-    requires { ⌜ Readable (now slots) (now room) count × Found count best × (at < 9223372036854775808) ⌝ }
-    ensures { λ r. ⌜ ((r, now (out .exit)) ≡ put-items rows (best-list (now (room .entry)) (now (slots .entry)) best) (at, now (out .entry)))
-        × (r ≤ at + 65543) ⌝ }
+    requires { ⌜ Readable (now slots) (now room) count × Found count best × Countable at row-most ⌝ }
+    ensures { λ r. ⌜ Puts rows (best-list (now (room .entry)) (now (slots .entry)) best) row-most (at, now (out .entry)) (r, now (out .exit)) ⌝ }
 {
     match best {
         BestEdge::At(slot) => listing::put_item(out, at, slots, room, slot, rows),
@@ -40,11 +40,11 @@ fn put_best(
 
 // Where the path goes on: at its end, a number of two bytes, or one character on where there is none.
 pub fn next_from(slots: &[u8], best: BestEdge, p: usize) -> usize
-    requires { ⌜ p < 9223372036854775808 ⌝ }
-    ensures { λ r. ⌜ ((room : List ℕ) → r ≡ next (edge-at room (now (slots .entry)) best) p) × (r ≤ p + 65536) ⌝ }
+    requires { ⌜ p < countable ⌝ }
+    ensures { λ r. ⌜ ((room : List ℕ) → r ≡ next (edge-at room (now (slots .entry)) best) p) × (r ≤ p + two-bytes) ⌝ }
 {
     match best {
-        BestEdge::At(slot) => base::two(slots, slot, 2) as usize,
+        BestEdge::At(slot) => base::two(slots, slot, edge::TO) as usize,
         BestEdge::Nothing => p + 1,
     }
 }
@@ -59,17 +59,15 @@ pub fn put_path(
     count: usize,
     rows: bool,
 ) -> usize
-    requires { ⌜ Readable (now slots) (now room) count × Stands (now slots) (now starts) count
-        × (length (now starts) ≤ most-characters + 1) × (at < 4294967296) ⌝ }
-    ensures { λ r. ⌜ ((r, now (out .exit))
-        ≡ put-items rows (path-from (end-of (now (starts .entry))) 0 (edges-of (now (room .entry)) count (now (slots .entry)))) (at, now (out .entry)))
-        × (r ≤ at + end-of (now (starts .entry)) * 65543) ⌝ }
+    requires { ⌜ Laid (now slots) (now room) (now starts) count × Countable at path-most ⌝ }
+    ensures { λ r. ⌜ Puts rows (path-from (end-of (now (starts .entry))) 0 (edges-of (now (room .entry)) count (now (slots .entry))))
+        (end-of (now (starts .entry)) * row-most) (at, now (out .entry)) (r, now (out .exit)) ⌝ }
 {
     let n = starts.len() - 1;
     let mut end = at;
     let mut p: usize = 0;
     while p < n {
-        let best = standing::best_right_neighbor_edge(slots, starts, count, p);
+        let best = standing::best_right_neighbor_edge(slots, starts, p);
         end = put_best(out, end, slots, room, count, best, rows);
         p = next_from(slots, best, p);
     }
@@ -80,10 +78,10 @@ pub fn put_path(
 fn is_farther(slots: &[u8], slot: usize, p: usize, bound: usize, best: usize) -> bool
     ensures { λ r. ⌜ ((room : List ℕ) → r ≡ farther p bound best (edge-of room (drop slot (now (slots .entry))))) ⌝ }
 {
-    if base::two(slots, slot, 0) as usize != p {
+    if base::two(slots, slot, edge::FROM) as usize != p {
         return false;
     }
-    let end = base::two(slots, slot, 2) as usize;
+    let end = base::two(slots, slot, edge::TO) as usize;
     end < bound && best < end
 }
 
@@ -97,10 +95,10 @@ fn last_end(slots: &[u8], count: usize, p: usize, bound: usize) -> usize
     let mut slot: usize = 0;
     while 0 < left {
         if is_farther(slots, slot, p, bound, best) {
-            best = base::two(slots, slot, 2) as usize;
+            best = base::two(slots, slot, edge::TO) as usize;
         }
         left -= 1;
-        slot += 12;
+        slot += edge::SLOT_BYTES;
     }
     best
 }
@@ -115,14 +113,14 @@ fn put_over(
     p: usize,
     e: usize,
 ) -> usize
-    requires { ⌜ Slot (now room) (length (now room)) (drop slot (now slots)) × (at < 9223372036854775808) ⌝ }
-    ensures { λ r. ⌜ ((r, now (out .exit)) ≡ put-items true (over (edge-of (now (room .entry)) (drop slot (now (slots .entry))) ∷ []) p e) (at, now (out .entry)))
-        × (r ≤ at + 65543) ⌝ }
+    requires { ⌜ Slot (now room) (length (now room)) (drop slot (now slots)) × Countable at row-most ⌝ }
+    ensures { λ r. ⌜ Puts true (over (edge-of (now (room .entry)) (drop slot (now (slots .entry))) ∷ []) p e) row-most
+        (at, now (out .entry)) (r, now (out .exit)) ⌝ }
 {
-    if base::two(slots, slot, 0) as usize != p {
+    if base::two(slots, slot, edge::FROM) as usize != p {
         return at;
     }
-    if base::two(slots, slot, 2) as usize != e {
+    if base::two(slots, slot, edge::TO) as usize != e {
         return at;
     }
     listing::put_item(out, at, slots, room, slot, true)
@@ -138,9 +136,9 @@ fn put_span(
     p: usize,
     e: usize,
 ) -> usize
-    requires { ⌜ Readable (now slots) (now room) count × (count ≤ most-edges * most-characters) × (at < 4611686018427387904) ⌝ }
-    ensures { λ r. ⌜ ((r, now (out .exit)) ≡ put-items true (over (edges-of (now (room .entry)) count (now (slots .entry))) p e) (at, now (out .entry)))
-        × (r ≤ at + count * 65543) ⌝ }
+    requires { ⌜ Readable (now slots) (now room) count × (count ≤ most-edges * most-characters) × Countable at rows-most ⌝ }
+    ensures { λ r. ⌜ Puts true (over (edges-of (now (room .entry)) count (now (slots .entry))) p e) (count * row-most)
+        (at, now (out .entry)) (r, now (out .exit)) ⌝ }
 {
     let mut end = at;
     let mut left = count;
@@ -148,13 +146,12 @@ fn put_span(
     while 0 < left {
         end = put_over(out, end, slots, room, slot, p, e);
         left -= 1;
-        slot += 12;
+        slot += edge::SLOT_BYTES;
     }
     end
 }
 
-// The edges from `p`, longer first, then as added. There are at most 512 ends, and rows of all 17 * 512 edges
-// have at most 570486272 bytes.
+// The edges from `p`, longer first, then as added.
 fn put_longer(
     out: &mut [u8],
     at: usize,
@@ -164,9 +161,10 @@ fn put_longer(
     n: usize,
     p: usize,
 ) -> usize
-    requires { ⌜ Readable (now slots) (now room) count × (count ≤ most-edges * most-characters) × (n ≤ most-characters) × (p < n) × (at < 2305843009213693952) ⌝ }
-    ensures { λ r. ⌜ ((r, now (out .exit)) ≡ put-items true (longer (edges-of (now (room .entry)) count (now (slots .entry))) p (n - p)) (at, now (out .entry)))
-        × (r ≤ at + 512 * 570486272) ⌝ }
+    requires { ⌜ Readable (now slots) (now room) count × (count ≤ most-edges * most-characters) × (n ≤ most-characters) × (p < n)
+        × Countable at ends-most ⌝ }
+    ensures { λ r. ⌜ Puts true (longer (edges-of (now (room .entry)) count (now (slots .entry))) p (n - p)) ends-most
+        (at, now (out .entry)) (r, now (out .exit)) ⌝ }
 {
     let mut end = at;
     let mut e = last_end(slots, count, p, n + 1);
@@ -182,12 +180,12 @@ fn slots_from(slots: &[u8], first: usize) -> &[u8]
     requires { ⌜ first * slot-bytes ≤ length (now slots) ⌝ }
     ensures { λ r. ⌜ now r ≡ drop (first * slot-bytes) (now (slots .entry)) ⌝ }
 {
-    let at = first * 12;
+    let at = first * edge::SLOT_BYTES;
     &slots[at..]
 }
 
 // The edges from `p`: of its stretch, longer first, then as added; and its fallback, which is the shortest and added
-// last. Its bytes are bounded by those that `put_longer` may write, and a row more.
+// last.
 fn put_start(
     out: &mut [u8],
     at: usize,
@@ -197,11 +195,10 @@ fn put_start(
     count: usize,
     p: usize,
 ) -> usize
-    requires { ⌜ Readable (now slots) (now room) count × Stands (now slots) (now starts) count × (count ≤ most-edges * most-characters)
-        × (length (now starts) ≤ most-characters + 1) × (p + 1 < length (now starts)) × (at < 2305843009213693952) ⌝ }
-    ensures { λ r. ⌜ ((r, now (out .exit))
-        ≡ put-items true (longer (edges-of (now (room .entry)) count (now (slots .entry))) p (end-of (now (starts .entry)) - p)) (at, now (out .entry)))
-        × (r ≤ at + 292089036807) ⌝ }
+    requires { ⌜ Laid (now slots) (now room) (now starts) count × (count ≤ most-edges * most-characters) × (p + 1 < length (now starts))
+        × Countable at start-most ⌝ }
+    ensures { λ r. ⌜ Puts true (longer (edges-of (now (room .entry)) count (now (slots .entry))) p (end-of (now (starts .entry)) - p)) start-most
+        (at, now (out .entry)) (r, now (out .exit)) ⌝ }
 {
     let n = starts.len() - 1;
     let within = standing::stretch_at(starts, p);
@@ -221,8 +218,7 @@ pub fn put_all_edges(
     starts: &[u32],
     count: usize,
 ) -> usize
-    requires { ⌜ Readable (now slots) (now room) count × Stands (now slots) (now starts) count × (count ≤ most-edges * most-characters)
-        × (length (now starts) ≤ most-characters + 1) × (at < 4294967296) ⌝ }
+    requires { ⌜ Laid (now slots) (now room) (now starts) count × (count ≤ most-edges * most-characters) × Countable at starts-most ⌝ }
     ensures { λ r. ⌜ (r, now (out .exit))
         ≡ put-items true (sorted (edges-of (now (room .entry)) count (now (slots .entry))) (end-of (now (starts .entry))) 0) (at, now (out .entry)) ⌝ }
 {

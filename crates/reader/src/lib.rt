@@ -16,7 +16,7 @@ use rowread::RowParts;
 use rowread::RowRead;
 
 // Rows of a table at most (document 01).
-const MOST_ROWS: usize = 8192;
+const MOST_ROWS: usize = blocks::MOST_ROWS as usize;
 
 // A rule table, and the offset of a row.
 pub struct RuleReader<'a> {
@@ -146,7 +146,7 @@ fn is_right(table: &[u8], at: usize, old: usize, first: bool) -> bool
     }
 }
 
-// The whole table, row by row: the first fault, and how many rows are right before it. No more than 8192 rows, and sources
+// The whole table, row by row: the first fault, and how many rows are right before it. No more than `MOST_ROWS` rows, and sources
 // rise.
 pub fn walk_rules(table: &[u8]) -> Walked
     ensures { λ r. ⌜ (fault-place (r .read) ≡ rule-fault (now (table .entry)))

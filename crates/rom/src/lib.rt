@@ -30,9 +30,12 @@ pub const O_ANG_SIDE: u32 = 0x2efbeee;
 // m n g r
 pub const PLUS_BEFORE: u32 = 0x23040;
 
+// Bytes of an edge's text, at most.
+pub const MOST_BYTES: usize = 198;
+
 // The text is the first `len` bytes; zeros stand behind it.
 pub struct Rom {
-    pub bytes: [u8; 198],
+    pub bytes: [u8; MOST_BYTES],
     pub len: usize,
 }
 
@@ -41,7 +44,7 @@ pub fn new() -> Rom
     ensures { λ r. ⌜ r ≡ rom [] ⌝ }
 {
     Rom {
-        bytes: [0u8; 198],
+        bytes: [0u8; MOST_BYTES],
         len: 0,
     }
 }

@@ -17,12 +17,16 @@ use Rattle.definition.specs.Limits.{most-source, most-codes, most-alternatives,
 use Rattle.definition.specs.Texts.{Text}
 use Rattle.definition.specs.Utf8.{scalar}
 use Rattle.definition.specs.Blocks.{small}
-use Rattle.definition.specs.RuleRows.{printable, text-size, text-of, text-right, texts-size, texts-right, rule-size, rule-flag, zero-bit, target-bit, end-target-bit, source-count, codes-at, codes-count, target-at, past-text, end-target-at, others-at, others-end, others-right, three-at, code-of, rule-source, rule-codes, rises, rule-fits, source-right, codes-right, target-right, end-target-right, rule-right}
+use Rattle.definition.specs.RuleRows.{printable, text-size, text-of, text-right, texts-size, texts-right, rule-size, rule-flag, zero-bit, target-bit}
+use Rattle.definition.specs.RuleRows.{end-target-bit, source-count, codes-at, codes-count, target-at, past-text, end-target-at, others-at, others-end}
+use Rattle.definition.specs.RuleRows.{others-right, three-at, code-of, rule-source, rule-codes, rises, rule-fits, source-right, codes-right, target-right}
+use Rattle.definition.specs.RuleRows.{end-target-right, rule-right}
 use Rattle.definition.specs.Checked.{rule-checked}
 use Rattle.definition.specs.Places.{rule-placed}
 use Rattle.blocks.specs.Held.{held}
 use Rattle.rulerow.specs.There.{byte-there}
-use Rattle.rowread.specs.Reading.{and-then, field, fields, character-right, code-letters, byte-right, read-text, read-texts, read-text-if, read-flags, read-source, read-codes, read-others, read-end, read-tail, read-parts, read-row, rightly}
+use Rattle.rowread.specs.Reading.{and-then, field, fields, character-right, code-letters, byte-right, read-text, read-texts, read-text-if, read-flags}
+use Rattle.rowread.specs.Reading.{read-source, read-codes, read-others, read-end, read-tail, read-parts, read-row, rightly}
 use Rattle.rowread.specs.declared.Fault.{Fault}
 use Rattle.rowread.specs.declared.Cursor.{Cursor}
 use Rattle.rowread.specs.declared.Cursor.the-variants.{Next, Wrong}

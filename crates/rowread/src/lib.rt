@@ -6,19 +6,20 @@ ghost use lib.Dec.{leb};
 ghost use lib.ListN.{length, drop};
 ghost use Rattle.definition.specs.RuleRows.{printable, source-count};
 ghost use Rattle.definition.specs.RuleRows.{target-at, end-target-at, others-at};
+ghost use Rattle.rulerow.specs.Sizes.{size-limit};
 ghost use Rattle.rowread.specs.Reading.{field, fields, character-right, code-letters, byte-right};
 ghost use Rattle.rowread.specs.Reading.{read-text, read-texts, read-text-if, read-flags, read-source, read-codes};
 ghost use Rattle.rowread.specs.Reading.{read-others, read-end, read-tail, read-parts, read-row};
 ghost use Rattle.rowread.specs.Row.{walked, Parted};
 
 // What a row may hold at most (document 01).
-const MOST_SOURCE: u32 = 16;
+pub const MOST_SOURCE: u32 = 16;
 
 const MOST_CODES: u32 = 8;
 
 const MOST_ALTERNATIVES: u32 = 8;
 
-const MOST_TARGET: u32 = 64;
+pub const MOST_TARGET: u32 = 64;
 
 // The bit of its flags that stays 0.
 const ZERO_BIT: u32 = 7;
@@ -73,7 +74,7 @@ pub fn printable(c: u32) -> bool
 
 // A field of `n` bytes at `o` of a row of size `z`: the next begins behind it, where it fits and is right.
 fn field(z: usize, o: usize, n: usize, fault: Fault, ok: bool) -> Cursor
-    requires { ⌜ (o < 65538) × (n < 4) ⌝ }
+    requires { ⌜ (o < size-limit) × (n < 4) ⌝ }
     ensures { λ r. ⌜ r ≡ field z o n fault ok ⌝ }
 {
     if z < o + n {
@@ -87,7 +88,7 @@ fn field(z: usize, o: usize, n: usize, fault: Fault, ok: bool) -> Cursor
 
 // Are the three bytes of a language code, which the table has, all letters?
 fn code_letters(rules: &[u8], row: usize, o: usize) -> bool
-    requires { ⌜ (o < 65538) × (o + 3 ≤ length (drop row (now rules))) ⌝ }
+    requires { ⌜ (o < size-limit) × (o + 3 ≤ length (drop row (now rules))) ⌝ }
     ensures { λ r. ⌜ r ≡ code-letters (drop o (drop row (now (rules .entry)))) ⌝ }
 {
     if blocks::small(base::at(rules, row, o)) {
@@ -101,7 +102,7 @@ fn code_letters(rules: &[u8], row: usize, o: usize) -> bool
 // As many characters of a source. Each of these loops asks first whether the field fits, so that a code's letters are
 // asked only where the table has them.
 fn read_characters(rules: &[u8], row: usize, z: usize, n: usize, o: usize) -> Cursor
-    requires { ⌜ (z < 65538) × (o ≤ z) ⌝ }
+    requires { ⌜ (z < size-limit) × (o ≤ z) ⌝ }
     ensures { λ r. ⌜ r ≡ fields character-right 3 Fault.Letter z (drop row (now (rules .entry))) n o ⌝ }
 {
     let mut left = n;
@@ -122,7 +123,7 @@ fn read_characters(rules: &[u8], row: usize, z: usize, n: usize, o: usize) -> Cu
 
 // As many language codes.
 fn read_language_codes(rules: &[u8], row: usize, z: usize, n: usize, o: usize) -> Cursor
-    requires { ⌜ (z < 65538) × (o ≤ z) × (z ≤ length (drop row (now rules))) ⌝ }
+    requires { ⌜ (z < size-limit) × (o ≤ z) × (z ≤ length (drop row (now rules))) ⌝ }
     ensures { λ r. ⌜ r ≡ fields code-letters 3 Fault.Letter z (drop row (now (rules .entry))) n o ⌝ }
 {
     let mut left = n;
@@ -143,7 +144,7 @@ fn read_language_codes(rules: &[u8], row: usize, z: usize, n: usize, o: usize) -
 
 // As many bytes of a target text.
 fn read_bytes(rules: &[u8], row: usize, z: usize, n: usize, o: usize) -> Cursor
-    requires { ⌜ (z < 65538) × (o ≤ z) ⌝ }
+    requires { ⌜ (z < size-limit) × (o ≤ z) ⌝ }
     ensures { λ r. ⌜ r ≡ fields byte-right 1 Fault.Byte z (drop row (now (rules .entry))) n o ⌝ }
 {
     let mut left = n;
@@ -164,7 +165,7 @@ fn read_bytes(rules: &[u8], row: usize, z: usize, n: usize, o: usize) -> Cursor
 
 // A text: its length byte, then its bytes. A fault of a field is the answer as it stands.
 fn read_text(rules: &[u8], row: usize, z: usize, o: usize) -> Cursor
-    requires { ⌜ (z < 65538) × (o ≤ z) ⌝ }
+    requires { ⌜ (z < size-limit) × (o ≤ z) ⌝ }
     ensures { λ r. ⌜ r ≡ read-text z (drop row (now (rules .entry))) o ⌝ }
 {
     let n = base::at(rules, row, o);
@@ -177,7 +178,7 @@ fn read_text(rules: &[u8], row: usize, z: usize, o: usize) -> Cursor
 
 // As many texts.
 fn read_texts(rules: &[u8], row: usize, z: usize, n: usize, o: usize) -> Cursor
-    requires { ⌜ (z < 65538) × (o ≤ z) ⌝ }
+    requires { ⌜ (z < size-limit) × (o ≤ z) ⌝ }
     ensures { λ r. ⌜ r ≡ read-texts z (drop row (now (rules .entry))) n o ⌝ }
 {
     let mut left = n;
@@ -195,7 +196,7 @@ fn read_texts(rules: &[u8], row: usize, z: usize, n: usize, o: usize) -> Cursor
 
 // A text, where the row has one.
 fn read_text_if(rules: &[u8], row: usize, z: usize, o: usize, there: bool) -> Cursor
-    requires { ⌜ (z < 65538) × (o ≤ z) ⌝ }
+    requires { ⌜ (z < size-limit) × (o ≤ z) ⌝ }
     ensures { λ r. ⌜ r ≡ read-text-if there z (drop row (now (rules .entry))) o ⌝ }
 {
     if there {
@@ -206,7 +207,7 @@ fn read_text_if(rules: &[u8], row: usize, z: usize, o: usize, there: bool) -> Cu
 
 // The parts of a row: flags and restriction count.
 fn read_flags(rules: &[u8], row: usize, z: usize) -> Cursor
-    requires { ⌜ z < 65538 ⌝ }
+    requires { ⌜ z < size-limit ⌝ }
     ensures { λ r. ⌜ r ≡ read-flags z (drop row (now (rules .entry))) ⌝ }
 {
     let zero = rulerow::flag(rules, row, ZERO_BIT);
@@ -219,7 +220,7 @@ fn read_flags(rules: &[u8], row: usize, z: usize) -> Cursor
 
 // The source.
 fn read_source(rules: &[u8], row: usize, z: usize, o: usize) -> Cursor
-    requires { ⌜ (z < 65538) × (o ≤ z) ⌝ }
+    requires { ⌜ (z < size-limit) × (o ≤ z) ⌝ }
     ensures { λ r. ⌜ r ≡ read-source z (drop row (now (rules .entry))) o ⌝ }
 {
     let n = base::at(rules, row, o);
@@ -232,7 +233,7 @@ fn read_source(rules: &[u8], row: usize, z: usize, o: usize) -> Cursor
 
 // The language codes.
 fn read_codes(rules: &[u8], row: usize, z: usize, o: usize) -> Cursor
-    requires { ⌜ (z < 65538) × (o ≤ z) × (z ≤ length (drop row (now rules))) ⌝ }
+    requires { ⌜ (z < size-limit) × (o ≤ z) × (z ≤ length (drop row (now rules))) ⌝ }
     ensures { λ r. ⌜ r ≡ read-codes z (drop row (now (rules .entry))) o ⌝ }
 {
     let n = base::at(rules, row, o);
@@ -245,7 +246,7 @@ fn read_codes(rules: &[u8], row: usize, z: usize, o: usize) -> Cursor
 
 // The alternatives.
 fn read_others(rules: &[u8], row: usize, z: usize, o: usize) -> Cursor
-    requires { ⌜ (z < 65538) × (o ≤ z) ⌝ }
+    requires { ⌜ (z < size-limit) × (o ≤ z) ⌝ }
     ensures { λ r. ⌜ r ≡ read-others z (drop row (now (rules .entry))) o ⌝ }
 {
     let n = base::at(rules, row, o);
@@ -268,7 +269,7 @@ fn read_end(z: usize, o: usize) -> Cursor
 
 // The texts of a row from its target on, and its end.
 fn read_tail(rules: &[u8], row: usize, z: usize, o: usize) -> Cursor
-    requires { ⌜ (z < 65538) × (o ≤ z) ⌝ }
+    requires { ⌜ (z < size-limit) × (o ≤ z) ⌝ }
     ensures { λ r. ⌜ r ≡ read-tail z (drop row (now (rules .entry))) o ⌝ }
 {
     let target = read_text_if(
@@ -300,7 +301,7 @@ fn read_tail(rules: &[u8], row: usize, z: usize, o: usize) -> Cursor
 
 // All parts of a row that lies in the table.
 fn read_parts(rules: &[u8], row: usize, z: usize) -> Cursor
-    requires { ⌜ (z < 65538) × (z ≤ length (drop row (now rules))) ⌝ }
+    requires { ⌜ (z < size-limit) × (z ≤ length (drop row (now rules))) ⌝ }
     ensures { λ r. ⌜ r ≡ read-parts z (drop row (now (rules .entry))) ⌝ }
 {
     let flags = read_flags(rules, row, z);

@@ -1,2 +1,3 @@
+pub mod Sizes
 pub mod There
 pub mod Others

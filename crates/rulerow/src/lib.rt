@@ -8,6 +8,7 @@ ghost use Rattle.definition.specs.RuleRows.{rises, rule-size, rule-flag, rule-c
 ghost use Rattle.definition.specs.RuleRows.{target-bit, end-target-bit, target-at, end-target-at, others-at};
 ghost use Rattle.definition.specs.RuleRows.{codes-at, codes-count, past-text, text-size, text-of};
 ghost use Rattle.definition.specs.Places.{Placed};
+ghost use Rattle.rulerow.specs.Sizes.{size-limit};
 ghost use Rattle.rulerow.specs.Others.{others, Other, other-at};
 
 // Bits of its flags: only and not at the start of a word, only and not at its end, only for a whole word; a target, and
@@ -28,7 +29,7 @@ pub const END_TARGET_BIT: u32 = 6;
 
 // A row's size: two bytes count what follows them.
 pub fn size(rules: &[u8], row: usize) -> usize
-    ensures { λ r. ⌜ (r ≡ rule-size (drop row (now (rules .entry)))) × (r < 65538) ⌝ }
+    ensures { λ r. ⌜ (r ≡ rule-size (drop row (now (rules .entry)))) × (r < size-limit) ⌝ }
 {
     2 + base::two(rules, row, 0) as usize
 }

@@ -285,7 +285,7 @@ pub fn romanization_by_first_rule(rules: &[u8], ready: &[u32], source: &[u32]) -
     requires { ⌜ Prepared (now rules) (now ready) ⌝ }
     ensures { λ r. ⌜ (said (now (rules .entry)) r ≡ first-rule (rules-of (now (rules .entry))) (now (source .entry))) × Said (now (rules .entry)) r ⌝ }
 {
-    let found = dicts::look_up(rules, words::index_in(ready), source);
+    let found = memo::look_up(rules, words::index_in(ready), source);
     if found.count == 0 {
         return Chosen::Untold;
     }

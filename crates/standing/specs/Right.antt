@@ -32,6 +32,10 @@ longer x y = ltb (y .to) (x .to)
 abbrev pub here : ℕ → Edge → Bool
 here p x = eqb (x .from) p
 
+-- the best of the first `count` edges that starts at `p`
+abbrev pub RightBest : List ℕ → ℕ → ℕ → BestEdge → Type 0
+RightBest slots count p b = ((room : List ℕ) → edge-at room slots b ≡ right-best (edges-of room count slots) p) × Found count b
+
 -- A turn of the search through a stretch
 module _ (p : ℕ) (room slots : List ℕ) where
   -- the slot `o`, where its edge is better than the best so far

@@ -42,6 +42,10 @@ pub record Stands (slots starts : List ℕ) (count : ℕ) : Type 0 where
       → Fallen (first-pass starts (edges-of room count slots)) (fallbacks starts (edges-of room count slots)) (end-of starts) (end-of starts) starts
   pub ahead : (room : List ℕ) → All (λ x. Ahead (end-of starts) (x .from) (x .to)) (edges-of room count slots)
 
+-- they stand so for some number of edges
+abbrev pub Arranged : List ℕ → List ℕ → Type 0
+Arranged slots starts = (count : ℕ) × Stands slots starts count
+
 -- another room changes no span
 pub same-edges : (room room′ : List ℕ) (count : ℕ) (slots : List ℕ) → Same (edges-of room count slots) (edges-of room′ count slots)
 unfolding counted edge-by

@@ -9,12 +9,12 @@ ghost use Prim.Native.Nat.{ℕ, _+_, _-_, _*_, _≤_, _<_};
 ghost use lib.ListN.{length, getD, drop, set};
 ghost use Rattle.base.specs.Lists.{best};
 ghost use Rattle.definition.specs.Limits.{slot-bytes};
-ghost use Rattle.definition.specs.Edges.{starting, right-best};
+ghost use Rattle.definition.specs.Edges.{starting};
 ghost use Rattle.edge.specs.Slots.{edge-of, edges-of};
 ghost use Rattle.edge.specs.Best.{edge-at, Found};
 ghost use Rattle.standing.specs.Starts.{begun-limit, fall-limit, begun, fall-of, since-in, stretch-of, fallback-of, fell};
-ghost use Rattle.standing.specs.Stands.{Stands};
-ghost use Rattle.standing.specs.Right.{longer, improved};
+ghost use Rattle.standing.specs.Stands.{Stands, Arranged};
+ghost use Rattle.standing.specs.Right.{longer, improved, RightBest};
 use edge::BestEdge;
 
 // An entry's number of edges stays below this, and what it tells of a fallback stands above.
@@ -108,21 +108,21 @@ pub fn fallback(starts: &[u32], p: usize) -> BestEdge
     }
     let n = starts.len() - 1;
     let made = begun_at(starts, n);
-    BestEdge::At((made + (k - 1)) * 12)
+    BestEdge::At((made + (k - 1)) * edge::SLOT_BYTES)
 }
 
 // Does the edge in a slot end farther on than another?
 fn is_longer(slots: &[u8], slot: usize, other: usize) -> bool
     ensures { λ r. ⌜ ((room : List ℕ) → r ≡ longer (edge-of room (drop slot (now (slots .entry)))) (edge-of room (drop other (now (slots .entry))))) ⌝ }
 {
-    base::two(slots, other, 2) < base::two(slots, slot, 2)
+    base::two(slots, other, edge::TO) < base::two(slots, slot, edge::TO)
 }
 
 // The edge in a slot, where it starts at `p` and is longer than the best one so far, and else that one.
 fn better(slots: &[u8], slot: usize, p: usize, best: BestEdge) -> BestEdge
     ensures { λ r. ⌜ ((room : List ℕ) → r ≡ improved p room (now (slots .entry)) slot best) ⌝ }
 {
-    if base::two(slots, slot, 0) as usize != p {
+    if base::two(slots, slot, edge::FROM) as usize != p {
         return best;
     }
     match best {
@@ -147,7 +147,7 @@ fn best_within(slots: &[u8], within: Stretch, p: usize) -> BestEdge
     let mut best = BestEdge::Nothing;
     let mut i = within.first;
     while i < end {
-        best = better(slots, i * 12, p, best);
+        best = better(slots, i * edge::SLOT_BYTES, p, best);
         i += 1;
     }
     best
@@ -155,10 +155,9 @@ fn best_within(slots: &[u8], within: Stretch, p: usize) -> BestEdge
 
 // The best edge that starts at `p`: the longest, and of these the first added. A fallback goes over one character, so
 // that none is shorter: it is taken where there is no other.
-pub fn best_right_neighbor_edge(slots: &[u8], starts: &[u32], count: usize, p: usize) -> BestEdge
-    requires { ⌜ Stands (now slots) (now starts) count × (p + 1 < length (now starts)) ⌝ }
-    ensures { λ r. ⌜ ((room : List ℕ) → edge-at room (now (slots .entry)) r ≡ right-best (edges-of room count (now (slots .entry))) p)
-        × Found count r ⌝ }
+pub fn best_right_neighbor_edge(slots: &[u8], starts: &[u32], p: usize) -> BestEdge
+    requires { ⌜ Arranged (now slots) (now starts) × (p + 1 < length (now starts)) ⌝ }
+    ensures { λ r. ⌜ ((count : ℕ) → Stands (now (slots .entry)) (now (starts .entry)) count → RightBest (now (slots .entry)) count p r) ⌝ }
 {
     let single = fallback(starts, p);
     let best = best_within(slots, stretch_at(starts, p), p);

@@ -18,7 +18,8 @@ use Rattle.definition.specs.Tables.{Lexicon}
 use Rattle.definition.specs.Classes.{class}
 use Rattle.definition.specs.Edges.{View, M, ret}
 use Rattle.definition.specs.Rules.{first-rule}
-use Rattle.definition.specs.Expansion.{Work, work, double, around, before, small-ya, small-target, lengthens, trim-front, trim-back, trim, finish, grave, small-y, rest, o-ang-step, thai, by-script, expand}
+use Rattle.definition.specs.Expansion.{Work, work, double, around, before, small-ya, small-target, lengthens, trim-front, trim-back, trim, finish, grave}
+use Rattle.definition.specs.Expansion.{small-y, rest, o-ang-step, thai, by-script, expand}
 use Rattle.definition.specs.Within.{inner}
 use Rattle.definition.specs.ExpandBounds.{space-not-small}
 use Rattle.stretches.specs.Given.{Ink, Solid, Fair, Stretch, Span}

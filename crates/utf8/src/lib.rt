@@ -12,6 +12,9 @@ ghost use Rattle.utf8.specs.Lines.{spaced};
 // Characters of a text, at most.
 pub const MOST_CHARACTERS: usize = 512;
 
+// A text between spaces, at most: one before it and two after it.
+pub const MOST_LINE: usize = MOST_CHARACTERS + 3;
+
 // What the first sequence of some bytes is.
 pub enum CharRead {
     Char { value: u32, size: usize },
@@ -271,7 +274,7 @@ pub fn read_line(text: &[u8], line: &mut [u32]) -> TextRead
     ensures count { λ r. ⌜ ((n : ℕ) → r ≡ TextRead.Characters n → n ≡ length (decoded (now (text .entry)))) ⌝ }
     ensures line { λ r. ⌜ ((n : ℕ) → r ≡ TextRead.Characters n → take (n + 3) (now (line .exit)) ≡ spaced (decoded (now (text .entry)))) ⌝ }
 {
-    let read = read_text(text, &mut line[1..513]);
+    let read = read_text(text, &mut line[1..1 + MOST_CHARACTERS]);
     match read {
         TextRead::Characters(n) => {
             line[0] = 0x20;

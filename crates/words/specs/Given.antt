@@ -1,6 +1,6 @@
 -- What the engine is lent, in two slices: the line is the text's characters between spaces, one before and two behind,
 -- and then the class of each of these in one number; what was made ready of the tables is of each ASCII character whether
--- it is a letter, and then the index of the rule table. What they stand for is a world: a class table, a text, and the
+-- it is a letter, and then the index of the rule table with what is kept of characters. What they stand for is a world: a class table, a text, and the
 -- edges so far, which places show.
 use mathlib.Core.Bool.{Bool, _&&_}
 use mathlib.Core.Path.{_≡_, refl, sym, ap, _∙_, subst}
@@ -20,7 +20,7 @@ use Rattle.definition.specs.Edges.{Edge, View, view}
 use Rattle.utf8.specs.Lines.{spaced}
 use Rattle.classes.specs.Told.{Fine, packed, kinds-of, alphas-of}
 use Rattle.classes.specs.Packing.{Says, says, says-alpha, kinds-at, kinds-length}
-use Rattle.dicts.specs.Index.{Ready}
+use Rattle.memo.specs.Kept.{Kept}
 use Rattle.places.specs.Shows.{Shows, told, shows-none, shows-told}
 
 -- what stands from `s` to `e`
@@ -38,7 +38,7 @@ size-in line = length line / 2 - 3
 abbrev pub kind-in : List ℕ → ℕ → ℕ
 kind-in line i = getD line (length line / 2 + i) 0
 
--- what was made ready: of each ASCII character whether it is a letter, and the index
+-- what was made ready: of each ASCII character whether it is a letter, and the index with what is kept
 abbrev pub letters-in : List ℕ → List ℕ
 letters-in ready = take 128 ready
 
@@ -46,7 +46,7 @@ abbrev pub index-in : List ℕ → List ℕ
 index-in ready = drop 128 ready
 
 pub record Prepared (rules ready : List ℕ) : Type 0 where
-  pub table : Ready rules (index-in ready)
+  pub table : Kept rules (index-in ready)
   pub long : 128 ≤ length ready
 
 -- A world: class table, text and edges

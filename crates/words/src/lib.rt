@@ -120,7 +120,7 @@ fn has_letter(ready: &[u32], text: &[u8]) -> bool
     false
 }
 
-// The index of the rule table, behind the ASCII letters.
+// The index of the rule table with what is kept of characters, behind the ASCII letters.
 pub fn index_in<'a>(ready: &'a [u32]) -> &'a [u32]
     requires { ⌜ 128 ≤ length (now ready) ⌝ }
     ensures { λ r. ⌜ now r ≡ index-in (now (ready .entry)) ⌝ }
@@ -150,7 +150,7 @@ pub fn look_up(rules: &[u8], ready: &[u32], line: &[u32], span: Span) -> Look
 {
     let from = span.from;
     let to = span.to;
-    let found = dicts::look_up(rules, index_in(ready), &line[from + 1..to + 1]);
+    let found = memo::look_up(rules, index_in(ready), &line[from + 1..to + 1]);
     Look {
         from,
         to,

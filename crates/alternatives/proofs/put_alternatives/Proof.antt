@@ -41,26 +41,30 @@ abbrev μ-loop : tie.MeasureT-loop
 abbrev At : Type 0
 At = tie.At-loop Inv-loop μ-loop
 
+-- where the function begins
+abbrev start : At → tie.Start Inv-loop μ-loop
+start l = l .before .before .before .before .before .before .before .before .before .before .before
+
 abbrev N : At → ℕ
 N l = l .before .text-len .result
 
 abbrev S : At → List ℕ
-S l = now (l .before .before .before .before .before .before .before .before .before .before .before .args .slots)
+S l = now (start l .args .slots)
 
 abbrev Es : At → List Edge
-Es l = let a = l .before .before .before .before .before .before .before .before .before .before .before .args in edges-of (now (a .room)) (a .listed .count) (S l)
+Es l = let a = start l .args in edges-of (now (a .room)) (a .listed .count) (S l)
 
 -- the best edge at this position, as it is answered whatever the room has
 abbrev Best : At → BestEdge → Type 0
-Best l b = let k = l .before .before .before .before .before .before .before .before .before .before .before .args .listed .count in (room : List ℕ) → edge-at room (S l) b ≡ right-best (edges-of room k (S l)) (l .loop .p)
+Best l b = let k = start l .args .listed .count in (room : List ℕ) → edge-at room (S l) b ≡ right-best (edges-of room k (S l)) (l .loop .p)
 
 sound : (l : At) → All (Sound (N l)) (Es l)
-sound l = subst (λ n. All (Sound n) (Es l)) (sym (l .before .text-len .ensures)) (l .before .before .before .before .before .before .before .before .before .before .before .pre .4)
+sound l = subst (λ n. All (Sound n) (Es l)) (sym (l .before .text-len .ensures)) (start l .pre .4)
 
 -- the room's texts are as they were, so that the best edge is that of the whole path
 right : (l : At) (b : BestEdge) → Best l b → edge-at (l .loop .room) (S l) b ≡ right-best (Es l) (l .loop .p)
 right l b e =
-    let q = l .before .before .before .before .before .before .before .before .before .before .before in
+    let q = start l in
     let a = q .args in
     let i = l .loop .inv in
     e (l .loop .room) ∙ ap (λ es. right-best es (l .loop .p))
@@ -91,21 +95,22 @@ loop-holds c =
 best-right-neighbor-edge-requires : tie.Need-best-right-neighbor-edge-requires Inv-loop μ-loop
 best-right-neighbor-edge-requires c κs =
     let l = c .before in
-    let q = l .before .before .before .before .before .before .before .before .before .before .before in
-    (q .pre .2, omega (arith, c .loop-test, q .pre .3, l .before .text-len .ensures))
+    let q = start l in
+    ((q .args .listed .count, q .pre .2), omega (arith, c .loop-test, q .pre .3, l .before .text-len .ensures))
 
 put-best-alternatives-requires : tie.Need-put-best-alternatives-requires Inv-loop μ-loop
 put-best-alternatives-requires c κs =
     let b = c .before .before .before .best-right-neighbor-edge in
     let t = c .before .before .before .before .loop-test in
     let l = c .before .before .before .before .before in
-    let q = l .before .before .before .before .before .before .before .before .before .before .before in
+    let q = start l in
     let a = q .args in
+    let best = b .ensures (a .listed .count) (q .pre .2) in
     let i = l .loop .inv in (
       q .pre .0,
       stored-stays (S l) (now (a .room)) (l .loop .room) (a .listed .count) (a .listed .used) (q .pre .1) (i .1) (sym (i .5)),
-      b .ensures .1,
-      best-sound (size-in (now (a .line))) (l .loop .p) (Es l) (edge-at (l .loop .room) (S l) (b .result)) (q .pre .4) (right l (b .result) (b .ensures .0)),
+      best .1,
+      best-sound (size-in (now (a .line))) (l .loop .p) (Es l) (edge-at (l .loop .room) (S l) (b .result)) (q .pre .4) (right l (b .result) (best .0)),
       omega (arith, t, q .pre .5, q .pre .6, i .2, i .3, l .before .text-len .ensures),
     )
 
@@ -113,7 +118,7 @@ next-from-requires : tie.Need-next-from-requires Inv-loop μ-loop
 next-from-requires c κs =
     let m = c .before .before .before .before .before .before in
     let l = m .before .before .before .before .before .before in
-    omega (arith, l .before .before .before .before .before .before .before .before .before .before .before .pre .5, l .loop .inv .2, l .before .text-len .ensures)
+    omega (arith, start l .pre .5, l .loop .inv .2, l .before .text-len .ensures)
 
 -- where the path goes on
 on : (l : At) (b : BestEdge) (q : ℕ) → Best l b → ((room : List ℕ) → q ≡ next (edge-at room (S l) b) (l .loop .p)) → l .loop .p < N l → (l .loop .p < q) × (q ≤ N l)
@@ -128,7 +133,8 @@ loop-less c =
     let b = m .before .before .before .before .best-right-neighbor-edge in
     let t = m .before .before .before .before .before .loop-test in
     let l = m .before .before .before .before .before .before in
-    let z = on l (b .result) (c .next-from .result) (b .ensures .0) (c .next-from .ensures .0) (omega (arith, t)) in
+    let best = b .ensures (start l .args .listed .count) (start l .pre .2) in
+    let z = on l (b .result) (c .next-from .result) (best .0) (c .next-from .ensures .0) (omega (arith, t)) in
     omega (arith, t, z .0)
 
 loop-again : tie.Need-loop-again Inv-loop μ-loop
@@ -138,11 +144,12 @@ loop-again c =
     let b = m .before .before .before .before .best-right-neighbor-edge in
     let t = m .before .before .before .before .before .loop-test in
     let l = m .before .before .before .before .before .before in
-    let q = l .before .before .before .before .before .before .before .before .before .before .before in
+    let q = start l in
     let a = q .args in
     let i = l .loop .inv in
     let f = c .next-from in
-    let z = on l (b .result) (f .result) (b .ensures .0) (f .ensures .0) (omega (arith, t)) in
+    let best = b .ensures (a .listed .count) (q .pre .2) in
+    let z = on l (b .result) (f .result) (best .0) (f .ensures .0) (omega (arith, t)) in
     let p = l .loop .p in
     let k = N l - p - 1 in
     let e : suc k ≡ N l - p = omega (arith, t) in
@@ -156,7 +163,7 @@ loop-again c =
             ap (λ x. put-items true (found-all L (w .text) (seen w) m₀ x) then-at)
                 (path-enough (N l) (Es l) (sound l) (N l - f .result) k (f .result) (omega (arith, z .1)) (omega (arith, t, z .0)))
                 ∙ found-on L (w .text) (seen w) (Es l) (edge-at (l .loop .room) (S l) (b .result)) k p (f .result) (memory (size w) (l .loop .places)) m₀
-                then-at now-at (right l (b .result) (b .ensures .0)) (f .ensures .0 (l .loop .room)) (j .1) (d .0)
+                then-at now-at (right l (b .result) (best .0)) (f .ensures .0 (l .loop .room)) (j .1) (d .0)
                 ∙ ap (λ n. put-items true (found-all L (w .text) (seen w) m₀ (path-from n p (Es l))) now-at) e ∙ j .0,
             (λ s. d .1 s ∙ j .1 s),
             d .2 ∙ j .2,
@@ -182,17 +189,17 @@ returns : tie.Need-returns Inv-loop μ-loop
 unfolding put-items found-all path-from
 returns c =
     let l = c .before in
-    let a = l .before .before .before .before .before .before .before .before .before .before .before .args in
+    let a = start l .args in
     let e : N l - l .loop .p ≡ 0 = omega arith in
     λ w told lent es.
     let L = lexicon-of (now (a .rules)) w (now (a .code)) in
     let m₀ = memory (size w) (now (a .places)) in
     let n : N l ≡ size w = l .before .text-len .ensures ∙ line-size (lent .text) in
-    let start : Written = (a .listed .at, now (a .out)) in
+    let first : Written = (a .listed .at, now (a .out)) in
     sym (ap (λ k. put-items true (found-all L (w .text) (seen w) m₀ (path-from k (l .loop .p) (Es l))) (l .loop .to, l .loop .out)) e)
     ∙ l .loop .inv .0 w told lent .0
-    ∙ ap (λ k. put-items true (found-all L (w .text) (seen w) m₀ (path-from k 0 (Es l))) start) n
-    ∙ ap (λ x. put-items true (found-all L (w .text) (seen w) m₀ (path-from (size w) 0 x)) start) es
+    ∙ ap (λ k. put-items true (found-all L (w .text) (seen w) m₀ (path-from k 0 (Es l))) first) n
+    ∙ ap (λ x. put-items true (found-all L (w .text) (seen w) m₀ (path-from (size w) 0 x)) first) es
 
 pub put-alternatives-spec : {M : Type 1} → statement M
 put-alternatives-spec =

@@ -24,34 +24,38 @@ use borrow.Author.Needs.{needs}
 use Rattle.alternatives.proofs.put_best_alternatives.Statement.{statement}
 use Rattle.alternatives.proofs.put_best_alternatives.Tie as tie
 
+-- where the function begins
+abbrev start : tie.After-numbers-at → tie.Start
+start m = m .before .before .before .before .before .before .before .before .before .before .before .before
+
 -- the room, and the bytes from the slot on
 abbrev R : tie.After-numbers-at → List ℕ
-R m = now (m .before .before .before .before .before .before .before .before .before .before .before .before .args .room)
+R m = now (start m .args .room)
 
 abbrev S : tie.After-numbers-at → List ℕ
-S m = drop (m .before .before .best .given .0 .0) (now (m .before .before .before .before .before .before .before .before .before .before .before .before .args .slots))
+S m = drop (m .before .before .best .given .0 .0) (now (start m .args .slots))
 
 abbrev Used : tie.After-numbers-at → ℕ
-Used m = m .before .before .before .before .before .before .before .before .before .before .before .before .args .listed .used
+Used m = start m .args .listed .used
 
 there : (m : tie.After-numbers-at) → Slot (R m) (Used m) (S m)
 there m =
-    let q = m .before .before .before .before .before .before .before .before .before .before .before .before in
+    let q = start m in
     let a = q .args in
     let b = m .before .before .best .given in
     slot-found (now (a .slots)) (now (a .room)) (a .listed .count) (a .listed .used) (b .0 .0) (q .pre .1) (subst (Found (a .listed .count)) (b .1) (q .pre .2))
 
-sound : (m : tie.After-numbers-at) → Sound (size-in (now (m .before .before .before .before .before .before .before .before .before .before .before .before .args .line))) (edge-of (R m) (S m))
+sound : (m : tie.After-numbers-at) → Sound (size-in (now (start m .args .line))) (edge-of (R m) (S m))
 sound m =
-    let q = m .before .before .before .before .before .before .before .before .before .before .before .before in
+    let q = start m in
     let a = q .args in
     subst (λ o. Opt (Sound (size-in (now (a .line)))) (edge-at (now (a .room)) (now (a .slots)) o)) (m .before .before .best .given .1) (q .pre .3)
 
 within : (m : tie.After-numbers-at) → Used m ≤ length (R m)
-within m = m .before .before .before .before .before .before .before .before .before .before .before .before .pre .1 .within
+within m = start m .pre .1 .within
 
 short : (m : tie.After-numbers-at) → length (bytes-of (R m) (S m)) ≤ most-bytes
-short m = slot-short (R m) (S m) (size-in (now (m .before .before .before .before .before .before .before .before .before .before .before .before .args .line))) (Used m) (sound m) (there m) (within m)
+short m = slot-short (R m) (S m) (size-in (now (start m .args .line))) (Used m) (sound m) (there m) (within m)
 
 enum-known-best : tie.Need-enum-known-best
 enum-known-best c = search needs
@@ -80,7 +84,7 @@ put-edge-alternatives-requires : tie.Need-put-edge-alternatives-requires
 put-edge-alternatives-requires c κs =
     let v = c .before .before .before in
     let m = v .before .before .before in
-    let q = m .before .before .before .before .before .before .before .before .before .before .before .before in
+    let q = start m in
     let e = m .numbers-at in
     let n = size-in (now (q .args .line)) in
     let f = v .before .edge-text in
@@ -112,7 +116,7 @@ returns c =
     let p = c .before .before .before .before .before .before .put-edge-alternatives in
     let v = c .before .before .before .before .before .before .before .before .before .before in
     let m = v .before .before .before in
-    let q = m .before .before .before .before .before .before .before .before .before .before .before .before in
+    let q = start m in
     let a = q .args in
     let b = m .before .before .best .given in
     let e = m .numbers-at in

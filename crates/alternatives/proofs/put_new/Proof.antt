@@ -1,31 +1,26 @@
 -- `alternatives::put_new`: its row, where it is new.
-use mathlib.Core.List.{append-nil}
 use mathlib.Core.Bool.{true, false}
-use mathlib.Core.Path.{_≡_, sym, subst}
+use mathlib.Core.Path.{_≡_}
 use native.Mathlib.Omega.{arith}
 use denote.Ref.{now}
-use Rattle.utf8.specs.Encodings.{TextBytes, low-bytes}
+use Rattle.utf8.specs.Encodings.{low-bytes}
 use Rattle.alternatives.proofs.Turns.{put-one, put-not}
 use borrow.Author.Needs.{needs}
 use Rattle.alternatives.proofs.put_new.Statement.{statement}
 use Rattle.alternatives.proofs.put_new.Tie as tie
 
-slice-aggregate-put-other : tie.Need-slice-aggregate-put-other
-slice-aggregate-put-other c = search needs
-
 put-other-requires : tie.Need-put-other-requires
 put-other-requires c κs =
-    let q = c .before .before .before .before .before in
-    let w = now (q .args .w) in
+    let q = c .before .before .before .before in
     let s = q .pre .1 in
-    (q .pre .0, omega (arith, s .long), omega arith, subst TextBytes (sym (append-nil w)) (low-bytes w (s .low)))
+    (omega (arith, q .pre .0, s .long), low-bytes (now (q .args .w)) (s .low))
 
 same-length : tie.Need-same-length
 same-length c = search needs
 
 returns : tie.Need-returns
 returns c =
-    let q = c .before .before .before .before .before .before .before .before in
+    let q = c .before .before .before .before .before .before .before in
     let a = q .args in
     let p = c .before .before .put-other in
     let t : a .new ≡ true = cc in
@@ -39,4 +34,4 @@ returns-2 c =
 
 pub put-new-spec : {M : Type 1} → statement M
 put-new-spec =
-    tie.close (tie.spec slice-aggregate-put-other put-other-requires same-length returns returns-2)
+    tie.close (tie.spec put-other-requires same-length returns returns-2)

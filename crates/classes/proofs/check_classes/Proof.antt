@@ -9,6 +9,7 @@ use borrow.Author.Needs.{needs}
 use denote.Ref.{now}
 use Rattle.definition.specs.Accepted.{class-moves}
 use Rattle.definition.specs.Checked.{class-checked}
+use Rattle.definition.specs.Limits.{most-rows}
 use Rattle.definition.specs.ClassRows.{class-size, class-next, class-right, class-fault}
 use Rattle.blocks.specs.Faults.{fault-place}
 use Rattle.definition.specs.Checking.{from, started, no-header, over, next, spent, wrong}
@@ -31,7 +32,7 @@ headed-requires c κs = search needs
 loop-holds : tie.Need-loop-holds Inv-loop μ-loop
 unfolding class-fault
 loop-holds c =
-    started class-size class-next class-right 8192 0 (now (c .before .before .before .args .classes))
+    started class-size class-next class-right most-rows 0 (now (c .before .before .before .args .classes))
     (sym (c .if1 .taken) ∙ c .before .headed .ensures)
 
 returns : tie.Need-returns Inv-loop μ-loop
@@ -99,7 +100,7 @@ returns-3 c =
 returns-4 : tie.Need-returns-4 Inv-loop μ-loop
 unfolding fault-place class-fault
 returns-4 c =
-    no-header class-size class-next class-right 8192 0 (now (c .before .before .before .args .classes))
+    no-header class-size class-next class-right most-rows 0 (now (c .before .before .before .args .classes))
     (sym (c .if1 .left) ∙ c .before .headed .ensures)
 
 pub check-classes-spec : {M : Type 1} → statement M

@@ -45,8 +45,8 @@ mul-row c = let l = c .before in omega (arith, rows-count (T l) (l .before .befo
 add-row : tie.Need-add-row Inv-loop μ-loop
 add-row c = let l = c .before in omega (arith, rows-count (T l) (l .before .before .pre))
 
-three-requires : tie.Need-three-requires Inv-loop μ-loop
-three-requires c κs = search needs
+three-there-requires : tie.Need-three-there-requires Inv-loop μ-loop
+three-there-requires c κs = let l = c .before in omega (arith, rows-count (T l) (l .before .before .pre))
 
 class-row-requires : tie.Need-class-row-requires Inv-loop μ-loop
 class-row-requires c κs = search needs
@@ -88,7 +88,7 @@ loop-again-2 : tie.Need-loop-again-2 Inv-loop μ-loop
 loop-again-2 c =
     let l = c .before .before .before .before in
     let h : M l < K l = omega arith in
-    let z : l .before .before .args .c < c .before .before .three .result = omega arith in
+    let z : l .before .before .args .c < c .before .before .three-there .result = omega arith in
     record {
       order = omega arith;
       within = omega arith;
@@ -115,7 +115,7 @@ class-of-spec =
     add-mid
     mul-row
     add-row
-    three-requires
+    three-there-requires
     class-row-requires
     returns
     add-low

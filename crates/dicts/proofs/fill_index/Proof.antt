@@ -40,7 +40,9 @@ loop-less : tie.Need-loop-less Inv-loop μ-loop
 loop-less c = let l = c .before .before .before .before .before .before .before in omega (arith, rule-moves (drop (l .loop .at) (now (l .before .before .before .args .rules))))
 
 loop-again : tie.Need-loop-again Inv-loop μ-loop
-loop-again c = rw (c .before .before .before .put-offset .ensures) (fill-next (c .before .before .before .before .before .before .before .loop .inv) (omega arith) _ (c .size .ensures .0) (omega arith))
+loop-again c =
+    let l = c .before .before .before .before .before .before .before in
+    rw (c .before .before .before .put-offset .ensures) (fill-next (l .loop .inv) (omega arith) _ (c .size .ensures .0) (omega arith))
 
 same-length-2 : tie.Need-same-length-2 Inv-loop μ-loop
 same-length-2 c = search needs

@@ -13,22 +13,28 @@ use Rattle.dicts.proofs.seek.Statement.{statement}
 use Rattle.dicts.proofs.seek.Tie as tie
 
 abbrev Inv-loop : tie.InvT-loop
-Inv-loop rules index w at₀ at = seek rules w (offsets-from rules at) ≡ first-at rules w
+Inv-loop rules index w start at₀ at = seek rules w (offsets-from rules at) ≡ first-at rules w
 
 abbrev μ-loop : tie.MeasureT-loop
-μ-loop rules index w at₀ at = length rules - at
+μ-loop rules index w start at₀ at = length rules - at
+
+abbrev start : tie.At-loop Inv-loop μ-loop → tie.Start Inv-loop μ-loop
+start l = l .before .before .before .before .before .before
 
 abbrev B : tie.At-loop Inv-loop μ-loop → List ℕ
-B l = now (l .before .before .before .before .before .args .rules)
+B l = now (start l .args .rules)
 
 abbrev W : tie.At-loop Inv-loop μ-loop → List ℕ
-W l = now (l .before .before .before .before .before .args .w)
+W l = now (start l .args .w)
 
 walk-start-requires : tie.Need-walk-start-requires Inv-loop μ-loop
 walk-start-requires c κs = search needs
 
+past-lower-requires : tie.Need-past-lower-requires Inv-loop μ-loop
+past-lower-requires c κs = search needs
+
 loop-holds : tie.Need-loop-holds Inv-loop μ-loop
-loop-holds c = c .walk-start .ensures
+loop-holds c = c .past-lower .ensures ∙ c .before .walk-start .ensures
 
 is-below-requires : tie.Need-is-below-requires Inv-loop μ-loop
 is-below-requires c κs = search needs
@@ -62,6 +68,7 @@ seek-spec =
     Inv-loop
     μ-loop
     walk-start-requires
+    past-lower-requires
     loop-holds
     is-below-requires
     size-requires

@@ -40,9 +40,12 @@ returns-4 c =
     let k = c .before .before .before .before .before .before .before .before .before .before .before in
     let a = k .before .before .before .before .args in
     let p = k .before .before .before .before .pre in
+    let f = c .before .before .before .before .before .before .before .before .if1 .left in
+    let t = c .before .before .before .before .before .if2 .left in
+    let n = c .before .before .if3 .left in
     c .same .ensures ∙ ap (same (now (a .text))) (c .before .edge-text .ensures)
     ∙ by-text (now (a .room)) (drop (a .slot) (now (a .slots))) (a .e) (now (a .text)) _ (k .numbers-at .ensures)
-    (omega (arith, c .before .before .before .before .before .before .before .before .if1 .left)) (omega (arith, c .before .before .before .before .before .if2 .left)) (omega (arith, c .before .before .if3 .left)) (p .1) (p .0 .text)
+    (omega (arith, f)) (omega (arith, t)) (omega (arith, n)) (p .1) (p .0 .text)
 
 pub is-alike-spec : {M : Type 1} → statement M
 is-alike-spec =

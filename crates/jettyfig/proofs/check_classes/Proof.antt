@@ -24,13 +24,15 @@ returns : tie.Need-returns
 unfolding by-classes fault-place
 returns c =
     let a = c .before .before .before .before .before .before .before .args in
-    faulty 3 (class-fault (now (a .classes))) (by-vowels (now (a .vowels)) (now (a .code))) _ (sym (c .before .before .before .check-classes .ensures) ∙ ap fault-place (c .before .at .given .1))
+    let told = sym (c .before .before .before .check-classes .ensures) ∙ ap fault-place (c .before .at .given .1) in
+    faulty 3 (class-fault (now (a .classes))) (by-vowels (now (a .vowels)) (now (a .code))) _ told
 
 returns-2 : tie.Need-returns-2
 unfolding by-classes fault-place
 returns-2 c =
     let a = c .before .before .before .before .before .before .before .args in
-    c .check-vowels .ensures ∙ faultless 3 (class-fault (now (a .classes))) (by-vowels (now (a .vowels)) (now (a .code))) (sym (c .before .before .before .check-classes .ensures) ∙ ap fault-place (c .before .enum-told .given .1))
+    let told = sym (c .before .before .before .check-classes .ensures) ∙ ap fault-place (c .before .enum-told .given .1) in
+    c .check-vowels .ensures ∙ faultless 3 (class-fault (now (a .classes))) (by-vowels (now (a .vowels)) (now (a .code))) told
 
 pub check-classes-spec : {M : Type 1} → statement M
 check-classes-spec =

@@ -24,13 +24,15 @@ returns : tie.Need-returns
 unfolding by-tables fault-place
 returns c =
     let a = c .before .before .before .before .before .before .before .before .args in
-    faulty 2 (rule-fault (now (a .rules))) (by-classes (now (a .classes)) (now (a .vowels)) (now (a .code))) _ (sym (c .before .before .before .check-rules .ensures) ∙ ap fault-place (c .before .at .given .1))
+    let told = sym (c .before .before .before .check-rules .ensures) ∙ ap fault-place (c .before .at .given .1) in
+    faulty 2 (rule-fault (now (a .rules))) (by-classes (now (a .classes)) (now (a .vowels)) (now (a .code))) _ told
 
 returns-2 : tie.Need-returns-2
 unfolding by-tables fault-place
 returns-2 c =
     let a = c .before .before .before .before .before .before .before .before .args in
-    c .check-classes .ensures ∙ faultless 2 (rule-fault (now (a .rules))) (by-classes (now (a .classes)) (now (a .vowels)) (now (a .code))) (sym (c .before .before .before .check-rules .ensures) ∙ ap fault-place (c .before .enum-told .given .1))
+    let told = sym (c .before .before .before .check-rules .ensures) ∙ ap fault-place (c .before .enum-told .given .1) in
+    c .check-classes .ensures ∙ faultless 2 (rule-fault (now (a .rules))) (by-classes (now (a .classes)) (now (a .vowels)) (now (a .code))) told
 
 pub check-tables-spec : {M : Type 1} → statement M
 check-tables-spec =

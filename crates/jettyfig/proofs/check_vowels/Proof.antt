@@ -24,13 +24,15 @@ returns : tie.Need-returns
 unfolding by-vowels fault-place
 returns c =
     let a = c .before .before .before .before .before .before .args in
-    faulty 4 (vowel-fault (now (a .vowels))) (by-code (now (a .code))) _ (sym (c .before .before .before .check-vowels .ensures) ∙ ap fault-place (c .before .at .given .1))
+    let told = sym (c .before .before .before .check-vowels .ensures) ∙ ap fault-place (c .before .at .given .1) in
+    faulty 4 (vowel-fault (now (a .vowels))) (by-code (now (a .code))) _ told
 
 returns-2 : tie.Need-returns-2
 unfolding by-vowels fault-place
 returns-2 c =
     let a = c .before .before .before .before .before .before .args in
-    c .check-code .ensures ∙ faultless 4 (vowel-fault (now (a .vowels))) (by-code (now (a .code))) (sym (c .before .before .before .check-vowels .ensures) ∙ ap fault-place (c .before .enum-told .given .1))
+    let told = sym (c .before .before .before .check-vowels .ensures) ∙ ap fault-place (c .before .enum-told .given .1) in
+    c .check-code .ensures ∙ faultless 4 (vowel-fault (now (a .vowels))) (by-code (now (a .code))) told
 
 pub check-vowels-spec : {M : Type 1} → statement M
 check-vowels-spec =

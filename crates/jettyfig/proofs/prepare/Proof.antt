@@ -3,7 +3,7 @@ use mathlib.Core.Path.{refl}
 use denote.Ref.{now}
 use Rattle.definition.specs.Accepted.{accepted-of}
 use Rattle.jettyfig.specs.Verdicts.{given}
-use Rattle.jettyfig.proofs.Prepared.{world, world-lined, world-told, prepared, own}
+use Rattle.jettyfig.proofs.Prepared.{world, world-lined, prepared, own}
 use borrow.Author.Needs.{needs}
 use Rattle.jettyfig.proofs.prepare.Statement.{statement}
 use Rattle.jettyfig.proofs.prepare.Tie as tie
@@ -16,7 +16,7 @@ make-ready-requires c κs =
     let s = c .before .before .before .before .before .before .before .before .before .before in
     let a = s .args in
     let i = given (a .mode) (now (a .rules)) (now (a .classes)) (now (a .vowels)) (now (a .code)) (now (a .text)) 0 0 0 in
-    (accepted-of i (s .pre .0) .classes, refl)
+    let q = accepted-of i (s .pre .0) in (q .rules, q .classes, refl)
 
 slice-aggregate-romanize : tie.Need-slice-aggregate-romanize
 slice-aggregate-romanize c = search needs
@@ -29,10 +29,10 @@ romanize-requires c κs =
     let p = s .pre in
     let i = given (a .mode) (now (a .rules)) (now (a .classes)) (now (a .vowels)) (now (a .code)) (now (a .text)) 0 0 0 in
     let q = accepted-of i (p .0) in (
-      prepared i (p .0) _ (m .make-ready .ensures),
+      prepared i (p .0) _ (m .make-ready .ensures .1),
       q .vowels,
       own i (p .0) (now (a .line)) (p .1),
-      record { world = world i (p .0); told = world-told i (p .0) _ (m .make-ready .ensures); lined = world-lined i (p .0) (now (a .line)) (p .1) },
+      record { world = world i (p .0); told = m .make-ready .ensures .0; lined = world-lined i (p .0) (now (a .line)) (p .1) },
       q .mode,
       p .2,
     )
@@ -54,7 +54,7 @@ returns c =
     let a = s .args in
     let p = s .pre in
     let i = given (a .mode) (now (a .rules)) (now (a .classes)) (now (a .vowels)) (now (a .code)) (now (a .text)) 0 0 0 in
-    r .romanize .ensures (world i (p .0)) (world-told i (p .0) _ (m .make-ready .ensures)) (world-lined i (p .0) (now (a .line)) (p .1))
+    r .romanize .ensures (world i (p .0)) (m .make-ready .ensures .0) (world-lined i (p .0) (now (a .line)) (p .1))
 
 pub prepare-spec : {M : Type 1} → statement M
 prepare-spec =

@@ -111,7 +111,7 @@ returns-3 c =
     let i = given (a .mode) (now (a .rules)) (now (a .classes)) (now (a .vowels)) (now (a .code)) (now (a .text)) (length (now (a .slots))) (length (now (a .room))) (length (now (a .out))) in
     let g = c .before .enum-told .given in
     ap (λ x. returned x (now (a .out))) (c .refuse2 .ensures)
-    ∙ as-refused i (now (a .out)) (s .pre .1) 7 512 ∙ read-refused i (refuse 7 512) (sym (l .lay-out .ensures .0) ∙ ap refused (g .1))
+    ∙ as-refused i (now (a .out)) (s .pre .1) 7 most-characters ∙ read-refused i (refuse 7 most-characters) (sym (l .lay-out .ensures .0) ∙ ap refused (g .1))
 
 returns-4 : tie.Need-returns-4
 unfolding refused

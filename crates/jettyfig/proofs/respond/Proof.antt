@@ -12,6 +12,10 @@ use borrow.Author.Needs.{needs}
 use Rattle.jettyfig.proofs.respond.Statement.{statement}
 use Rattle.jettyfig.proofs.respond.Tie as tie
 
+-- where the function begins
+abbrev start : tie.After-clear → tie.Start
+start z = z .before .before .before .before .before .before .before .before .before .before
+
 clear-requires : tie.Need-clear-requires
 clear-requires c κs = search needs
 
@@ -29,22 +33,26 @@ enum-told c = search needs
 
 read-requires : tie.Need-read-requires
 read-requires c κs =
-    let a = c .before .before .before .before .before .before .before .before .before .before .before .before .before .before .before .before .before .before .args in
-    let k = c .before .before .before .before .before .before .before .before .clear .ensures in
+    let z = c .before .before .before .before .before .before .before .before in
+    let a = start z .args in
+    let k = z .clear .ensures in
     let r = c .before .before .before .before .before .check .ensures in
-    (sym r ∙ ap refusal-of (c .before .before .before .enum-told .given .1), k ∙ ap (λ (m : ℕ). replicate {A = ℕ} m 0) (sym (ap length k ∙ length-replicate (length (now (a .out))) 0)))
+    let long = ap length k ∙ length-replicate (length (now (a .out))) 0 in
+    (sym r ∙ ap refusal-of (c .before .before .before .enum-told .given .1), k ∙ ap (λ (m : ℕ). replicate {A = ℕ} m 0) (sym long))
 
 same-length : tie.Need-same-length
 same-length c = search needs
 
 returns : tie.Need-returns
 returns c =
-    let a = c .before .before .before .before .before .before .before .before .before .before .before .before .before .before .before .before .before .args in
-    let i = given (a .mode) (now (a .rules)) (now (a .classes)) (now (a .vowels)) (now (a .code)) (now (a .text)) (length (now (a .slots))) (length (now (a .room))) (length (now (a .out))) in
-    let k = c .before .before .before .before .before .before .before .clear .ensures in
+    let z = c .before .before .before .before .before .before .before in
+    let a = start z .args in
+    let i = given (a .mode) (now (a .rules)) (now (a .classes)) (now (a .vowels)) (now (a .code)) (now (a .text))
+    (length (now (a .slots))) (length (now (a .room))) (length (now (a .out))) in
+    let k = z .clear .ensures in
     let r = c .before .before .before .before .check .ensures in
     let g = c .before .before .number .given in
-    let out = c .before .before .before .before .before .before .before .clear .last .0 in
+    let out = z .clear .last .0 in
     ap (λ x. returned x out) (c .refuse .ensures)
     ∙ as-refused i out k (g .0 .0) (g .0 .1 .0) ∙ check-refused i (refuse (g .0 .0) (g .0 .1 .0)) (sym r ∙ ap refusal-of (g .1))
 
@@ -59,13 +67,15 @@ same-length-4 c = search needs
 
 returns-2 : tie.Need-returns-2
 returns-2 c =
-    let a = c .before .before .before .before .before .before .before .before .before .before .before .before .before .before .before .before .before .before .before .before .before .before .before .before .before .args in
+    let v = c .before .before .before .before .before .before .before .before .before .before in
+    let z = v .before .before .before .before .before in
+    let a = start z .args in
     let of : ℕ → Inputs = λ m. given (a .mode) (now (a .rules)) (now (a .classes)) (now (a .vowels)) (now (a .code)) (now (a .text)) (length (now (a .slots))) (length (now (a .room))) m in
-    let k = c .before .before .before .before .before .before .before .before .before .before .before .before .before .before .before .clear .ensures in
-    let r = c .before .before .before .before .before .before .before .before .before .before .before .before .check .ensures in
+    let k = z .clear .ensures in
+    let r = v .before .before .check .ensures in
     c .before .before .before .before .before .before .read .ensures
     ∙ ap (λ (m : ℕ). unless-refused (of m) (text-refusal (now (a .text)))) (ap length k ∙ length-replicate (length (now (a .out))) 0)
-    ∙ check-right (of (length (now (a .out)))) (sym r ∙ ap refusal-of (c .before .before .before .before .before .before .before .before .before .before .enum-told .given .1))
+    ∙ check-right (of (length (now (a .out)))) (sym r ∙ ap refusal-of (v .enum-told .given .1))
 
 pub respond-spec : {M : Type 1} → statement M
 respond-spec =

@@ -16,10 +16,10 @@ use Rattle.places.specs.Shows.{memory}
 use Rattle.edge.specs.declared.Added.{Added}
 use Rattle.definition.specs.Tables.{Tables}
 use mathlib.Core.Option.{some}
-use Rattle.lattice.specs.Starts.{Standing}
+use Rattle.passes.specs.Reached.{Over, nothing, with-edges, Reached}
+use Rattle.second_pass.specs.Starts.{Standing}
 use Rattle.output.specs.declared.Built.{Built}
 use Rattle.output.specs.Whole.{Whole}
-use Rattle.lattice.specs.Reached.{Over, nothing, with-edges, Reached}
 use Rattle.jettyfig.specs.Verdicts.{given, returned}
 use Rattle.jettyfig.specs.Calls.{refusing, as-refused, built-refused}
 use Rattle.jettyfig.proofs.Wholes.{cut-zeros, zeros-long, back-is, back-inside, back-long, first-over, built-lent, built-whole, built-written}
@@ -33,6 +33,9 @@ start z = z .before .before .before .before .before .before .before .before .bef
 
 abbrev sized : tie.After-build-lattice → tie.After-text-len
 sized b = b .before .before .before .before .before .before .before
+
+abbrev made : tie.After-count → tie.After-build-lattice
+made d = d .before .before .before .before .before .before .before .before
 
 -- Zeros are cut to one for each character and one for the end
 module _ (z : tie.After-text-len) (zeros : List ℕ) (e : zeros ≡ replicate (most-characters + 1) 0) where
@@ -155,7 +158,7 @@ array-borrow-prefix-places-2 c =
 
 slice-aggregate-show : tie.Need-slice-aggregate-show
 slice-aggregate-show c =
-    let b = c .before .before .before .before .before .before .before .before .before .before .before .before in
+    let b = made (c .before .before .before .before) in
     let z = sized b in
     let y = b .before .before .before .before .before .before .no-entries in
     let x = b .build-lattice in
@@ -164,7 +167,7 @@ slice-aggregate-show c =
 
 array-share-prefix-starts : tie.Need-array-share-prefix-starts
 array-share-prefix-starts c =
-    let b = c .before .before .before .before .before .before .before .before .before .before .before .before in
+    let b = made (c .before .before .before .before) in
     let z = sized b in
     let y = b .before .before .before .before .before .no-entries2 in
     let x = b .build-lattice in
@@ -173,7 +176,7 @@ array-share-prefix-starts c =
 
 slice-aggregate-show-2 : tie.Need-slice-aggregate-show-2
 slice-aggregate-show-2 c =
-    let b = c .before .before .before .before .before .before .before .before .before .before .before .before .before in
+    let b = made (c .before .before .before .before .before) in
     let z = sized b in
     let y = b .before .before .before .before .before .no-entries2 in
     let x = b .build-lattice in
@@ -183,7 +186,7 @@ slice-aggregate-show-2 c =
 show-requires : tie.Need-show-requires
 unfolding tables-of
 show-requires c κs =
-    let b = c .before .before .before .before .before .before .before .before .before .before .before .before .before .before in
+    let b = made (c .before .before .before .before .before .before) in
     let z = sized b in
     let k = start z in
     let a = k .args in
@@ -235,7 +238,7 @@ same-length-3 c = search needs
 returns : tie.Need-returns
 unfolding tables-of
 returns c =
-    let b = c .before .before .before .before .before .before .before .before .before .before .before .before .before .before .before .before .before .before .before .before in
+    let b = made (c .before .before .before .before .before .before .before .before .before .before .before .before) in
     let z = sized b in
     let k = start z in
     let a = k .args in

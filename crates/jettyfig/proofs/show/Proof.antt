@@ -7,6 +7,10 @@ use borrow.Author.Needs.{needs}
 use Rattle.jettyfig.proofs.show.Statement.{statement}
 use Rattle.jettyfig.proofs.show.Tie as tie
 
+-- where the function begins
+abbrev start : tie.After-slice-known3 → tie.Start
+start s = s .before .before .before .before .before .before .before .before .before
+
 put-shown-requires : tie.Need-put-shown-requires
 put-shown-requires c κs = search needs
 
@@ -28,7 +32,7 @@ same-length-3 c = search needs
 returns : tie.Need-returns
 returns c =
     let x = c .before .before .before .before .before .before .before .before .before .before .before .before in
-    let k = x .before .before .before .before .before .before .before .before .before .before .before .before .before in
+    let k = start (x .before .before .before .before) in
     λ i l vowels w told lent e. ap (λ r. returned r (c .before .before .before .clear .last .0)) (c .refuse .ensures)
     ∙ shown-misses _ _ _ _ (x .put-shown .ensures vowels w told lent e) (k .pre .1) i l (k .args .built .count) _ (c .before .before .before .clear .ensures) (omega arith)
 
@@ -44,7 +48,7 @@ same-length-6 c = search needs
 returns-2 : tie.Need-returns-2
 returns-2 c =
     let x = c .before .before .before .before .before .before .before in
-    let k = x .before .before .before .before .before .before .before .before .before .before .before .before .before in
+    let k = start (x .before .before .before .before) in
     λ i l vowels w told lent e. shown-fits _ _ _ _ (x .put-shown .ensures vowels w told lent e) (k .pre .1) i l (k .args .built .count) (omega arith)
 
 pub show-spec : {M : Type 1} → statement M

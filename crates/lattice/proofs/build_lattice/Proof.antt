@@ -1,25 +1,51 @@
 -- `lattice::build_lattice`: the fallbacks come behind the first pass; a refusal of either is the whole's.
-use mathlib.Core.Path.{sym, ap, _∙_, subst}
-use Prim.Native.Nat.{_+_, _*_}
+use mathlib.Core.Path.{_≡_, sym, ap, _∙_, subst}
+use Prim.Native.Nat.{ℕ, _+_, _*_}
 use native.Mathlib.Omega.{arith}
 use denote.Ref.{now}
 use Rattle.definition.specs.Limits.{most-source, most-bytes, most-edges, most-characters}
+use Rattle.definition.specs.Tables.{Tables}
 use Rattle.definition.specs.Edges.{Mem, State}
-use Rattle.definition.specs.Building.{each, build, fall}
+use Rattle.definition.specs.Building.{each, build, fall, lattice}
 use Rattle.definition.specs.Growth.{each-grown, fall-grown}
 use Rattle.definition.specs.Call.{tables-of}
-use Rattle.edge.specs.declared.Filled.{Filled}
-use Rattle.words.specs.Given.{kinds, size, size-in, line-size}
-use Rattle.lattice.specs.Reached.{state-of, with-edges, over-now, Reached, Refused, reached-wide, reached-refused, reached-as, reached-since}
-use Rattle.lattice.specs.Starts.{Began, Standing, Lattice}
-use Rattle.lattice.proofs.Passes.{whole-lattice}
+use Rattle.edge.specs.declared.Added.the-variants.{Fits}
+use Rattle.words.specs.Given.{World, kinds, size, size-in, line-size}
+use Rattle.passes.specs.Reached.{nothing, Over, state-of, with-edges, over-now, Reached, Refused}
+use Rattle.passes.specs.Reached.{reached-wide, reached-refused, reached-as, reached-since}
+use Rattle.passes.specs.Starts.{Began}
+use Rattle.second_pass.specs.Starts.{Standing}
+use Rattle.lattice.specs.Lattice.{Lattice}
+use Rattle.lattice.proofs.Whole.{whole-lattice}
 use borrow.Author.Needs.{needs}
 use Rattle.lattice.proofs.build_lattice.Statement.{statement}
 use Rattle.lattice.proofs.build_lattice.Tie as tie
 
--- where the function began
+-- where the function began, and the first pass as it answered
 abbrev start : tie.After-add-romanization → tie.Start
-start b = b .before .before .before .before .before .before .before .before .before .before .before .before .before .before .before
+start b =
+    let k = b .before .before .before .before .before in
+    k .before .before .before .before .before .before .before .before .before .before
+
+abbrev passed : tie.After-done → tie.After-add-romanization
+passed m = m .before .before .before .before .before .before .before .before .before .before
+
+-- what was lent stands for this world
+abbrev Lent-in : tie.After-add-romanization → World → Type 0
+Lent-in b w =
+    let a = start b .args in
+    Over w (now (a .ready)) (now (a .line)) (now (a .slots)) (now (a .room)) (now (a .places)) nothing
+
+abbrev D : tie.After-add-romanization → World → Tables
+D b w = let a = start b .args in tables-of (now (a .rules)) (w .classes) (now (a .vowels)) (now (a .code))
+
+-- what the definition's first pass leads to
+abbrev built : tie.After-add-romanization → World → State
+built b w = each (build (D b w) (w .text)) (size w) 0 (state-of w (now (start b .args .places)))
+
+-- its second pass from there makes the lattice
+whole : (b : tie.After-add-romanization) (w : World) → Lent-in b w → each (fall (D b w) (w .text)) (size w) 0 (built b w) ≡ lattice (D b w) (w .text)
+whole b w o = whole-lattice (D b w) o (size-in (now (start b .args .line)) + 1) (start b .pre .4) (omega (arith, line-size (o .lent .text)))
 
 -- An edge of the first pass that doesn't fit is the whole lattice's refusal.
 stops : (b : tie.After-add-romanization) → Refused (b .add-romanization .result)
@@ -27,16 +53,39 @@ stops : (b : tie.After-add-romanization) → Refused (b .add-romanization .resul
     (now (start b .args .slots), now (start b .args .room), now (start b .args .places))
     (b .add-romanization .last .1 .1 .1 .1 .1 .0, b .add-romanization .last .1 .1 .1 .1 .1 .1 .0, b .add-romanization .last .1 .1 .1 .1 .1 .1 .1 .0)
     (b .add-romanization .result)
-unfolding tables-of
 stops b q = λ w o.
-    let a = start b .args in
     let x = b .add-romanization in
-    let D = tables-of (now (a .rules)) (w .classes) (now (a .vowels)) (now (a .code)) in
-    let first : State = each (build D (w .text)) (size w) 0 (state-of w (now (a .places))) in
-    let is = whole-lattice D o (size-in (now (a .line)) + 1) (start b .pre .4) (omega (arith, line-size (o .lent .text))) in
-    reached-as _ is (x .result)
-    (reached-refused (λ y. Unit {0}) (most-edges * most-characters * most-bytes) (each (fall D (w .text)) (size w) 0 first)
-    (each-grown (fall D (w .text)) 1 (fall-grown D (w .text)) (size w) 0 first .added) (x .result) q (x .ensures .0 w o))
+    let f = fall (D b w) (w .text) in
+    reached-as _ (whole b w o) (x .result)
+    (reached-refused (most-edges * most-characters * most-bytes) (each f (size w) 0 (built b w))
+    (each-grown f 1 (fall-grown (D b w) (w .text)) (size w) 0 (built b w) .added) (x .result) q (x .ensures .0 w o))
+
+-- The edges of the first pass fitted, in a world that the function began in.
+module _ (m : tie.After-done) (w : World) (o : Lent-in (passed m) w) where
+  abbrev count : ℕ
+  count = m .done .given .0 .0
+
+  abbrev used : ℕ
+  used = m .done .given .0 .1 .0
+
+  fits : Reached (kinds w) (size w) (now (start (passed m) .args .slots)) (now (start (passed m) .args .room))
+      (passed m .add-romanization .last .1 .1 .1 .1 .1 .0) (passed m .add-romanization .last .1 .1 .1 .1 .1 .1 .0)
+      (passed m .add-romanization .last .1 .1 .1 .1 .1 .1 .1 .0) (size-in (now (start (passed m) .args .line)) * (most-source * most-bytes))
+      (built (passed m) w) (Fits count used)
+  fits =
+      let b = passed m in
+      let a = start b .args in
+      let x = b .add-romanization .last .1 .1 .1 .1 .1 in
+      subst (Reached (kinds w) (size w) (now (a .slots)) (now (a .room)) (x .0) (x .1 .0) (x .1 .1 .0) (size-in (now (a .line)) * (most-source * most-bytes)) (built b w))
+      (m .done .given .1) (b .add-romanization .ensures .0 w o)
+
+  -- the second pass is lent them
+  over : Over (with-edges w (built (passed m) w .0)) (now (start (passed m) .args .ready)) (now (start (passed m) .args .line))
+      (passed m .add-romanization .last .1 .1 .1 .1 .1 .0) (passed m .add-romanization .last .1 .1 .1 .1 .1 .1 .0)
+      (passed m .add-romanization .last .1 .1 .1 .1 .1 .1 .1 .0) (record { count = count; used = used; since = count })
+  over =
+      let x = passed m .add-romanization .last .1 .1 .1 .1 .1 in
+      over-now (o .told) (o .lent .text) (x .0) (x .1 .0) (x .1 .1 .0) (record { count = count; used = used; since = count }) (built (passed m) w) (fits .came .0)
 
 add-romanization-requires : tie.Need-add-romanization-requires
 add-romanization-requires c κs = search needs
@@ -45,31 +94,21 @@ enum-known-done : tie.Need-enum-known-done
 enum-known-done c = search needs
 
 add-rom-fall-back-singles-requires : tie.Need-add-rom-fall-back-singles-requires
-unfolding tables-of
 add-rom-fall-back-singles-requires c κs =
-    let b = c .before .before .before .before .before .before .before .before .before .before .before .before .before .before .before in
-    let k = start b in
-    let a = k .args in
-    let p = k .pre in
-    let n = size-in (now (a .line)) in
-    let d = c .before .before .before .before .before .done .given in
+    let m = c .before .before .before .before .before in
+    let b = passed m in
+    let p = start b .pre in
     let w = p .3 .world in
     let o = p .3 .over in
     let x = b .add-romanization in
-    let S = x .last .1 .1 .1 .1 .1 .0 in
-    let R = x .last .1 .1 .1 .1 .1 .1 .0 in
-    let P = x .last .1 .1 .1 .1 .1 .1 .1 .0 in
-    let D = tables-of (now (a .rules)) (w .classes) (now (a .vowels)) (now (a .code)) in
-    let first : State = each (build D (w .text)) (size w) 0 (state-of w (now (a .places))) in
-    let came = subst (Reached (kinds w) (size w) (now (a .slots)) (now (a .room)) S R P (n * (most-source * most-bytes)) first) (d .1) (x .ensures .0 w o) .came in
-    let F : Filled = record { count = d .0 .0; used = d .0 .1 .0; since = d .0 .0 } in
     let few = o .lent .text .few in
-    let used = came .1 in (
+    let most = fits m w o .came .1 in (
       p .0,
       p .2,
-      omega (arith, used, few, line-size (o .lent .text)),
-      record { world = with-edges w (first .0); over = over-now (o .told) (o .lent .text) S R P F first (came .0) },
-      subst (Began S R n (x .last .1 .1 .1 .1 .1 .1 .1 .1 .0)) (d .1) (x .ensures .1),
+      omega (arith, most, few, line-size (o .lent .text)),
+      record { world = with-edges w (built b w .0); over = over m w o },
+      subst (Began (x .last .1 .1 .1 .1 .1 .0) (x .last .1 .1 .1 .1 .1 .1 .0) (size-in (now (start b .args .line))) (x .last .1 .1 .1 .1 .1 .1 .1 .1 .0))
+          (m .done .given .1) (x .ensures .1),
     )
 
 enum-told : tie.Need-enum-told
@@ -93,33 +132,20 @@ same-length-4 c = search needs
 returns : tie.Need-returns
 unfolding tables-of
 returns c =
-    let y = c .before .before .before .before .before .before .before .before .add-rom-fall-back-singles in
-    let q = c .before .before .before .before .before .before .before .before .before in
-    let b = q .before .before .before .before .before .before .before .before .before .before .before .before .before .before .before in
-    let k = start b in
-    let a = k .args in
-    let p = k .pre in
-    let n = size-in (now (a .line)) in
-    let d = q .before .before .before .before .before .done .given in
-    let x = b .add-romanization in
-    let S = x .last .1 .1 .1 .1 .1 .0 in
-    let R = x .last .1 .1 .1 .1 .1 .1 .0 in
-    let P = x .last .1 .1 .1 .1 .1 .1 .1 .0 in
-    let F : Filled = record { count = d .0 .0; used = d .0 .1 .0; since = d .0 .0 } in (
+    let s = c .before .before .before .before .before .before .before .before in
+    let y = s .add-rom-fall-back-singles in
+    let m = s .before .before .before .before .before .before in
+    let b = passed m in
+    let a = start b .args in (
       λ w o.
-          let D = tables-of (now (a .rules)) (w .classes) (now (a .vowels)) (now (a .code)) in
-          let t = w .text in
-          let first : State = each (build D t) (size w) 0 (state-of w (now (a .places))) in
-          let sized = line-size (o .lent .text) in
-          let is = whole-lattice D o (n + 1) (p .4) (omega (arith, sized)) in
+          let r = fits m w o in
           let few = o .lent .text .few in
-          let b = subst (Reached (kinds w) (size w) (now (a .slots)) (now (a .room)) S R P (n * (most-source * most-bytes)) first) (d .1) (x .ensures .0 w o) in
-          let z = y .ensures .0 (now (a .vowels)) (with-edges w (first .0)) (over-now (o .told) (o .lent .text) S R P F first (b .came .0)) in
-          let same = ap (λ (m : Mem). each (fall D t) (size w) 0 (first .0, m)) (b .came .0 .remembered) in
-          let used = b .came .1 in
-          reached-as _ (same ∙ is) (y .result)
-          (reached-wide (most-edges * most-characters * most-bytes) (omega (arith, used, few, sized)) (y .result)
-          (reached-since (now (a .slots)) (now (a .room)) (b .slots) (b .room) (y .result) z)),
+          let used = r .came .1 in
+          reached-as _
+          (ap (λ (n : Mem). each (fall (D b w) (w .text)) (size w) 0 (built b w .0, n)) (r .came .0 .remembered) ∙ whole b w o) (y .result)
+          (reached-wide (most-edges * most-characters * most-bytes) (omega (arith, used, few, line-size (o .lent .text))) (y .result)
+          (reached-since (now (a .slots)) (now (a .room)) (r .slots) (r .room) (y .result)
+          (y .ensures .0 (now (a .vowels)) (with-edges w (built b w .0)) (over m w o)))),
       y .ensures .1,
     )
 

@@ -12,26 +12,24 @@ use Rattle.definition.specs.Offers.{found-all}
 use Rattle.definition.specs.Bounds.{Sound}
 use Rattle.definition.specs.Call.{tables-of}
 use Rattle.base.specs.Alls.{All}
-use Rattle.edge.specs.Asked.{stored-readable}
 use Rattle.places.specs.Shows.{memory}
 use Rattle.standing.specs.Starts.{end-of}
 use Rattle.listing.specs.Items.{put-items, put-items-append}
 use Rattle.words.specs.Given.{size, line-size}
+use Rattle.output.specs.Whole.{whole-laid}
 use Rattle.output.specs.Shows.{lists-all, lists-alternatives, lists-path}
 use borrow.Author.Needs.{needs}
 use Rattle.output.proofs.put_rows.Statement.{statement}
 use Rattle.output.proofs.put_rows.Tie as tie
 
+-- where the function begins
+abbrev start : tie.After-struct-known → tie.Start
+start k = k .before .before .before .before .before .before .before .before .before .before
+
 put-all-edges-requires : tie.Need-put-all-edges-requires
 put-all-edges-requires c κs =
-    let q = c .before .before .before .before .before .before .before .before .before .before .before .before .before in
-    let a = q .args in
-    let h = q .pre in
-    let S = now (a .slots) in
-    let R = now (a .room) in
-    let n = h .short in
-    let long = h .sized in
-    (stored-readable S R (a .built .count) (a .built .used) (h .stored), h .stands, h .few, omega (arith, n, long), omega arith)
+    let h = start (c .before .before .before) .pre in
+    (whole-laid h, h .few, omega arith)
 
 same-length : tie.Need-same-length
 same-length c = search needs
@@ -41,7 +39,7 @@ same-length-2 c = search needs
 
 returns : tie.Need-returns
 returns c =
-    let q = c .before .before .before .before .before .before .before .before .before .before .before .before .before .before .before .before in
+    let q = start (c .before .before .before .before .before .before) in
     let a = q .args in
     let h = q .pre in
     λ vowels w told lent e.
@@ -53,21 +51,11 @@ returns c =
     ∙ sym (ap (λ (l : List Edge). put-items true l (5, now (a .out))) (lists-all D (w .text) n long (a .built .mode) (w .edges) m (omega arith)))
 
 put-path-requires : tie.Need-put-path-requires
-put-path-requires c κs =
-    let q = c .before .before .before .before .before .before .before .before .before .before .before .before .before in
-    let a = q .args in
-    let h = q .pre in
-    let S = now (a .slots) in
-    let R = now (a .room) in
-    let n = h .short in
-    let long = h .sized in
-    (stored-readable S R (a .built .count) (a .built .used) (h .stored), h .stands, omega (arith, n, long), omega arith)
+put-path-requires c κs = (whole-laid (start (c .before .before .before) .pre), omega arith)
 
 put-alternatives-requires : tie.Need-put-alternatives-requires
 put-alternatives-requires c κs =
-    let q = c .before .before .before .before .before .before .before .before .before .before .before .before .before .before .before .before .before .before .before .before .before in
-    let a = q .args in
-    let h = q .pre in
+    let h = start (c .before .before .before .before .before .before .before .before .before .before .before) .pre in
     let end = c .before .before .before .before .before .before .before .put-path .ensures .1 in
     let short = h .short in
     let long = h .sized in
@@ -87,7 +75,7 @@ unfolding tables-of
 returns-2 c =
     let g = c .before .before .before .before .before .before in
     let f = g .before .before .before .before .before .before .before .before in
-    let q = f .before .before .before .before .before .before .before .before .before .before .before .before .before .before in
+    let q = start (f .before .before .before .before) in
     let a = q .args in
     let h = q .pre in
     λ vowels w told lent e.
@@ -98,11 +86,12 @@ returns-2 c =
     let ps = path-from n 0 (w .edges) in
     let fs = found-all (lexicon D) (w .text) (view (D .classes) (w .edges)) m ps in
     let path = ap (λ (k : ℕ). path-from k 0 (w .edges)) long in
+    let mode = g .before .before .before .before .if2 .taken in
     g .put-alternatives .ensures w told lent e
     ∙ ap (λ (l : List Edge). put-items true (found-all (lexicon D) (w .text) (view (D .classes) (w .edges)) m l) (f .put-path .result, f .put-path .last .0)) path
     ∙ ap (put-items true fs) (f .put-path .ensures .0 ∙ ap (λ (es : List Edge). put-items true (path-from n 0 es) (5, now (a .out))) e)
     ∙ sym (put-items-append true ps fs (5, now (a .out)))
-    ∙ sym (ap (λ (l : List Edge). put-items true l (5, now (a .out))) (lists-alternatives D (w .text) n long (a .built .mode) (w .edges) m (omega (arith, g .before .before .before .before .if2 .taken))
+    ∙ sym (ap (λ (l : List Edge). put-items true l (5, now (a .out))) (lists-alternatives D (w .text) n long (a .built .mode) (w .edges) m (omega (arith, mode))
     (subst (λ (k : ℕ). All (Sound k) (w .edges)) (omega (arith, h .sized)) (subst (All (Sound _)) e (h .sound)))))
 
 same-length-6 : tie.Need-same-length-6
@@ -113,7 +102,7 @@ same-length-7 c = search needs
 
 returns-3 : tie.Need-returns-3
 returns-3 c =
-    let q = c .before .before .before .before .before .before .before .before .before .before .before .before .before .before .before .before .before .before in
+    let q = start (c .before .before .before .before .before .before .before .before) in
     let a = q .args in
     let h = q .pre in
     λ vowels w told lent e.

@@ -9,26 +9,22 @@ use Rattle.definition.specs.Edges.{Edge, State}
 use Rattle.definition.specs.Paths.{joined, path-from, path-of}
 use Rattle.definition.specs.Utf8.{encoded}
 use Rattle.definition.specs.Call.{tables-of}
-use Rattle.edge.specs.Asked.{stored-readable}
 use Rattle.places.specs.Shows.{memory}
 use Rattle.standing.specs.Starts.{end-of}
 use Rattle.listing.specs.Items.{put-items}
 use Rattle.words.specs.Given.{size, line-size}
+use Rattle.output.specs.Whole.{whole-laid}
 use Rattle.output.specs.Shows.{Shows, listed, shown-string, shown-listed, shows-string, rows-end, shows-listing}
 use borrow.Author.Needs.{needs}
 use Rattle.output.proofs.put_shown.Statement.{statement}
 use Rattle.output.proofs.put_shown.Tie as tie
 
+-- where the function begins
+abbrev start : tie.After-struct-known → tie.Start
+start k = k .before .before .before .before .before .before .before .before .before .before
+
 put-path-requires : tie.Need-put-path-requires
-put-path-requires c κs =
-    let q = c .before .before .before .before .before .before .before .before .before .before .before .before .before in
-    let a = q .args in
-    let h = q .pre in
-    let S = now (a .slots) in
-    let R = now (a .room) in
-    let n = h .short in
-    let long = h .sized in
-    (stored-readable S R (a .built .count) (a .built .used) (h .stored), h .stands, omega (arith, n, long), omega arith)
+put-path-requires c κs = (whole-laid (start (c .before .before .before) .pre), omega arith)
 
 same-length : tie.Need-same-length
 same-length c = search needs
@@ -39,7 +35,7 @@ same-length-2 c = search needs
 returns : tie.Need-returns
 unfolding path-of
 returns c =
-    let q = c .before .before .before .before .before .before .before .before .before .before .before .before .before .before .before .before in
+    let q = start (c .before .before .before .before .before .before) in
     let a = q .args in
     let h = q .pre in
     let p = c .before .before .put-path in
@@ -59,7 +55,7 @@ put-rows-requires c κs = search needs
 put-head-requires : tie.Need-put-head-requires
 put-head-requires c κs =
     let r = c .before .before .before .before .before .before .before in
-    let q = r .before .before .before .before .before .before .before .before .before .before .before .before .before .before .before in
+    let q = start (r .before .before .before .before .before) in
     let a = q .args in
     let h = q .pre in
     let w = h .world in
@@ -79,7 +75,7 @@ same-length-5 c = search needs
 returns-2 : tie.Need-returns-2
 returns-2 c =
     let r = c .before .before .before .before .before .before .before .before .before .before in
-    let q = r .before .before .before .before .before .before .before .before .before .before .before .before .before .before .before in
+    let q = start (r .before .before .before .before .before) in
     let a = q .args in
     let p = r .put-rows in
     let y = c .before .before .put-head in

@@ -6,8 +6,7 @@ use lib.Dec.{ltb}
 use lib.ListN.{drop}
 use denote.Ref.{now}
 use borrow.Author.Tests.{eq-eqb, ne-eqb, lt-ltb, le-ltb}
-use Rattle.base.specs.Big.{be2}
-use Rattle.edge.specs.Slots.{edge-by, numbers-of}
+use Rattle.edge.specs.Slots.{from-of, to-of, edge-by, numbers-of}
 use Rattle.paths.specs.Orders.{farther}
 use borrow.Author.Needs.{needs}
 use Rattle.paths.proofs.is_farther.Statement.{statement}
@@ -24,7 +23,7 @@ unfolding farther edge-by numbers-of
 returns c =
     let a = c .before .before .before .args in
     let s = drop (a .slot) (now (a .slots)) in λ room.
-    sym (ap (λ (b : Bool). b && ltb (be2 s 2) (a .bound) && ltb (a .best) (be2 s 2)) (ne-eqb (be2 s 0) (a .p) (λ e. omega (arith, e))))
+    sym (ap (λ (b : Bool). b && ltb (to-of s) (a .bound) && ltb (a .best) (to-of s)) (ne-eqb (from-of s) (a .p) (λ e. omega (arith, e))))
 
 two-requires-2 : tie.Need-two-requires-2
 two-requires-2 c κs = search needs
@@ -37,9 +36,9 @@ unfolding farther edge-by numbers-of
 returns-2 c =
     let a = c .before .before .before .before .before .args in
     let s = drop (a .slot) (now (a .slots)) in
-    let t = be2 s 2 in λ room.
+    let t = to-of s in λ room.
     ap (ltb (a .best)) (c .before .two2 .ensures .0)
-    ∙ sym (ap (λ (b : Bool). b && ltb t (a .bound) && ltb (a .best) t) (eq-eqb (be2 s 0) (a .p) (omega arith))
+    ∙ sym (ap (λ (b : Bool). b && ltb t (a .bound) && ltb (a .best) t) (eq-eqb (from-of s) (a .p) (omega arith))
     ∙ ap (λ (b : Bool). b && ltb (a .best) t) (lt-ltb t (a .bound) (omega arith)))
 
 returns-3 : tie.Need-returns-3
@@ -47,9 +46,9 @@ unfolding farther edge-by numbers-of
 returns-3 c =
     let a = c .before .before .before .before .before .args in
     let s = drop (a .slot) (now (a .slots)) in
-    let t = be2 s 2 in λ room.
+    let t = to-of s in λ room.
     le-ltb (c .before .two2 .result) (a .bound) (omega arith)
-    ∙ sym (ap (λ (b : Bool). b && ltb t (a .bound) && ltb (a .best) t) (eq-eqb (be2 s 0) (a .p) (omega arith))
+    ∙ sym (ap (λ (b : Bool). b && ltb t (a .bound) && ltb (a .best) t) (eq-eqb (from-of s) (a .p) (omega arith))
     ∙ ap (λ (b : Bool). b && ltb (a .best) t) (le-ltb t (a .bound) (omega arith)))
 
 pub is-farther-spec : {M : Type 1} → statement M

@@ -8,6 +8,7 @@ use lib.ListN.{length}
 use denote.Ref.{now}
 use Rattle.definition.specs.Paths.{sorted}
 use Rattle.edge.specs.Slots.{edges-of}
+use Rattle.listing.specs.Sizes.{start-most}
 use Rattle.listing.specs.Items.{put-items}
 use Rattle.standing.specs.Starts.{end-of}
 use Rattle.paths.proofs.Turns.{sorted-on}
@@ -18,13 +19,13 @@ use Rattle.paths.proofs.put_all_edges.Tie as tie
 abbrev Inv-loop : tie.InvT-loop
 Inv-loop out₀ at slots room starts count n end₀ p₀ out end p =
     (put-items true (sorted (edges-of room count slots) (n - p) p) (end, out) ≡ put-items true (sorted (edges-of room count slots) n 0) (at, out₀))
-    × (p ≤ n) × (end ≤ at + p * 292089036807) × (length out ≡ length out₀)
+    × (p ≤ n) × (end ≤ at + p * start-most) × (length out ≡ length out₀)
 
 abbrev μ-loop : tie.MeasureT-loop
 μ-loop out₀ at slots room starts count n end₀ p₀ out end p = n - p
 
 sub-n : tie.Need-sub-n Inv-loop μ-loop
-sub-n c = let q = c .before .before .before .before in omega (arith, q .pre .1 .fallen [] .size)
+sub-n c = let q = c .before .before .before .before in omega (arith, q .pre .0 .stands .fallen [] .size)
 
 loop-holds : tie.Need-loop-holds Inv-loop μ-loop
 loop-holds c =
@@ -37,7 +38,7 @@ put-start-requires : tie.Need-put-start-requires Inv-loop μ-loop
 put-start-requires c κs =
     let q = c .before .before .before .before .before .before .before in
     let l = c .before .before .loop in
-    (q .pre .0, q .pre .1, q .pre .2, q .pre .3, omega arith, omega (arith, q .pre .3, q .pre .4, l .inv .1, l .inv .2))
+    (q .pre .0, q .pre .1, omega arith, omega (arith, q .pre .0 .short, q .pre .2, l .inv .1, l .inv .2))
 
 add-p : tie.Need-add-p Inv-loop μ-loop
 add-p c = search needs

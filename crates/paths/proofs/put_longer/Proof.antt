@@ -8,6 +8,7 @@ use denote.Ref.{now}
 use Rattle.definition.specs.Paths.{longer}
 use Rattle.edge.specs.Slots.{edges-of}
 use Rattle.edge.specs.Asked.{readable-slots}
+use Rattle.listing.specs.Sizes.{rows-most}
 use Rattle.listing.specs.Items.{Written, put-items}
 use Rattle.paths.specs.Orders.{last-from, last-before, longer-last}
 use Rattle.paths.proofs.Turns.{longer-on}
@@ -18,7 +19,7 @@ use Rattle.paths.proofs.put_longer.Tie as tie
 abbrev Inv-loop : tie.InvT-loop
 Inv-loop out₀ at slots room count n p end₀ e₀ out end e =
     (put-items true (longer (edges-of room count slots) p (e - p)) (end, out) ≡ put-items true (longer (edges-of room count slots) p (n - p)) (at, out₀))
-    × (p ≤ e) × (e ≤ n) × (end ≤ at + (n - e) * 570486272) × (length out ≡ length out₀)
+    × (p ≤ e) × (e ≤ n) × (end ≤ at + (n - e) * rows-most) × (length out ≡ length out₀)
 
 abbrev μ-loop : tie.MeasureT-loop
 μ-loop out₀ at slots room count n p end₀ e₀ out end e = e

@@ -5,8 +5,7 @@ use native.Mathlib.Omega.{arith}
 use lib.ListN.{drop}
 use denote.Ref.{now}
 use borrow.Author.Tests.{eq-eqb, ne-eqb}
-use Rattle.base.specs.Big.{be2}
-use Rattle.edge.specs.Slots.{edge-by, numbers-of, edge-of}
+use Rattle.edge.specs.Slots.{from-of, to-of, edge-by, numbers-of, edge-of}
 use Rattle.listing.specs.Items.{put-items}
 use Rattle.paths.specs.Orders.{over-from, over-to, over-one}
 use borrow.Author.Needs.{needs}
@@ -24,7 +23,7 @@ unfolding put-items edge-by numbers-of
 returns c =
     let a = c .before .before .before .before .before .args in
     let s = drop (a .slot) (now (a .slots)) in
-    let f = ne-eqb (be2 s 0) (a .p) (λ e. omega (arith, e)) in
+    let f = ne-eqb (from-of s) (a .p) (λ e. omega (arith, e)) in
     (sym (ap (λ l. put-items true l (a .at, now (a .out))) (over-from (edge-of (now (a .room)) s) (a .p) (a .e) f)), omega arith)
 
 two-requires-2 : tie.Need-two-requires-2
@@ -38,8 +37,8 @@ unfolding put-items edge-by numbers-of
 returns-2 c =
     let a = c .before .before .before .before .before .before .before .args in
     let s = drop (a .slot) (now (a .slots)) in
-    let f = eq-eqb (be2 s 0) (a .p) (omega arith) in
-    let t = ne-eqb (be2 s 2) (a .e) (λ e. omega (arith, e)) in
+    let f = eq-eqb (from-of s) (a .p) (omega arith) in
+    let t = ne-eqb (to-of s) (a .e) (λ e. omega (arith, e)) in
     (sym (ap (λ l. put-items true l (a .at, now (a .out))) (over-to (edge-of (now (a .room)) s) (a .p) (a .e) f t)), omega arith)
 
 put-item-requires : tie.Need-put-item-requires
@@ -54,8 +53,8 @@ returns-3 c =
     let a = c .before .before .before .before .before .before .before .before .before .before .before .args in
     let p = c .before .before .put-item in
     let s = drop (a .slot) (now (a .slots)) in
-    let f = eq-eqb (be2 s 0) (a .p) (omega arith) in
-    let t = eq-eqb (be2 s 2) (a .e) (omega arith) in
+    let f = eq-eqb (from-of s) (a .p) (omega arith) in
+    let t = eq-eqb (to-of s) (a .e) (omega arith) in
     (p .ensures .0 ∙ sym (ap (λ l. put-items true l (a .at, now (a .out))) (over-one (edge-of (now (a .room)) s) (a .p) (a .e) f t)), p .ensures .1)
 
 pub put-over-spec : {M : Type 1} → statement M

@@ -12,6 +12,7 @@ use Rattle.definition.specs.Edges.{starting}
 use Rattle.edge.specs.Slots.{edge-of, edges-of}
 use Rattle.edge.specs.Stored.{Slot}
 use Rattle.edge.specs.Asked.{Readable}
+use Rattle.listing.specs.Sizes.{row-most}
 use Rattle.listing.specs.Items.{put-items}
 use Rattle.paths.specs.Orders.{over}
 use Rattle.paths.proofs.Turns.{span-on}
@@ -22,7 +23,7 @@ use Rattle.paths.proofs.put_span.Tie as tie
 abbrev Inv-loop : tie.InvT-loop
 Inv-loop out₀ at slots room count p e end₀ left₀ slot₀ out end left slot =
     (put-items true (over (edges-of room left (drop slot slots)) p e) (end, out) ≡ put-items true (over (edges-of room count slots) p e) (at, out₀))
-    × Readable (drop slot slots) room left × (left ≤ count) × (end ≤ at + (count - left) * 65543) × (length out ≡ length out₀)
+    × Readable (drop slot slots) room left × (left ≤ count) × (end ≤ at + (count - left) * row-most) × (length out ≡ length out₀)
 
 abbrev μ-loop : tie.MeasureT-loop
 μ-loop out₀ at slots room count p e end₀ left₀ slot₀ out end left slot = left

@@ -23,16 +23,16 @@ slots-from-requires : tie.Need-slots-from-requires
 slots-from-requires c κs =
     let q = c .before .before .before .before .before in
     let a = q .args in
-    let w = stretch-within (now (a .slots)) (now (a .starts)) (a .count) (q .pre .1) (a .p) (q .pre .4) in
+    let w = stretch-within (now (a .slots)) (now (a .starts)) (a .count) (q .pre .0 .stands) (a .p) (q .pre .2) in
     let e = ap (λ (s : Stretch). s .first) (c .stretch-at .ensures) in
-    omega (arith, w .0, q .pre .1 .slot, e)
+    omega (arith, w .0, q .pre .0 .stands .slot, e)
 
 sub-put-longer : tie.Need-sub-put-longer
 sub-put-longer c =
     let k = c .before .before .before in
     let q = k .before .before .before .before .before in
     let a = q .args in
-    let o = stretch-on (now (a .slots)) (now (a .starts)) (a .count) (q .pre .1) (a .p) (q .pre .4) in
+    let o = stretch-on (now (a .slots)) (now (a .starts)) (a .count) (q .pre .0 .stands) (a .p) (q .pre .2) in
     let e = ap (λ (s : Stretch). s .first) (k .stretch-at .ensures) in
     let f = ap (λ (s : Stretch). s .end) (k .stretch-at .ensures) in
     omega (arith, o, e, f)
@@ -44,16 +44,16 @@ put-longer-requires c κs =
     let a = q .args in
     let S = now (a .slots) in
     let T = now (a .starts) in
-    let o = stretch-on S T (a .count) (q .pre .1) (a .p) (q .pre .4) in
-    let w = stretch-within S T (a .count) (q .pre .1) (a .p) (q .pre .4) in
+    let o = stretch-on S T (a .count) (q .pre .0 .stands) (a .p) (q .pre .2) in
+    let w = stretch-within S T (a .count) (q .pre .0 .stands) (a .p) (q .pre .2) in
     let x = k .stretch-at .result in
     let e = ap (λ (s : Stretch). s .first) (k .stretch-at .ensures) in
     let f = ap (λ (s : Stretch). s .end) (k .stretch-at .ensures) in (
-      readable-near S (now (a .room)) _ (a .count) (x .first) (x .end) (c .before .before .slots-from .ensures) (omega (arith, o, e, f)) (omega (arith, w .1, f)) (q .pre .0),
-      omega (arith, w .1, f, q .pre .2),
+      readable-near S (now (a .room)) _ (a .count) (x .first) (x .end) (c .before .before .slots-from .ensures) (omega (arith, o, e, f)) (omega (arith, w .1, f)) (q .pre .0 .read),
+      omega (arith, w .1, f, q .pre .1),
+      omega (arith, q .pre .0 .short),
+      omega (arith, q .pre .2),
       omega (arith, q .pre .3),
-      omega (arith, q .pre .4),
-      q .pre .5,
     )
 
 fallback-requires : tie.Need-fallback-requires
@@ -64,8 +64,8 @@ put-best-requires c κs =
     let q = c .before .before .before .before in
     let g = q .before .before .before .before .before .before .before .before .before in
     let a = g .args in
-    let f = fallback-found (now (a .slots)) (now (a .starts)) (a .count) (g .pre .1) (a .p) (g .pre .4) in
-    (g .pre .0, subst (Found (a .count)) (sym (c .before .fallback .ensures)) f, omega (arith, q .put-longer .ensures .1, g .pre .5))
+    let f = fallback-found (now (a .slots)) (now (a .starts)) (a .count) (g .pre .0 .stands) (a .p) (g .pre .2) in
+    (g .pre .0 .read, subst (Found (a .count)) (sym (c .before .fallback .ensures)) f, omega (arith, q .put-longer .ensures .1, g .pre .3))
 
 same-length : tie.Need-same-length
 same-length c = search needs
@@ -78,7 +78,7 @@ returns c =
     let a = g .args in
     let h = w .before .before .before in
     let b = c .before .before .put-best in (
-      start-on (now (a .slots)) (now (a .starts)) (a .count) (g .pre .1) (a .p) (g .pre .4) (now (a .room)) (end-of (now (a .starts))) (omega (arith, g .pre .4))
+      start-on (now (a .slots)) (now (a .starts)) (a .count) (g .pre .0 .stands) (a .p) (g .pre .2) (now (a .room)) (end-of (now (a .starts))) (omega (arith, g .pre .2))
           _ (h .before .stretch-at .result) (h .before .stretch-at .ensures) (h .slots-from .ensures) _ (k .fallback .ensures)
           (a .at, now (a .out)) (w .put-longer .result, w .put-longer .last .0) _ (w .put-longer .ensures .0) (b .ensures .0),
       omega (arith, b .ensures .1, w .put-longer .ensures .1),

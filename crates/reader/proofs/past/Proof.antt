@@ -112,7 +112,8 @@ module _ {M : Type 1} (𝓤 : URA M) (H : Heap 𝓤) (A : Atoms 𝓤) (W : Given
   apart fits =
       qed W ((‵ (flft κ q) ⊛ ‵ ftrue) ∷ ‵ (owns (B (κ, tt) ∷ []) (d, tt) (mach ∷ [], tt)) ∷ []) ∵
       move ! (1 ∷ []) $ fsplit ! $ move ! (1 ∷ []) $ drop ! $ use1 W (‵ Own ⊛ ‵ Own) twice $ split ! $ use1 W (‵ Own ⊛ ‵ Own) twice $ split ! $
-      use1 W (given (mach ∷ [] ≡ mach ∷ []) (‵ (all-own (D .parts) L vd))) (own-open 𝓤 H A W D L vd mach) $ learn ! (λ _. use1 W (‵ (ownAt (D .parts) L 0 (d .table)) ⊛ ‵ (rest (D .parts) L 0 vd)) (own-out 𝓤 H A W (D .parts) L 0 vd) $ split ! $
+      use1 W (given (mach ∷ [] ≡ mach ∷ []) (‵ (all-own (D .parts) L vd))) (own-open 𝓤 H A W D L vd mach) $
+      learn ! (λ _. use1 W (‵ (ownAt (D .parts) L 0 (d .table)) ⊛ ‵ (rest (D .parts) L 0 vd)) (own-out 𝓤 H A W (D .parts) L 0 vd) $ split ! $
       -- [what the table owns; what the offset owns; what the struct owns, twice; the token]
       move ! (1 ∷ []) $ drop ! $ nothing ! $ owned ! usize (Is usize) (uint-makes 𝓤 H A W w64) (d .at) _ (refl, fits) $ fjoin ! $ move ! (1 ∷ 0 ∷ []) $ fjoin ! $
       move ! (3 ∷ 0 ∷ []) $ use2 W (raw (NextAt 𝓤 H A mem run .pre to)) asked $ frame ! $ frame ! $ done !)
@@ -128,7 +129,8 @@ module _ {M : Type 1} (𝓤 : URA M) (H : Heap 𝓤) (A : Atoms 𝓤) (W : Given
   exits : (n : ℕ) → n < 2 ^ 64 → n ≡ found → ent 𝓤 (⋆ 𝓤 H A ((‵ (flft κ q) ⊛ ‵ ftrue) ∷ (‵ Own ⊛ ‵ Own) ∷ [])) (Post (T′.lowered (d′ n)))
   exits n ok e =
       qed W ((‵ (flft κ q) ⊛ ‵ ftrue) ∷ (‵ Own ⊛ ‵ Own) ∷ []) ∵
-      suffices ! _ (ends-at 𝓤 H A past.ended stayed (past.clauses 𝓤 H A mem run) W (((κ, tt), (q, tt), tt, (d, tt), (mach ∷ [], tt)), tt) (T′.lowered (d′ n)) (d′ n) (tt, tt) (tt, tt)) $ says ! (refl, e) $
+      suffices ! _ (ends-at 𝓤 H A past.ended stayed (past.clauses 𝓤 H A mem run) W (((κ, tt), (q, tt), tt, (d, tt), (mach ∷ [], tt)), tt) (T′.lowered (d′ n)) (d′ n) (tt, tt) (tt, tt)) $
+      says ! (refl, e) $
       frame ! $ split ! $ nothing ! $ move ! (1 ∷ 0 ∷ []) $ fjoin ! $ frame ! $
       -- [what the struct owns]: the number's facts take the place of the offset's
       owned ! usize (Is usize) (uint-makes 𝓤 H A W w64) n _ (refl, ok) $ move ! (1 ∷ 0 ∷ []) $ by ! (own-put 𝓤 H A W D L 1 vd n mach)
@@ -144,26 +146,33 @@ module _ {M : Type 1} (𝓤 : URA M) (H : Heap 𝓤) (A : Atoms 𝓤) (W : Given
         assigns ! (of-opd ! (load ! (from ! (fld ! refl (stop !))) (look-in ! 8 (sub ! 1 refl (whole !))))) (from ! (stop !)) (init ! 0 refl (tt, wt .1 .1 .0)) $
         move ! (12 ∷ []) $ use1 W (raw (NextAt 𝓤 H A mem run .pre to) ⊛ (‵ Own ⊛ ‵ Own)) (apart (wt .1 .1 .0 .fits)) $ split ! $
         calls-at ! fm (NextAt 𝓤 H A mem run) known to (and-then ! (load ! (from ! (stop !)) (look ! 4 refl)) (and-then ! (load ! (from ! (stop !)) (look ! 2 refl)) (no-more !))) (λ u.
-        use1 W (later (some (λ (n : ℕ). ((‵ (flft κ q) ⊛ ‵ ftrue) ⊛ ‵ (usize .own n (u ∷ []))) ⊛ raw (ensured 𝓤 H A callee.ended (callee.clauses 𝓤 H A mem run) (κ, tt) (d .table, (d .at, tt)) tt n)))) (id⊢ 𝓤 _) $ await ! tt $ pick ! (λ n.
+        use1 W (later (some (λ (n : ℕ). ((‵ (flft κ q) ⊛ ‵ ftrue) ⊛ ‵ (usize .own n (u ∷ []))) ⊛ raw
+        (ensured 𝓤 H A callee.ended (callee.clauses 𝓤 H A mem run) (κ, tt) (d .table, (d .at, tt)) tt n)))) (id⊢ 𝓤 _) $ await ! tt $ pick ! (λ n.
         split ! $ move ! (1 ∷ []) $ use1 W (raw (fact 𝓤 (n ≡ found))) (said n) $ heard ! (n ≡ found) (λ e. split ! $ move ! (1 ∷ []) $
         -- [the answer; the token; what the struct owns, twice; _5; …; _4; …; room for _3; …; _2; …; _1; …; room for _0; …]
         peeks ! usize (Is usize) (shows 𝓤 H A usize) n (u ∷ []) (λ is.
         land ! (from ! (stop !)) (init ! 7 refl (uint-lawful 𝓤 H A W w64 .typed n _ is .0)) $ rewrite ! 7 (λ (w : Val). ‵ (fat fullShare (tyInt w64) l₃ 0 w)) (ap only (is .0)) refl $
-        assigns ! (agg ! (and-then ! (load ! (from ! (stop !)) (look ! 9 refl)) (and-then ! (load ! (from ! (stop !)) (look ! 7 refl)) (no-more !)))) (from ! (stop !)) (init ! 13 refl (tt, (wt .1 .0, (record { fits = is .1 }, tt)))) $
+        assigns ! (agg ! (and-then ! (load ! (from ! (stop !)) (look ! 9 refl)) (and-then ! (load ! (from ! (stop !)) (look ! 7 refl)) (no-more !)))) (from ! (stop !))
+        (init ! 13 refl (tt, (wt .1 .0, (record { fits = is .1 }, tt)))) $
         returns ! (look ! 13 refl) $ forget ! 3 refl $ forget ! 5 refl $ forget ! 7 refl $ forget ! 9 refl $ forget ! 11 refl $ forget ! 13 refl $
-        move ! (13 ∷ 14 ∷ []) $ free1 ! $ move ! (11 ∷ 12 ∷ []) $ free1 ! $ move ! (9 ∷ 10 ∷ []) $ free1 ! $ move ! (7 ∷ 8 ∷ []) $ free1 ! $ move ! (5 ∷ 6 ∷ []) $ free1 ! $ move ! (3 ∷ 4 ∷ []) $ free1 ! $ free0 ! $ drop ! $
+        move ! (13 ∷ 14 ∷ []) $ free1 ! $ move ! (11 ∷ 12 ∷ []) $ free1 ! $ move ! (9 ∷ 10 ∷ []) $ free1 ! $ move ! (7 ∷ 8 ∷ []) $ free1 ! $ move ! (5 ∷ 6 ∷ []) $ free1 ! $
+        move ! (3 ∷ 4 ∷ []) $ free1 ! $ free0 ! $ drop ! $
         by ! (exits n (is .1) e)))))))))))
 
 module _ {M : Type 1} (𝓤 : URA M) (H : Heap 𝓤) (A : Atoms 𝓤) (W : Given 𝓤 H A) (mem : Memory → SProp 𝓤) (run : Routine → Fun 𝓤) where
   past-walks : (C : Calls 𝓤 H) (Λ : Loops 𝓤 H) → FmC 𝓤 H (W .laws) C → Triple 𝓤 (C #reader·next-at) (NextAt 𝓤 H A mem run)
       → Walks 𝓤 H A past.ended stayed (WpFn 𝓤 H C Λ code.function) (past.clauses 𝓤 H A mem run)
-  past-walks C Λ fm known = walked 𝓤 H A past.ended stayed (past.clauses 𝓤 H A mem run) (WpFn 𝓤 H C Λ code.function) (λ κs. (LL.vals (T.the-type (namedLft 1 0 tt κs)) (T′.the-laws (namedLft 1 0 tt κs)), tt)) (λ κs. (LL.tells (T.the-type (namedLft 1 0 tt κs)) (T′.the-laws (namedLft 1 0 tt κs)), tt))
-      (λ κs qs bounds a g are. via 𝓤 _ (fst∗ 𝓤 _ (emp 𝓤)) (walk 𝓤 H A W mem run (κs .0) (qs .0) (a .0) C Λ fm known (LL.lawful (T.the-type (namedLft 1 0 tt κs)) (T′.the-laws (namedLft 1 0 tt κs)) 𝓤 H A W .typed (a .0) _ (are .0) .0)))
+  past-walks C Λ fm known =
+      walked 𝓤 H A past.ended stayed (past.clauses 𝓤 H A mem run) (WpFn 𝓤 H C Λ code.function) (λ κs. (LL.vals (T.the-type (namedLft 1 0 tt κs)) (T′.the-laws (namedLft 1 0 tt κs)), tt))
+      (λ κs. (LL.tells (T.the-type (namedLft 1 0 tt κs)) (T′.the-laws (namedLft 1 0 tt κs)), tt))
+      (λ κs qs bounds a g are. via 𝓤 _ (fst∗ 𝓤 _ (emp 𝓤))
+      (walk 𝓤 H A W mem run (κs .0) (qs .0) (a .0) C Λ fm known (LL.lawful (T.the-type (namedLft 1 0 tt κs)) (T′.the-laws (namedLft 1 0 tt κs)) 𝓤 H A W .typed (a .0) _ (are .0) .0)))
 
 past-meets : {M : Type 1} (𝓤 : URA M) (H : Heap 𝓤) (A : Atoms 𝓤) (W : Given 𝓤 H A) (mem : Memory → SProp 𝓤) (run : Routine → Fun 𝓤) (𝓣 : Tables 𝓤 H)
     → Triple 𝓤 (𝓣 .C #reader·next-at) (NextAt 𝓤 H A mem run)
     → Meets 𝓤 H A past.signature (WpFn 𝓤 H (𝓣 .C) (𝓣 .Λ) code.function) (past.spec 𝓤 H A mem run)
-past-meets 𝓤 H A W mem run 𝓣 known-callee = walk-meets 𝓤 H A past.ended stayed W (goes-none 𝓤 H A W 1 B yes (λ κs x f. refl), tt) (past.clauses 𝓤 H A mem run) (WpFn 𝓤 H (𝓣 .C) (𝓣 .Λ) code.function) (WpFn-mono 𝓤 H (W .laws) 𝓣 code.function)
+past-meets 𝓤 H A W mem run 𝓣 known-callee =
+    walk-meets 𝓤 H A past.ended stayed W (goes-none 𝓤 H A W 1 B yes (λ κs x f. refl), tt) (past.clauses 𝓤 H A mem run) (WpFn 𝓤 H (𝓣 .C) (𝓣 .Λ) code.function) (WpFn-mono 𝓤 H (W .laws) 𝓣 code.function)
     (past-walks 𝓤 H A W mem run (𝓣 .C) (𝓣 .Λ) (fmOf 𝓤 H (W .laws) 𝓣) known-callee)
 
 pub past-spec : {M : Type 1} → stated.statement M

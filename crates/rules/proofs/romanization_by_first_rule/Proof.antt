@@ -2,7 +2,7 @@
 use mathlib.Core.Path.{sym, _∙_, subst}
 use native.Mathlib.Omega.{arith}
 use denote.Ref.{now}
-use Rattle.dicts.specs.Index.{Ready}
+use Rattle.memo.specs.Kept.{Kept}
 use Rattle.rules.proofs.Targets.{first-none, first-row, first-target}
 use borrow.Author.Needs.{needs}
 use Rattle.rules.proofs.romanization_by_first_rule.Statement.{statement}
@@ -12,25 +12,25 @@ index-in-requires : tie.Need-index-in-requires
 index-in-requires c κs = search needs
 
 look-up-requires : tie.Need-look-up-requires
-look-up-requires c κs = let k = c .before .before .before .before in subst (Ready (now (k .args .rules))) (sym (c .index-in .ensures)) (k .pre .table)
+look-up-requires c κs = let k = c .before .before .before .before in subst (Kept (now (k .args .rules))) (sym (c .index-in .ensures)) (k .pre .table)
 
 returns : tie.Need-returns
 returns c =
     let k = c .before .before .before .before .before .before .before in
     let f = c .before .before .look-up .ensures in
-    (first-none (now (k .args .rules)) (now (k .args .source)) (k .pre .table .accepted) _ _ (f .0) (f .1) (omega arith), tt)
+    (first-none (now (k .args .rules)) (now (k .args .source)) (k .pre .table .accepted) _ _ (f .first) (f .count) (omega arith), tt)
 
 target-of-requires : tie.Need-target-of-requires
 target-of-requires c κs =
     let k = c .before .before .before .before .before .before .before in
     let f = c .before .before .look-up .ensures in
-    first-row (now (k .args .rules)) (now (k .args .source)) (k .pre .table .accepted) _ _ (f .0) (f .1) (omega arith)
+    first-row (now (k .args .rules)) (now (k .args .source)) (k .pre .table .accepted) _ _ (f .first) (f .count) (omega arith)
 
 returns-2 : tie.Need-returns-2
 returns-2 c =
     let k = c .before .before .before .before .before .before .before .before in
     let f = c .before .before .before .look-up .ensures in
-    (c .target-of .ensures .0 ∙ first-target (now (k .args .rules)) (now (k .args .source)) (k .pre .table .accepted) _ _ (f .0) (f .1) (omega arith), c .target-of .ensures .1)
+    (c .target-of .ensures .0 ∙ first-target (now (k .args .rules)) (now (k .args .source)) (k .pre .table .accepted) _ _ (f .first) (f .count) (omega arith), c .target-of .ensures .1)
 
 pub romanization-by-first-rule-spec : {M : Type 1} → statement M
 romanization-by-first-rule-spec =

@@ -36,7 +36,8 @@ expand-rom-with-special-chars-requires c κs =
 
 as-edge-requires : tie.Need-as-edge-requires
 as-edge-requires c κs =
-    let s = c .before .before .before .before .before .before .before .before .before .before .before .before .before .before .before .before .before .before in
+    let x = c .before .before .before .before .before .before .before .before in
+    let s = x .before .before .before .before .before .before .before .before .before .before in
     let p = s .pre .2 in
     omega (arith, p)
 

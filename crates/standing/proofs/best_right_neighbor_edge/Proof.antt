@@ -33,9 +33,10 @@ best-within-requires : tie.Need-best-within-requires
 best-within-requires c κs =
     let k = c .before .before .before .before in
     let a = k .args in
-    let w = stretch-within (now (a .slots)) (now (a .starts)) (a .count) (k .pre .0) (a .p) (k .pre .1) in
+    let stands = k .pre .0 .1 in
+    let w = stretch-within (now (a .slots)) (now (a .starts)) (k .pre .0 .0) stands (a .p) (k .pre .1) in
     let e = ap (λ (s : Stretch). s .end) (c .stretch-at .ensures) in
-    omega (arith, w .1, k .pre .0 .slot, e)
+    omega (arith, w .1, stands .slot, e)
 
 enum-told : tie.Need-enum-told
 enum-told c = search needs
@@ -50,10 +51,10 @@ returns c =
     let a = g .args in
     let S = now (a .slots) in
     let T = now (a .starts) in
-    let f = k .before .before .fallback .ensures in (
-      λ room. ap (edge-at room S) f ∙ right-single S T (a .count) (g .pre .0) (a .p) (g .pre .1) room (k .best-within .result)
+    let f = k .before .before .fallback .ensures in λ count stands. (
+      λ room. ap (edge-at room S) f ∙ right-single S T count stands (a .p) (g .pre .1) room (k .best-within .result)
           (k .best-within .ensures .0 room ∙ ap (best-in room S (a .p)) (k .before .stretch-at .ensures)) (c .enum-told .given .1),
-      subst (Found (a .count)) (sym f) (fallback-found S T (a .count) (g .pre .0) (a .p) (g .pre .1)),
+      subst (Found count) (sym f) (fallback-found S T count stands (a .p) (g .pre .1)),
     )
 
 returns-2 : tie.Need-returns-2
@@ -63,11 +64,10 @@ returns-2 c =
     let a = g .args in
     let S = now (a .slots) in
     let T = now (a .starts) in
-    let w = stretch-within S T (a .count) (g .pre .0) (a .p) (g .pre .1) in
-    let s = k .before .stretch-at .ensures in (
-      λ room. right-near S T (a .count) (g .pre .0) (a .p) (g .pre .1) room (k .best-within .result)
+    let s = k .before .stretch-at .ensures in λ count stands. (
+      λ room. right-near S T count stands (a .p) (g .pre .1) room (k .best-within .result)
           (k .best-within .ensures .0 room ∙ ap (best-in room S (a .p)) s) _ (c .enum-told2 .given .1),
-      found-wide (stretch-of T (a .p) .end) (a .count) (w .1) (k .best-within .result)
+      found-wide (stretch-of T (a .p) .end) count (stretch-within S T count stands (a .p) (g .pre .1) .1) (k .best-within .result)
           (subst (λ (x : Stretch). Found (x .end) (k .best-within .result)) s (k .best-within .ensures .1)),
     )
 

@@ -8,19 +8,18 @@ use lib.Dec.{eqb}
 use lib.ListN.{drop}
 use borrow.Author.Tests.{eq-eqb, ne-eqb}
 use denote.Ref.{now}
-use Rattle.base.specs.Big.{be2}
-use Rattle.edge.specs.Slots.{edge-by, numbers-of, edge-of}
+use Rattle.edge.specs.Slots.{from-of, edge-by, numbers-of, edge-of}
 use Rattle.standing.specs.Right.{here, elsewhere, first-one, longer-one, shorter-one}
 use borrow.Author.Needs.{needs}
 use Rattle.standing.proofs.better.Statement.{statement}
 use Rattle.standing.proofs.better.Tie as tie
 
 -- by the start that was read
-is-here : (room s : List ℕ) (f p : ℕ) → f ≡ be2 s 0 → f ≡ p → here p (edge-of room s) ≡ true
+is-here : (room s : List ℕ) (f p : ℕ) → f ≡ from-of s → f ≡ p → here p (edge-of room s) ≡ true
 unfolding edge-by numbers-of
 is-here room s f p e h = ap (λ (n : ℕ). eqb n p) (sym e) ∙ eq-eqb f p h
 
-not-here : (room s : List ℕ) (f p : ℕ) → f ≡ be2 s 0 → (f ≡ p → ⊥) → here p (edge-of room s) ≡ false
+not-here : (room s : List ℕ) (f p : ℕ) → f ≡ from-of s → (f ≡ p → ⊥) → here p (edge-of room s) ≡ false
 unfolding edge-by numbers-of
 not-here room s f p e h = ap (λ (n : ℕ). eqb n p) (sym e) ∙ ne-eqb f p h
 

@@ -1,11 +1,15 @@
 -- `syllables::is_at_end_of_syllable`: one law for each way out.
-use mathlib.Core.Path.{refl, sym, _∙_}
-use Prim.Native.Nat.{_-_}
+use mathlib.Core.Bool.{Bool, true}
+use mathlib.Core.Path.{_≡_, refl, sym, _∙_}
+use Prim.Native.Nat.{ℕ, _+_, _-_, _≤_}
 use native.Mathlib.Omega.{arith}
 use denote.Ref.{now}
+use Rattle.definition.specs.Texts.{at, prev}
+use Rattle.definition.specs.Classes.{class, alpha}
+use Rattle.definition.specs.Syllables.{past-tone}
 use Rattle.places.specs.Shows.{memory, closed-shown}
 use Rattle.words.specs.Did.{asked-none}
-use Rattle.words.specs.Given.{seen, size, line-size}
+use Rattle.words.specs.Given.{World, Lined, kinds, seen, size, line-size, alpha-kind}
 use Rattle.words.specs.Characters.{alpha-prev, flag-prev, alpha-here, flag-here}
 use Rattle.rules.specs.Lent.{lexicon-of}
 use Rattle.syllables.specs.Tests.{word-begins, pre-left, pre-right, word-ends, consonant-left, by-vowel}
@@ -13,6 +17,52 @@ use Rattle.syllables.proofs.Tones.{tone-told, tone-near}
 use borrow.Author.Needs.{needs}
 use Rattle.syllables.proofs.is_at_end_of_syllable.Statement.{statement}
 use Rattle.syllables.proofs.is_at_end_of_syllable.Tie as tie
+
+-- The character two back is known: where a letter or mark stands there, its flag was asked
+abbrev start : tie.After-class-flag → tie.Start
+start b = b .before .before .before .before .before .before .before .before .before
+
+module _ (b : tie.After-class-flag) {w : World} (g : Lined w (now (start b .args .line))) where
+  abbrev p : ℕ
+  p = start b .args .p
+
+  near-back : p - 1 ≤ size w
+  near-back = omega (arith, line-size g, start b .pre .2)
+
+  back-alpha : alpha (kinds w) (prev (w .text) (p - 1)) ≡ true
+  back-alpha =
+      sym (alpha-prev g (p - 1) (omega (arith, near-back)) (b .before .before .before .kind-at .ensures) (b .before .before .is-alpha-kind .ensures))
+      ∙ b .before .if1 .taken
+
+  back-pre : {m : Bool} → b .class-flag .result ≡ m → class (kinds w) (prev (w .text) (p - 1)) .pre ≡ m
+  back-pre e =
+      sym (flag-prev g (p - 1) (omega (arith, near-back)) (b .before .before .before .kind-at .ensures) 6 (λ k. k .pre) (λ m k z. z .pre)
+      (b .class-flag .ensures)) ∙ e
+
+-- and the next one, past a tone mark, was asked too
+abbrev back : tie.After-class-flag2 → tie.After-class-flag
+back d = d .before .before .before .before
+
+abbrev past : tie.After-class-flag2 → ℕ
+past d = d .before .before .past-tone .result
+
+module _ (d : tie.After-class-flag2) {w : World} (g : Lined w (now (start (back d) .args .line))) where
+  abbrev a : tie.Start
+  a = start (back d)
+
+  tone : past d ≡ past-tone (kinds w) (w .text) (a .args .p)
+  tone = tone-told (now (a .args .line)) (a .args .p) (past d) (d .before .before .past-tone .ensures) g (omega (arith, line-size g, a .pre .2))
+
+  near-next : past d ≤ size w + 1
+  near-next =
+      omega (arith, line-size g, a .pre .2, tone-near (now (a .args .line)) (a .args .p) (past d) (d .before .before .past-tone .ensures))
+
+  next-pre : {m : Bool} → d .class-flag2 .result ≡ m → class (kinds w) (at (w .text) (past d)) .pre ≡ m
+  next-pre e =
+      sym (flag-here g (past d) near-next (d .before .kind-at2 .ensures) 6 (λ k. k .pre) (λ m k z. z .pre) (d .class-flag2 .ensures)) ∙ e
+
+  next-alpha : {r m : Bool} → r ≡ alpha-kind (d .before .kind-at2 .result) → r ≡ m → alpha (kinds w) (at (w .text) (past d)) ≡ m
+  next-alpha k e = sym (alpha-here g (past d) near-next (d .before .kind-at2 .ensures) k) ∙ e
 
 sub-kind-at : tie.Need-sub-kind-at
 sub-kind-at c = search needs
@@ -28,15 +78,10 @@ class-flag-requires c κs = search needs
 
 returns : tie.Need-returns
 returns c =
-    let i = c in
-    let a = i .before .before .before .before .before .before .before .before .before .before .args in
-    λ w e g. let s = line-size (g .text) in
-    let L = lexicon-of (now (a .rules)) w (now (a .code)) in
-    let x = sym (alpha-prev (g .text) (a .p - 1) (omega arith) (i .before .before .before .before .kind-at .ensures)
-    (i .before .before .before .is-alpha-kind .ensures)) ∙ i .before .before .if1 .taken in
-    let y = sym (flag-prev (g .text) (a .p - 1) (omega arith) (i .before .before .before .before .kind-at .ensures) 6 (λ k. k .pre) (λ m k z. z .pre)
-    (i .before .class-flag .ensures)) ∙ i .if2 .taken in
-    asked-none (pre-left L (w .text) (seen w) (a .p) _ (memory (size w) (now (a .places))) refl x y)
+    let b = c .before in
+    let a = start b .args in
+    λ w e g. asked-none (pre-left (lexicon-of (now (a .rules)) w (now (a .code))) (w .text) (seen w) (a .p) _ (memory (size w) (now (a .places))) refl
+    (back-alpha b (g .text)) (back-pre b (g .text) (c .if2 .taken)))
 
 past-tone-requires : tie.Need-past-tone-requires
 past-tone-requires c κs = search needs
@@ -58,22 +103,11 @@ class-flag-requires-2 c κs = search needs
 
 returns-2 : tie.Need-returns-2
 returns-2 c =
-    let j = c in
-    let i = j .before .before .before .before in
-    let k = i .before .before .before .before .before .before .before .before .before .before in
-    let a = k .args in
-    let h = k .pre .2 in
-    λ w e g. let s = line-size (g .text) in
-    let L = lexicon-of (now (a .rules)) w (now (a .code)) in
-    let x = sym (alpha-prev (g .text) (a .p - 1) (omega arith) (i .before .before .before .before .kind-at .ensures)
-    (i .before .before .before .is-alpha-kind .ensures)) ∙ i .before .before .if1 .taken in
-    let y = sym (flag-prev (g .text) (a .p - 1) (omega arith) (i .before .before .before .before .kind-at .ensures) 6 (λ k. k .pre) (λ m k z. z .pre)
-    (i .before .class-flag .ensures)) ∙ i .if2 .left in
-    let q = j .before .before .before .past-tone .result in
-    let near = tone-near (now (a .line)) (a .p) q (j .before .before .before .past-tone .ensures) in
-    let tone = tone-told (now (a .line)) (a .p) q (j .before .before .before .past-tone .ensures) (g .text) (omega arith) in
-    let z = sym (flag-here (g .text) q (omega arith) (j .before .before .kind-at2 .ensures) 6 (λ k. k .pre) (λ m k z. z .pre) (j .before .class-flag2 .ensures)) ∙ j .if3 .taken in
-    asked-none (pre-right L (w .text) (seen w) (a .p) q (memory (size w) (now (a .places))) tone x y z)
+    let d = c .before in
+    let b = back d in
+    let a = start b .args in
+    λ w e g. asked-none (pre-right (lexicon-of (now (a .rules)) w (now (a .code))) (w .text) (seen w) (a .p) (past d) (memory (size w) (now (a .places)))
+    (tone d (g .text)) (back-alpha b (g .text)) (back-pre b (g .text) (d .before .before .before .if2 .left)) (next-pre d (g .text) (c .if3 .taken)))
 
 is-alpha-kind-requires-2 : tie.Need-is-alpha-kind-requires-2
 is-alpha-kind-requires-2 c κs = search needs
@@ -89,24 +123,15 @@ same-length c = search needs
 
 returns-3 : tie.Need-returns-3
 returns-3 c =
-    let j = c .before .before .before .before .before in
-    let i = j .before .before .before .before in
-    let k = i .before .before .before .before .before .before .before .before .before .before in
-    let a = k .args in
-    let h = k .pre .2 in
-    λ w e g. let s = line-size (g .text) in
-    let L = lexicon-of (now (a .rules)) w (now (a .code)) in
-    let x = sym (alpha-prev (g .text) (a .p - 1) (omega arith) (i .before .before .before .before .kind-at .ensures)
-    (i .before .before .before .is-alpha-kind .ensures)) ∙ i .before .before .if1 .taken in
-    let y = sym (flag-prev (g .text) (a .p - 1) (omega arith) (i .before .before .before .before .kind-at .ensures) 6 (λ k. k .pre) (λ m k z. z .pre)
-    (i .before .class-flag .ensures)) ∙ i .if2 .left in
-    let q = j .before .before .before .past-tone .result in
-    let near = tone-near (now (a .line)) (a .p) q (j .before .before .before .past-tone .ensures) in
-    let tone = tone-told (now (a .line)) (a .p) q (j .before .before .before .past-tone .ensures) (g .text) (omega arith) in
-    let z = sym (flag-here (g .text) q (omega arith) (j .before .before .kind-at2 .ensures) 6 (λ k. k .pre) (λ m k z. z .pre) (j .before .class-flag2 .ensures)) ∙ j .if3 .left in
-    let u = sym (alpha-here (g .text) q (omega arith) (j .before .before .kind-at2 .ensures) (c .before .before .before .before .is-alpha-kind2 .ensures)) ∙ c .before .before .before .if4 .taken in
-    let v = sym (closed-shown (g .edges) (a .p - 1) (omega arith)) ∙ sym (c .before .is-closed .ensures) ∙ c .if5 .taken in
-    asked-none (consonant-left L (w .text) (seen w) (a .p) q (memory (size w) (now (a .places))) tone x y z u v)
+    let t = c .before .before .before .before in
+    let d = t .before .before in
+    let b = back d in
+    let a = start b .args in
+    λ w e g.
+    let v = sym (closed-shown (g .edges) (a .p - 1) (omega (arith, near-back b (g .text)))) ∙ sym (c .before .is-closed .ensures) ∙ c .if5 .taken in
+    asked-none (consonant-left (lexicon-of (now (a .rules)) w (now (a .code))) (w .text) (seen w) (a .p) (past d) (memory (size w) (now (a .places)))
+    (tone d (g .text)) (back-alpha b (g .text)) (back-pre b (g .text) (d .before .before .before .if2 .left)) (next-pre d (g .text) (t .before .if3 .left))
+    (next-alpha d (g .text) (t .is-alpha-kind2 .ensures) (c .before .before .before .if4 .taken)) v)
 
 vowel-test-requires : tie.Need-vowel-test-requires
 vowel-test-requires c κs =
@@ -120,47 +145,30 @@ same-length-2 c = search needs
 
 returns-4 : tie.Need-returns-4
 returns-4 c =
-    let j = c .before .before .before .before .before .before .before .before .before in
-    let i = j .before .before .before .before in
-    let k = i .before .before .before .before .before .before .before .before .before .before in
-    let a = k .args in
-    let h = k .pre .2 in
-    λ w e g. let s = line-size (g .text) in
-    let L = lexicon-of (now (a .rules)) w (now (a .code)) in
-    let x = sym (alpha-prev (g .text) (a .p - 1) (omega arith) (i .before .before .before .before .kind-at .ensures)
-    (i .before .before .before .is-alpha-kind .ensures)) ∙ i .before .before .if1 .taken in
-    let y = sym (flag-prev (g .text) (a .p - 1) (omega arith) (i .before .before .before .before .kind-at .ensures) 6 (λ k. k .pre) (λ m k z. z .pre)
-    (i .before .class-flag .ensures)) ∙ i .if2 .left in
-    let q = j .before .before .before .past-tone .result in
-    let near = tone-near (now (a .line)) (a .p) q (j .before .before .before .past-tone .ensures) in
-    let tone = tone-told (now (a .line)) (a .p) q (j .before .before .before .past-tone .ensures) (g .text) (omega arith) in
-    let z = sym (flag-here (g .text) q (omega arith) (j .before .before .kind-at2 .ensures) 6 (λ k. k .pre) (λ m k z. z .pre) (j .before .class-flag2 .ensures)) ∙ j .if3 .left in
-    let u = sym (alpha-here (g .text) q (omega arith) (j .before .before .kind-at2 .ensures)
-    (c .before .before .before .before .before .before .before .before .is-alpha-kind2 .ensures))
-    ∙ c .before .before .before .before .before .before .before .if4 .taken in
-    let v = sym (closed-shown (g .edges) (a .p - 1) (omega arith)) ∙ sym (c .before .before .before .before .before .is-closed .ensures) ∙ c .before .before .before .before .if5 .left in
+    let t = c .before .before .before .before .before .before .before .before in
+    let d = t .before .before in
+    let b = back d in
+    let a = start b .args in
+    let k = c .before .before .before .before in
+    λ w e g.
+    let v = sym (closed-shown (g .edges) (a .p - 1) (omega (arith, near-back b (g .text)))) ∙ sym (k .before .is-closed .ensures) ∙ k .if5 .left in
     let A = c .before .before .vowel-test .ensures w e g in
-    record { did = by-vowel L (w .text) (seen w) (a .p) q (memory (size w) (now (a .places))) tone x y z u v (A .did); kept = A .kept }
+    record {
+      did = by-vowel (lexicon-of (now (a .rules)) w (now (a .code))) (w .text) (seen w) (a .p) (past d) (memory (size w) (now (a .places)))
+          (tone d (g .text)) (back-alpha b (g .text)) (back-pre b (g .text) (d .before .before .before .if2 .left)) (next-pre d (g .text) (t .before .if3 .left))
+          (next-alpha d (g .text) (t .is-alpha-kind2 .ensures) (k .before .before .before .if4 .taken)) v (A .did);
+      kept = A .kept;
+    }
 
 returns-5 : tie.Need-returns-5
 returns-5 c =
-    let j = c .before .before in
-    let i = j .before .before .before .before in
-    let k = i .before .before .before .before .before .before .before .before .before .before in
-    let a = k .args in
-    let h = k .pre .2 in
-    λ w e g. let s = line-size (g .text) in
-    let L = lexicon-of (now (a .rules)) w (now (a .code)) in
-    let x = sym (alpha-prev (g .text) (a .p - 1) (omega arith) (i .before .before .before .before .kind-at .ensures)
-    (i .before .before .before .is-alpha-kind .ensures)) ∙ i .before .before .if1 .taken in
-    let y = sym (flag-prev (g .text) (a .p - 1) (omega arith) (i .before .before .before .before .kind-at .ensures) 6 (λ k. k .pre) (λ m k z. z .pre)
-    (i .before .class-flag .ensures)) ∙ i .if2 .left in
-    let q = j .before .before .before .past-tone .result in
-    let near = tone-near (now (a .line)) (a .p) q (j .before .before .before .past-tone .ensures) in
-    let tone = tone-told (now (a .line)) (a .p) q (j .before .before .before .past-tone .ensures) (g .text) (omega arith) in
-    let z = sym (flag-here (g .text) q (omega arith) (j .before .before .kind-at2 .ensures) 6 (λ k. k .pre) (λ m k z. z .pre) (j .before .class-flag2 .ensures)) ∙ j .if3 .left in
-    let u = sym (alpha-here (g .text) q (omega arith) (j .before .before .kind-at2 .ensures) (c .before .is-alpha-kind2 .ensures)) ∙ c .if4 .left in
-    asked-none (word-ends L (w .text) (seen w) (a .p) q (memory (size w) (now (a .places))) tone x y z u)
+    let t = c .before in
+    let d = t .before .before in
+    let b = back d in
+    let a = start b .args in
+    λ w e g. asked-none (word-ends (lexicon-of (now (a .rules)) w (now (a .code))) (w .text) (seen w) (a .p) (past d) (memory (size w) (now (a .places)))
+    (tone d (g .text)) (back-alpha b (g .text)) (back-pre b (g .text) (d .before .before .before .if2 .left)) (next-pre d (g .text) (t .before .if3 .left))
+    (next-alpha d (g .text) (t .is-alpha-kind2 .ensures) (c .if4 .left)))
 
 returns-6 : tie.Need-returns-6
 returns-6 c =

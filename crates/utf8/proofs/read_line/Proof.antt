@@ -39,6 +39,9 @@ module _ (c : tie.After-known-told) where
       let p = a .pre in
       omega (arith, p, lent-length (decoded (now (a .args .text))) (now (a .args .line)) (r .last .1 .0) most-characters (r .ensures .1 .1))
 
+add-read-text : tie.Need-add-read-text
+add-read-text c = search needs
+
 sub-read-text : tie.Need-sub-read-text
 sub-read-text c = search needs
 
@@ -99,7 +102,8 @@ returns c =
         λ m q. r .ensures .1 .0 m (e ∙ q),
         λ m q.
             let k : n c ≡ m = cc in
-            ap (λ (i : ℕ). take (i + 3) (set (set (set (came c) 0 32) (n c + 1) 32) (n c + 2) 32)) (sym k) ∙ spaced-is (decoded (now (a .args .text))) (now (a .args .line)) (r .last .1 .0) (n c) most-characters
+            ap (λ (i : ℕ). take (i + 3) (set (set (set (came c) 0 32) (n c + 1) 32) (n c + 2) 32)) (sym k)
+            ∙ spaced-is (decoded (now (a .args .text))) (now (a .args .line)) (r .last .1 .0) (n c) most-characters
             (few c .0) (few c .1) (a .pre) (r .ensures .1 .1),
       ),
     )
@@ -135,6 +139,7 @@ pub read-line-spec : {M : Type 1} → statement M
 read-line-spec =
     tie.close
     (tie.spec
+    add-read-text
     sub-read-text
     part-read-text-start
     part-read-text-end

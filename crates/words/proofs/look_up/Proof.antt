@@ -5,7 +5,7 @@ use native.Mathlib.Omega.{arith}
 use lib.ListN.{take, drop}
 use denote.Ref.{now}
 use Rattle.definition.specs.RuleRows.{rules-of}
-use Rattle.dicts.specs.Index.{Ready}
+use Rattle.memo.specs.Kept.{Kept}
 use Rattle.dicts.specs.Seek.{first-at, equal-rows}
 use Rattle.dicts.specs.Longer.{has-longer}
 use borrow.Author.Needs.{needs}
@@ -36,7 +36,7 @@ part-look-up-end c = search needs
 look-up-requires : tie.Need-look-up-requires
 look-up-requires c κs =
     let k = c .before .before .before .before .before in
-    subst (Ready (now (k .args .rules))) (sym (c .before .index-in .ensures)) (k .pre .0 .table)
+    subst (Kept (now (k .args .rules))) (sym (c .before .index-in .ensures)) (k .pre .0 .table)
 
 returns : tie.Need-returns
 returns c =
@@ -50,9 +50,9 @@ returns c =
       record {
         forward = k .pre .1;
         inside = k .pre .2;
-        first = f .0 ∙ ap (λ n. first-at (now (a .rules)) (take n (drop (s + 1) line))) z;
-        count = f .1 ∙ ap (λ n. equal-rows (now (a .rules)) (take n (drop (s + 1) line))) z;
-        more = f .2 ∙ ap (λ n. has-longer (take n (drop (s + 1) line)) (rules-of (now (a .rules)))) z;
+        first = f .first ∙ ap (λ n. first-at (now (a .rules)) (take n (drop (s + 1) line))) z;
+        count = f .count ∙ ap (λ n. equal-rows (now (a .rules)) (take n (drop (s + 1) line))) z;
+        more = f .more ∙ ap (λ n. has-longer (take n (drop (s + 1) line)) (rules-of (now (a .rules)))) z;
       },
       refl,
       refl,

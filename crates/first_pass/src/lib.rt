@@ -1,0 +1,216 @@
+// The first pass of building the lattice (romanize.rs, lattice/mod.rs): from each start the edges of its spans. The first
+// edge that finds no slot or no room ends it.
+ghost use mathlib.Core.Path.{_≡_};
+ghost use Prim.Native.Nat.{_+_, _*_, _<_};
+ghost use lib.ListN.{length, replicate};
+ghost use lib.Dec.{ltb};
+ghost use mathlib.Core.Bool.{_||_};
+ghost use Rattle.definition.specs.Limits.{most-source, most-bytes};
+ghost use Rattle.definition.specs.Building.{each, build};
+ghost use Rattle.vowelrows.specs.Told.{FineVowels};
+ghost use Rattle.words.specs.Given.{size-in, Prepared};
+ghost use Rattle.words.specs.Looks.{Looked};
+ghost use Rattle.passes.specs.Reached.{addressable, nothing, Somewhere, Reaches};
+ghost use Rattle.passes.specs.Starts.{Began};
+ghost use Rattle.first_pass.specs.Rises.{put-span};
+ghost use Rattle.first_pass.specs.Fresh.{Fresh};
+use edge::Added;
+use edge::Filled;
+use words::Look;
+use words::Span;
+
+// No source is longer.
+const MOST_SOURCE: usize = rowread::MOST_SOURCE as usize;
+
+// Is the span a source, or the start of one?
+fn is_known(look: Look) -> bool
+    ensures { λ r. ⌜ r ≡ (ltb 0 (look .count) || look .more) ⌝ }
+{
+    if 0 < look.count {
+        return true;
+    }
+    look.more
+}
+
+// The edge of one span, where it has one, is added.
+fn add_span(
+    rules: &[u8],
+    ready: &[u32],
+    vowels: &[u8],
+    code: &[u8],
+    line: &[u32],
+    slots: &mut [u8],
+    room: &mut [u8],
+    places: &mut [u32],
+    filled: Filled,
+    look: Look,
+) -> Added
+    requires { ⌜ Prepared (now rules) (now ready) × FineVowels (now vowels) × Looked (now rules) (now line) look
+        × Somewhere (now ready) (now line) (now slots) (now room) (now places) filled × Fresh (look .from) (now slots) (now room) filled
+        × (filled .used < addressable) ⌝ }
+    ensures { λ r. ⌜ Reaches (now (rules .entry)) (now (ready .entry)) (now (vowels .entry)) (now (code .entry)) (now (line .entry))
+        (now (slots .entry), now (room .entry), now (places .entry)) (now (slots .exit), now (room .exit), now (places .exit))
+        filled (filled .used + most-bytes) (λ D t. put-span D t (look .from) (look .to)) r ⌝ }
+{
+    let found = spans::span_edge(rules, ready, vowels, code, line, places, look);
+    if found.there {
+        let bytes = found.rom.bytes;
+        let text = &bytes[..found.rom.len];
+        let end = noting::ending_of(text, passes::ends_in_letter(ready, text));
+        return noting::add_edge(slots, room, places, filled, found.numbers, text, end);
+    }
+    Added::Fits {
+        count: filled.count,
+        used: filled.used,
+    }
+}
+
+// `add_romanization` from one start: its ends rise while the span is a prefix of a source.
+fn add_from(
+    rules: &[u8],
+    ready: &[u32],
+    vowels: &[u8],
+    code: &[u8],
+    line: &[u32],
+    slots: &mut [u8],
+    room: &mut [u8],
+    places: &mut [u32],
+    filled: Filled,
+    s: usize,
+) -> Added
+    requires { ⌜ Prepared (now rules) (now ready) × FineVowels (now vowels) × (s < size-in (now line))
+        × Somewhere (now ready) (now line) (now slots) (now room) (now places) filled × Fresh s (now slots) (now room) filled
+        × (filled .used + most-source * most-bytes < addressable) ⌝ }
+    ensures { λ r. ⌜ Reaches (now (rules .entry)) (now (ready .entry)) (now (vowels .entry)) (now (code .entry)) (now (line .entry))
+        (now (slots .entry), now (room .entry), now (places .entry)) (now (slots .exit), now (room .exit), now (places .exit))
+        filled (filled .used + most-source * most-bytes) (λ D t. build D t s) r ⌝ }
+{
+    let n = words::text_len(line);
+    let since = filled.since;
+    let mut edges = filled.count;
+    let mut bytes = filled.used;
+    let mut e = s + 1;
+    let mut left: usize = MOST_SOURCE;
+    while 0 < left {
+        if n < e {
+            return Added::Fits {
+                count: edges,
+                used: bytes,
+            };
+        }
+        let look = words::look_up(rules, ready, line, Span { from: s, to: e });
+        if is_known(look) {
+            let so_far = Filled {
+                count: edges,
+                used: bytes,
+                since,
+            };
+            let done = add_span(
+                rules,
+                ready,
+                vowels,
+                code,
+                line,
+                slots,
+                room,
+                places,
+                so_far,
+                look,
+            );
+            match done {
+                Added::Fits { count, used } => {
+                    edges = count;
+                    bytes = used;
+                }
+                Added::NoSlot(_) => {
+                    return done;
+                }
+                Added::NoRoom(_) => {
+                    return done;
+                }
+            }
+            // no longer source: the next span is none's start
+            if look.more {
+                e += 1;
+                left -= 1;
+            } else {
+                return Added::Fits {
+                    count: edges,
+                    used: bytes,
+                };
+            }
+        } else {
+            return Added::Fits {
+                count: edges,
+                used: bytes,
+            };
+        }
+    }
+    Added::Fits {
+        count: edges,
+        used: bytes,
+    }
+}
+
+// From every start, with no edge before. Of each start it is kept how many edges there were when the search came to it.
+pub fn add_romanization(
+    rules: &[u8],
+    ready: &[u32],
+    vowels: &[u8],
+    code: &[u8],
+    line: &[u32],
+    slots: &mut [u8],
+    room: &mut [u8],
+    places: &mut [u32],
+    starts: &mut [u32],
+) -> Added
+    requires { ⌜ Prepared (now rules) (now ready) × FineVowels (now vowels) × (now starts ≡ replicate (size-in (now line) + 1) 0)
+        × Somewhere (now ready) (now line) (now slots) (now room) (now places) nothing ⌝ }
+    ensures built { λ r. ⌜ Reaches (now (rules .entry)) (now (ready .entry)) (now (vowels .entry)) (now (code .entry)) (now (line .entry))
+        (now (slots .entry), now (room .entry), now (places .entry)) (now (slots .exit), now (room .exit), now (places .exit))
+        nothing (size-in (now (line .entry)) * (most-source * most-bytes)) (λ D t. each (build D t) (length t) 0) r ⌝ }
+    ensures starts { λ r. ⌜ Began (now (slots .exit)) (now (room .exit)) (size-in (now (line .entry))) (now (starts .exit)) r ⌝ }
+{
+    let n = words::text_len(line);
+    let mut edges: usize = 0;
+    let mut bytes: usize = 0;
+    let mut s: usize = 0;
+    while s < n {
+        standing::begin_at(starts, s, edges);
+        let filled = Filled {
+            count: edges,
+            used: bytes,
+            since: standing::since(starts, s),
+        };
+        let done = add_from(
+            rules,
+            ready,
+            vowels,
+            code,
+            line,
+            slots,
+            room,
+            places,
+            filled,
+            s,
+        );
+        match done {
+            Added::Fits { count, used } => {
+                edges = count;
+                bytes = used;
+            }
+            Added::NoSlot(_) => {
+                return done;
+            }
+            Added::NoRoom(_) => {
+                return done;
+            }
+        }
+        s += 1;
+    }
+    standing::begin_at(starts, n, edges);
+    Added::Fits {
+        count: edges,
+        used: bytes,
+    }
+}

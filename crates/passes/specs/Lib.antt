@@ -1,0 +1,4 @@
+pub mod Reached
+pub mod Turns
+pub mod Endings
+pub mod Starts
