@@ -1,5 +1,5 @@
 #!/usr/bin/env python3
-"""Vectors for the checks of the three tables (crates classes and dicts).
+"""Vectors for the checks of the three tables (crates classes, vowelrows and rulecheck).
 
 vectors.py            writes crates/tables_vectors/stdin and stdout
 vectors.py --check    only says whether they are what it would write

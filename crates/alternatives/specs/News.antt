@@ -2,14 +2,15 @@
 use mathlib.Core.List.{List, [], _∷_}
 use mathlib.Core.Path.{_≡_}
 use Prim.Native.Nat.{ℕ, _+_, _*_}
-use lib.ListN.{length, replicate}
+use lib.ListN.{length, take, drop, replicate}
 use Rattle.base.specs.Lists.{put}
 use Rattle.definition.specs.Limits.{most-characters, most-rows, most-alternative}
 use Rattle.definition.specs.Texts.{Text}
 use Rattle.definition.specs.Tables.{Rule}
 use Rattle.definition.specs.Edges.{Edge}
 use Rattle.definition.specs.Rules.{holds-at}
-use Rattle.definition.specs.Offers.{all-offers}
+use Rattle.definition.specs.RuleRows.{rule-of}
+use Rattle.definition.specs.Offers.{offers, all-offers}
 use Rattle.listing.specs.Sizes.{head-bytes}
 use Rattle.offers.specs.declared.Asked.{Asked}
 use Rattle.offers.specs.Texts.{texts, most-offers, holding}
@@ -21,6 +22,10 @@ offered x code a rules n = texts (all-offers x (holding code (a .start) (a .end)
 -- and its own before them
 abbrev pub earlier : Edge → Text → Asked → List ℕ → ℕ → List Text
 earlier x code a rules n = x .text ∷ offered x code a rules n
+
+-- the first `k` texts that the rule in a row offers it
+abbrev pub row-offered : Edge → List ℕ → ℕ → ℕ → List Text
+row-offered x rules row k = take k (texts (offers x (rule-of (drop row rules))))
 
 -- what a rule offers it, where the rule holds
 abbrev pub holding-offers : Edge → Text → Asked → Rule → List Edge

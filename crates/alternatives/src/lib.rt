@@ -5,31 +5,28 @@ ghost use mathlib.Core.Bool.{not, true};
 ghost use mathlib.Core.List.{[], _∷_, _++_};
 ghost use mathlib.Core.Path.{_≡_};
 ghost use Prim.Native.Nat.{_+_, _≤_, _<_};
-ghost use lib.ListN.{length, take, drop};
+ghost use lib.ListN.{take, drop};
 ghost use lib.Dec.{ltb};
 ghost use Rattle.base.specs.Lists.{put, any, same};
 ghost use Rattle.base.specs.Pick.{pick};
-ghost use Rattle.base.specs.Alls.{All, Opt};
-ghost use Rattle.definition.specs.Limits.{most-characters, most-rows, most-alternative};
+ghost use Rattle.base.specs.Alls.{All};
+ghost use Rattle.definition.specs.Limits.{most-rows, most-alternative};
 ghost use Rattle.definition.specs.Shorts.{Low, Short};
 ghost use Rattle.definition.specs.Notes.{note-alt, note-alt3};
 ghost use Rattle.definition.specs.RuleRows.{rule-of};
 ghost use Rattle.definition.specs.Paths.{other, join};
 ghost use Rattle.definition.specs.Offers.{offers, found-by};
-ghost use Rattle.definition.specs.Bounds.{Sound};
 ghost use Rattle.rom.specs.Rom.{text as text-of, Clean};
 ghost use Rattle.edge.specs.Slots.{edge-by, edges-of};
-ghost use Rattle.edge.specs.Stored.{Stored};
-ghost use Rattle.edge.specs.Best.{edge-at, Found};
+ghost use Rattle.edge.specs.Best.{edge-at};
 ghost use Rattle.listing.specs.Sizes.{Countable};
 ghost use Rattle.listing.specs.Items.{Puts};
-ghost use Rattle.standing.specs.Stands.{Stands};
 ghost use Rattle.words.specs.Found.{Row, Rows};
 ghost use Rattle.words.specs.Given.{size-in, Prepared};
 ghost use Rattle.marks.specs.Marked.{Marked};
 ghost use Rattle.offers.specs.Texts.{texts, Spoken, holding};
-ghost use Rattle.alternatives.specs.News.{offered, earlier, holding-offers, Blank, offer-bytes, edge-bytes, path-bytes};
-ghost use Rattle.alternatives.specs.Written.{Offering, Offered, Alternatives, PathAlternatives};
+ghost use Rattle.alternatives.specs.News.{offered, earlier, row-offered, holding-offers, Blank, offer-bytes, edge-bytes};
+ghost use Rattle.alternatives.specs.Written.{Offering, Offered, EdgeReady, PathReady, Alternatives, PathAlternatives};
 use edge::BestEdge;
 use edge::Numbers;
 use offers::Asked;
@@ -86,10 +83,9 @@ fn is_new(
     w: &[u8],
 ) -> bool
     requires { ⌜ Rows (now rules) (asked .first) before × Row (drop row (now rules)) × Spoken e (now text) × All Low (now w)
-        × Marked (offered (edge-by e (now text)) (now code) asked (now rules) before
-        ++ take k (texts (offers (edge-by e (now text)) (rule-of (drop row (now rules)))))) (now cells) ⌝ }
+        × Marked (offered (edge-by e (now text)) (now code) asked (now rules) before ++ row-offered (edge-by e (now text)) (now rules) row k) (now cells) ⌝ }
     ensures { λ r. ⌜ r ≡ not (any (same (now (w .entry))) (earlier (edge-by e (now (text .entry))) (now (code .entry)) asked (now (rules .entry)) before
-        ++ take k (texts (offers (edge-by e (now (text .entry))) (rule-of (drop row (now (rules .entry)))))))) ⌝ }
+        ++ row-offered (edge-by e (now (text .entry))) (now (rules .entry)) row k)) ⌝ }
 {
     if room::same(w, text) {
         return false;
@@ -310,8 +306,7 @@ fn put_best_alternatives(
     listed: Listed,
     best: BestEdge,
 ) -> usize
-    requires { ⌜ Prepared (now rules) (now ready) × Stored (now slots) (now room) (listed .count) (listed .used) × Found (listed .count) best
-        × Opt (Sound (size-in (now line))) (edge-at (now room) (now slots) best) × Countable (listed .at) edge-bytes ⌝ }
+    requires { ⌜ EdgeReady (now rules) (now ready) (now line) (now slots) (now room) listed best ⌝ }
     ensures { λ r. ⌜ Alternatives (now (rules .entry)) (now (ready .entry)) (now (code .entry)) (now (line .entry)) (now (places .entry)) (now (places .exit))
         (join (edge-at (now (room .entry)) (now (slots .entry)) best) []) (listed .at, now (out .entry)) (r, now (out .exit)) × (r ≤ listed .at + edge-bytes)
         × (take (listed .used) (now (room .exit)) ≡ take (listed .used) (now (room .entry))) ⌝ }
@@ -351,10 +346,7 @@ pub fn put_alternatives(
     starts: &[u32],
     listed: Listed,
 ) -> usize
-    requires { ⌜ Prepared (now rules) (now ready) × Stored (now slots) (now room) (listed .count) (listed .used)
-        × Stands (now slots) (now starts) (listed .count) × (length (now starts) ≡ size-in (now line) + 1)
-        × All (Sound (size-in (now line))) (edges-of (now room) (listed .count) (now slots))
-        × (size-in (now line) ≤ most-characters) × Countable (listed .at) path-bytes ⌝ }
+    requires { ⌜ PathReady (now rules) (now ready) (now line) (now slots) (now room) (now starts) listed ⌝ }
     ensures { λ r. ⌜ PathAlternatives (now (rules .entry)) (now (ready .entry)) (now (code .entry)) (now (line .entry)) (now (places .entry))
         (edges-of (now (room .entry)) (listed .count) (now (slots .entry))) (listed .at, now (out .entry)) (r, now (out .exit)) ⌝ }
 {

@@ -3,7 +3,7 @@
 ghost use mathlib.Core.Path.{_≡_};
 ghost use Prim.Native.Nat.{_+_, _<_};
 ghost use lib.ListN.{length, getD, drop};
-ghost use Rattle.base.specs.Big.{be2, be3, be4};
+ghost use Rattle.base.specs.Big.{offset-limit, be2, be3, be4};
 ghost use Rattle.base.specs.Bits.{flagged};
 
 fn wide(x: u8) -> u32
@@ -38,7 +38,7 @@ pub fn at(s: &[u8], row: usize, i: usize) -> u32
 // Numbers of two, three and four bytes there. An offset in a row is small. Where all of the bytes are there, they are read
 // one beside the other, which a compiler makes one load; at the end of the slice each is asked for by itself.
 pub fn two(s: &[u8], row: usize, i: usize) -> u32
-    requires { ⌜ i < 65536 ⌝ }
+    requires { ⌜ i < offset-limit ⌝ }
     ensures { λ r. ⌜ (r ≡ be2 (drop row (now (s .entry))) i) × (r < 65536) ⌝ }
 {
     if row < s.len() {
@@ -51,7 +51,7 @@ pub fn two(s: &[u8], row: usize, i: usize) -> u32
 }
 
 pub fn three(s: &[u8], row: usize, i: usize) -> u32
-    requires { ⌜ i < 65536 ⌝ }
+    requires { ⌜ i < offset-limit ⌝ }
     ensures { λ r. ⌜ (r ≡ be3 (drop row (now (s .entry))) i) × (r < 16777216) ⌝ }
 {
     if row < s.len() {
@@ -63,7 +63,7 @@ pub fn three(s: &[u8], row: usize, i: usize) -> u32
 }
 
 pub fn four(s: &[u8], row: usize, i: usize) -> u64
-    requires { ⌜ i < 65536 ⌝ }
+    requires { ⌜ i < offset-limit ⌝ }
     ensures { λ r. ⌜ (r ≡ be4 (drop row (now (s .entry))) i) × (r < 4294967296) ⌝ }
 {
     if row < s.len() {

@@ -1,6 +1,3 @@
-pub mod Turns
-pub mod Marks
-pub mod Plain
 pub mod Order
 pub mod Sorted
 pub mod Doors

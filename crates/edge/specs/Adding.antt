@@ -19,6 +19,7 @@ use Rattle.definition.specs.Growth.{all-bytes}
 use Rattle.utf8.specs.Encodings.{TextBytes}
 use Rattle.room.specs.Puts.{put-at, put-before, put-from, put-there, put-length}
 use Rattle.edge.specs.declared.Numbers.{Numbers}
+use Rattle.edge.specs.declared.Filled.{Filled}
 use Rattle.edge.specs.declared.Added.{Added}
 use Rattle.edge.specs.declared.Added.the-variants.{Fits, NoSlot, NoRoom}
 use Rattle.edge.specs.Slots.{two-bytes, four-bytes, offset-of, length-of, bytes-of, edge-by, numbers-of, edge-of, edges-of, slot-of}
@@ -63,33 +64,37 @@ module _ (slots room : List ℕ) (count used : ℕ) (e : Numbers) (text : List �
   unfoldable pub room-after : List ℕ
   room-after = pick (enters is-there has-slot has-room) (put-at used text room) room
 
-  -- One law for each way out: the answer, and both rooms
-  pub kept : is-there ≡ true → (Fits count used ≡ added) × ((slots ≡ slots-after) × (room ≡ room-after))
+  -- All that adding does: it answers `r` and leaves the slots `S` and the room `R`
+  abbrev pub Adds : Added → List ℕ → List ℕ → Type 0
+  Adds r S R = (r ≡ added) × (S ≡ slots-after) × (R ≡ room-after)
+
+  -- One law for each way out
+  pub kept : is-there ≡ true → Adds (Fits count used) slots room
   unfolding added slots-after room-after answer enters pick
-  kept a = (sym (rw a), (sym (rw a), sym (rw a)))
+  kept a = (sym (rw a), sym (rw a), sym (rw a))
 
   module _ (a : is-there ≡ false) where
-    pub unslotted : length slots - count * slot-bytes < slot-bytes → (NoSlot (e .from) ≡ added) × ((slots ≡ slots-after) × (room ≡ room-after))
+    pub unslotted : length slots - count * slot-bytes < slot-bytes → Adds (NoSlot (e .from)) slots room
     unfolding added slots-after room-after answer enters pick
     unslotted h =
         let b : has-slot ≡ false = unfold slot-left in lt-leb slot-bytes (length slots - count * slot-bytes) h in
-        (sym (rw (a, b)), (sym (rw (a, b)), sym (rw (a, b))))
+        (sym (rw (a, b)), sym (rw (a, b)), sym (rw (a, b)))
 
     module _ (h : slot-bytes ≤ length slots - count * slot-bytes) where
-      pub roomless : length room - used < length text → (NoRoom (e .from) ≡ added) × ((slots ≡ slots-after) × (room ≡ room-after))
+      pub roomless : length room - used < length text → Adds (NoRoom (e .from)) slots room
       unfolding added slots-after room-after answer enters pick
       roomless g =
           let b : has-slot ≡ true = unfold slot-left in le-leb slot-bytes (length slots - count * slot-bytes) h in
           let c : has-room ≡ false = unfold room-left in lt-leb (length text) (length room - used) g in
-          (sym (rw (a, b, c)), (sym (rw (a, b, c)), sym (rw (a, b, c))))
+          (sym (rw (a, b, c)), sym (rw (a, b, c)), sym (rw (a, b, c)))
 
-      pub entered : length text ≤ length room - used → (Fits (count + 1) (used + length text) ≡ added)
-          × ((put-at (count * slot-bytes) (slot-of e used (length text)) slots ≡ slots-after) × (put-at used text room ≡ room-after))
+      pub entered : length text ≤ length room - used
+          → Adds (Fits (count + 1) (used + length text)) (put-at (count * slot-bytes) (slot-of e used (length text)) slots) (put-at used text room)
       unfolding added slots-after room-after answer enters pick
       entered g =
           let b : has-slot ≡ true = unfold slot-left in le-leb slot-bytes (length slots - count * slot-bytes) h in
           let c : has-room ≡ true = unfold room-left in le-leb (length text) (length room - used) g in
-          (sym (rw (a, b, c)), (sym (rw (a, b, c)), sym (rw (a, b, c))))
+          (sym (rw (a, b, c)), sym (rw (a, b, c)), sym (rw (a, b, c)))
 
 -- What can be written: numbers that their bytes hold, and a text in UTF-8
 pub record Writable (used : ℕ) (e : Numbers) (text : List ℕ) : Type 0 where
@@ -98,6 +103,12 @@ pub record Writable (used : ℕ) (e : Numbers) (text : List ℕ) : Type 0 where
   pub offset : used < four-bytes
   pub long : length text < two-bytes
   pub utf8 : TextBytes text
+
+-- An edge may be added: those that are there are stored, it can be written, and it equals none of the first `since`
+abbrev pub Addable : List ℕ → List ℕ → Filled → Numbers → List ℕ → Type 0
+Addable slots room filled e text =
+    Stored slots room (filled .count) (filled .used) × Writable (filled .used) e text × (filled .since ≤ filled .count)
+    × (there (edges-of room (filled .since) slots) (edge-by e text) ≡ false)
 
 pub written-bytes : (used : ℕ) (e : Numbers) (text : List ℕ) → Writable used e text → bytes (edge-by e text) ≡ length text
 unfolding bytes edge-by

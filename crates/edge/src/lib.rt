@@ -1,7 +1,7 @@
 // Edges in lent slots, their texts in lent text room (edge.rs, lattice/mod.rs): reading and adding them.
 ghost use mathlib.Core.Path.{_≡_};
 ghost use mathlib.Core.Bool.{false, _&&_};
-ghost use Prim.Native.Nat.{_+_, _*_, _≤_, _<_};
+ghost use Prim.Native.Nat.{_+_, _≤_, _<_};
 ghost use lib.Dec.{eqb};
 ghost use lib.ListN.{length, drop};
 ghost use Rattle.definition.specs.Limits.{slot-bytes};
@@ -9,8 +9,8 @@ ghost use Rattle.definition.specs.Edges.{alike};
 ghost use Rattle.utf8.specs.Encodings.{TextBytes};
 ghost use Rattle.room.specs.Puts.{put-at};
 ghost use Rattle.edge.specs.Slots.{two-bytes, length-of, bytes-of, edge-by, numbers-of, edge-of, edges-of, slot-of};
-ghost use Rattle.edge.specs.Stored.{Slot, Stored};
-ghost use Rattle.edge.specs.Adding.{there, added, slots-after, room-after, Writable};
+ghost use Rattle.edge.specs.Stored.{Slot};
+ghost use Rattle.edge.specs.Adding.{there, Adds, Addable};
 ghost use Rattle.edge.specs.Asked.{Readable};
 
 // Annotations by their numbers in a listing: plain, with a core, a tail, expanded, a deleted character.
@@ -182,14 +182,9 @@ fn put_slot(slots: &mut [u8], at: usize, e: Numbers, offset: usize, len: usize)
 
 // `add_edge`: one more edge, unless one equal to it is there. Its text goes into the room from the first free byte on.
 pub fn add_edge(slots: &mut [u8], room: &mut [u8], filled: Filled, e: Numbers, text: &[u8]) -> Added
-    requires { ⌜ Stored (now slots) (now room) (filled .count) (filled .used) × Writable (filled .used) e (now text)
-        × (filled .since ≤ filled .count)
-        × (there (edges-of (now room) (filled .since) (now slots)) (edge-by e (now text)) ≡ false) ⌝ }
-    ensures answer { λ r. ⌜ r ≡ added (now (slots .entry)) (now (room .entry)) (filled .count) (filled .used) e (now (text .entry)) ⌝ }
-    ensures slots { λ _. ⌜ now (slots .exit)
-        ≡ slots-after (now (slots .entry)) (now (room .entry)) (filled .count) (filled .used) e (now (text .entry)) ⌝ }
-    ensures room { λ _. ⌜ now (room .exit)
-        ≡ room-after (now (slots .entry)) (now (room .entry)) (filled .count) (filled .used) e (now (text .entry)) ⌝ }
+    requires { ⌜ Addable (now slots) (now room) filled e (now text) ⌝ }
+    ensures { λ r. ⌜ Adds (now (slots .entry)) (now (room .entry)) (filled .count) (filled .used) e (now (text .entry))
+        r (now (slots .exit)) (now (room .exit)) ⌝ }
 {
     let count = filled.count;
     let used = filled.used;

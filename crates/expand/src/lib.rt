@@ -20,6 +20,7 @@ ghost use Rattle.rules.specs.Chosen.{said, Said, or-nothing};
 ghost use Rattle.steps.specs.Works.{work-of};
 ghost use Rattle.expand.specs.Tests.{has-grave};
 ghost use Rattle.expand.specs.Sides.{beside, small-here};
+ghost use Rattle.expand.specs.Steps.{Workable};
 use rom::Rom;
 use rules::Chosen;
 use steps::Work;
@@ -85,8 +86,7 @@ fn grave(
     o: usize,
     w: Work,
 ) -> Work
-    requires { ⌜ Prepared (now rules) (now ready) × Clean (w .rom) × (w .rom .len < most-bytes)
-        × (o ≤ w .to) × (0 < w .to) × (w .to ≤ size-in (now line)) ⌝ }
+    requires { ⌜ Prepared (now rules) (now ready) × Clean (w .rom) × (w .rom .len < most-bytes) × (o ≤ w .to) × (0 < w .to) × (w .to ≤ size-in (now line)) ⌝ }
     ensures { λ r. ⌜ Answers (now (rules .entry)) (now (ready .entry)) (now (code .entry)) (now (line .entry)) (now (places .entry)) (now (places .exit))
         (λ L t v. grave L t v o (work-of w)) (work-of r)
         × Clean (r .rom) × (r .rom .len ≤ w .rom .len + 1) × (r .from ≡ w .from) × (w .to ≤ r .to) × (r .to ≤ size-in (now (line .entry))) ⌝ }
@@ -207,8 +207,7 @@ fn small_y(
     o: usize,
     w: Work,
 ) -> Work
-    requires { ⌜ Prepared (now rules) (now ready) × Clean (w .rom) × (w .rom .len + most-target ≤ most-bytes)
-        × (o ≤ w .to) × (w .from < w .to) × (w .to ≤ size-in (now line)) ⌝ }
+    requires { ⌜ Workable (w .rom .len + most-target ≤ most-bytes) (now rules) (now ready) (now line) o w ⌝ }
     ensures { λ r. ⌜ Answers (now (rules .entry)) (now (ready .entry)) (now (code .entry)) (now (line .entry)) (now (places .entry)) (now (places .exit))
         (λ L t v. small-y L t v o (work-of w)) (work-of r)
         × Clean (r .rom) × (r .rom .len < most-bytes) × (r .from ≡ w .from) × (w .to ≤ r .to) × (r .to ≤ size-in (now (line .entry))) ⌝ }
@@ -254,8 +253,7 @@ fn rest(
     o: usize,
     w: Work,
 ) -> Work
-    requires { ⌜ Prepared (now rules) (now ready) × Clean (w .rom) × (w .rom .len + most-target < most-bytes)
-        × (o ≤ w .to) × (w .from < w .to) × (w .to ≤ size-in (now line)) ⌝ }
+    requires { ⌜ Workable (w .rom .len + most-target < most-bytes) (now rules) (now ready) (now line) o w ⌝ }
     ensures { λ r. ⌜ Answers (now (rules .entry)) (now (ready .entry)) (now (code .entry)) (now (line .entry)) (now (places .entry)) (now (places .exit))
         (λ L t v. rest L t v o (work-of w)) (work-of r) × Clean (r .rom) ⌝ }
 {
@@ -338,8 +336,7 @@ fn o_ang_step(
     o: usize,
     w: Work,
 ) -> Work
-    requires { ⌜ Prepared (now rules) (now ready) × Clean (w .rom) × (w .rom .len + most-target < most-bytes)
-        × (o ≤ w .to) × (w .from < w .to) × (w .to ≤ size-in (now line)) ⌝ }
+    requires { ⌜ Workable (w .rom .len + most-target < most-bytes) (now rules) (now ready) (now line) o w ⌝ }
     ensures { λ r. ⌜ Answers (now (rules .entry)) (now (ready .entry)) (now (code .entry)) (now (line .entry)) (now (places .entry)) (now (places .exit))
         (λ L t v. o-ang-step L t v o (work-of w)) (work-of r) × Clean (r .rom) ⌝ }
 {
@@ -364,8 +361,7 @@ fn thai(
     o: usize,
     w: Work,
 ) -> Work
-    requires { ⌜ Prepared (now rules) (now ready) × Clean (w .rom) × (w .rom .len + most-target + most-target < most-bytes)
-        × (o ≤ w .to) × (w .from < w .to) × (w .to ≤ size-in (now line)) ⌝ }
+    requires { ⌜ Workable (w .rom .len + most-target + most-target < most-bytes) (now rules) (now ready) (now line) o w ⌝ }
     ensures { λ r. ⌜ Answers (now (rules .entry)) (now (ready .entry)) (now (code .entry)) (now (line .entry)) (now (places .entry)) (now (places .exit))
         (λ L t v. thai L t v o (work-of w)) (work-of r) × Clean (r .rom) ⌝ }
 {
@@ -387,8 +383,7 @@ fn by_script(
     o: usize,
     w: Work,
 ) -> Work
-    requires { ⌜ Prepared (now rules) (now ready) × Clean (w .rom) × (w .rom .len + most-target + most-target < most-bytes)
-        × (o ≤ w .to) × (w .from < w .to) × (w .to ≤ size-in (now line)) ⌝ }
+    requires { ⌜ Workable (w .rom .len + most-target + most-target < most-bytes) (now rules) (now ready) (now line) o w ⌝ }
     ensures { λ r. ⌜ Answers (now (rules .entry)) (now (ready .entry)) (now (code .entry)) (now (line .entry)) (now (places .entry)) (now (places .exit))
         (λ L t v. by-script L t v o (work-of w)) (work-of r) × Clean (r .rom) ⌝ }
 {

@@ -1,3 +1,4 @@
 pub mod Rises
 pub mod Spelling
 pub mod Fresh
+pub mod FirstPass

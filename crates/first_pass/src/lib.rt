@@ -1,26 +1,23 @@
 // The first pass of building the lattice (romanize.rs, lattice/mod.rs): from each start the edges of its spans. The first
 // edge that finds no slot or no room ends it.
 ghost use mathlib.Core.Path.{_≡_};
-ghost use Prim.Native.Nat.{_+_, _*_, _<_};
-ghost use lib.ListN.{length, replicate};
+ghost use Prim.Native.Nat.{_+_, _*_};
 ghost use lib.Dec.{ltb};
 ghost use mathlib.Core.Bool.{_||_};
 ghost use Rattle.definition.specs.Limits.{most-source, most-bytes};
-ghost use Rattle.definition.specs.Building.{each, build};
-ghost use Rattle.vowelrows.specs.Told.{FineVowels};
-ghost use Rattle.words.specs.Given.{size-in, Prepared};
-ghost use Rattle.words.specs.Looks.{Looked};
-ghost use Rattle.passes.specs.Reached.{addressable, nothing, Somewhere, Reaches};
+ghost use Rattle.definition.specs.Building.{build};
+ghost use Rattle.words.specs.Given.{size-in};
+ghost use Rattle.passes.specs.Reached.{Reaches};
 ghost use Rattle.passes.specs.Starts.{Began};
 ghost use Rattle.first_pass.specs.Rises.{put-span};
-ghost use Rattle.first_pass.specs.Fresh.{Fresh};
+ghost use Rattle.first_pass.specs.FirstPass.{SpanReady, StartReady, PassReady, FirstPass};
 use edge::Added;
 use edge::Filled;
 use words::Look;
 use words::Span;
 
 // No source is longer.
-const MOST_SOURCE: usize = rowread::MOST_SOURCE as usize;
+const MOST_SOURCE: usize = rulerow::MOST_SOURCE as usize;
 
 // Is the span a source, or the start of one?
 fn is_known(look: Look) -> bool
@@ -45,9 +42,7 @@ fn add_span(
     filled: Filled,
     look: Look,
 ) -> Added
-    requires { ⌜ Prepared (now rules) (now ready) × FineVowels (now vowels) × Looked (now rules) (now line) look
-        × Somewhere (now ready) (now line) (now slots) (now room) (now places) filled × Fresh (look .from) (now slots) (now room) filled
-        × (filled .used < addressable) ⌝ }
+    requires { ⌜ SpanReady (now rules) (now ready) (now vowels) (now line) (now slots) (now room) (now places) filled look ⌝ }
     ensures { λ r. ⌜ Reaches (now (rules .entry)) (now (ready .entry)) (now (vowels .entry)) (now (code .entry)) (now (line .entry))
         (now (slots .entry), now (room .entry), now (places .entry)) (now (slots .exit), now (room .exit), now (places .exit))
         filled (filled .used + most-bytes) (λ D t. put-span D t (look .from) (look .to)) r ⌝ }
@@ -78,9 +73,7 @@ fn add_from(
     filled: Filled,
     s: usize,
 ) -> Added
-    requires { ⌜ Prepared (now rules) (now ready) × FineVowels (now vowels) × (s < size-in (now line))
-        × Somewhere (now ready) (now line) (now slots) (now room) (now places) filled × Fresh s (now slots) (now room) filled
-        × (filled .used + most-source * most-bytes < addressable) ⌝ }
+    requires { ⌜ StartReady (now rules) (now ready) (now vowels) (now line) (now slots) (now room) (now places) filled s ⌝ }
     ensures { λ r. ⌜ Reaches (now (rules .entry)) (now (ready .entry)) (now (vowels .entry)) (now (code .entry)) (now (line .entry))
         (now (slots .entry), now (room .entry), now (places .entry)) (now (slots .exit), now (room .exit), now (places .exit))
         filled (filled .used + most-source * most-bytes) (λ D t. build D t s) r ⌝ }
@@ -164,11 +157,9 @@ pub fn add_romanization(
     places: &mut [u32],
     starts: &mut [u32],
 ) -> Added
-    requires { ⌜ Prepared (now rules) (now ready) × FineVowels (now vowels) × (now starts ≡ replicate (size-in (now line) + 1) 0)
-        × Somewhere (now ready) (now line) (now slots) (now room) (now places) nothing ⌝ }
-    ensures built { λ r. ⌜ Reaches (now (rules .entry)) (now (ready .entry)) (now (vowels .entry)) (now (code .entry)) (now (line .entry))
-        (now (slots .entry), now (room .entry), now (places .entry)) (now (slots .exit), now (room .exit), now (places .exit))
-        nothing (size-in (now (line .entry)) * (most-source * most-bytes)) (λ D t. each (build D t) (length t) 0) r ⌝ }
+    requires { ⌜ PassReady (now rules) (now ready) (now vowels) (now line) (now slots) (now room) (now places) (now starts) ⌝ }
+    ensures built { λ r. ⌜ FirstPass (now (rules .entry)) (now (ready .entry)) (now (vowels .entry)) (now (code .entry)) (now (line .entry))
+        (now (slots .entry), now (room .entry), now (places .entry)) (now (slots .exit), now (room .exit), now (places .exit)) r ⌝ }
     ensures starts { λ r. ⌜ Began (now (slots .exit)) (now (room .exit)) (size-in (now (line .entry))) (now (starts .exit)) r ⌝ }
 {
     let n = words::text_len(line);

@@ -101,7 +101,7 @@ fn check_classes(classes: &[u8], vowels: &[u8], code: &[u8]) -> Verdict
 fn check_tables(rules: &[u8], classes: &[u8], vowels: &[u8], code: &[u8]) -> Verdict
     ensures { λ r. ⌜ refusal-of r ≡ by-tables (now (rules .entry)) (now (classes .entry)) (now (vowels .entry)) (now (code .entry)) ⌝ }
 {
-    match dicts::check_rules(rules) {
+    match rulecheck::check_rules(rules) {
         TableRead::Fault(at) => Verdict::Refused(2, at as u64),
         TableRead::Valid => check_classes(classes, vowels, code),
     }
@@ -130,9 +130,10 @@ fn show(
     built: Built,
     out: &mut [u8],
 ) -> Answer
-    requires { ⌜ Whole (now rules) (now ready) (now line) (now slots) (now room) (now places) (now starts) built × (now out ≡ replicate (length (now out)) 0) ⌝ }
-    ensures { λ r. ⌜ ((i : Inputs) → i .out ≡ length (now (out .entry)) → Writes i (now (rules .entry)) (now (ready .entry)) (now (code .entry)) (now (line .entry))
-        (now (slots .entry)) (now (room .entry)) (now (places .entry)) built (returned r (now (out .exit)))) ⌝ }
+    requires { ⌜ Whole (now rules) (now ready) (now line) (now slots) (now room) (now places) (now starts) built
+        × (now out ≡ replicate (length (now out)) 0) ⌝ }
+    ensures { λ r. ⌜ ((i : Inputs) → i .out ≡ length (now (out .entry)) → Writes i (now (rules .entry)) (now (ready .entry)) (now (code .entry))
+        (now (line .entry)) (now (slots .entry)) (now (room .entry)) (now (places .entry)) built (returned r (now (out .exit)))) ⌝ }
 {
     let needed = output::put_shown(
         rules,
@@ -327,8 +328,8 @@ fn respond<'a>(
     room: &mut [u8],
     out: &mut [u8],
 ) -> Answer
-    ensures { λ r. ⌜ returned r (now (out .exit)) ≡ called (given mode (now (rules .entry)) (now (classes .entry)) (now (vowels .entry)) (now (code .entry)) (now (text .entry))
-        (length (now (slots .entry))) (length (now (room .entry))) (length (now (out .entry)))) ⌝ }
+    ensures { λ r. ⌜ returned r (now (out .exit)) ≡ called (given mode (now (rules .entry)) (now (classes .entry)) (now (vowels .entry))
+        (now (code .entry)) (now (text .entry)) (length (now (slots .entry))) (length (now (room .entry))) (length (now (out .entry)))) ⌝ }
 {
     room::clear(out);
     match check(mode, rules, classes, vowels, code) {
@@ -350,8 +351,8 @@ pub extern "C" fn jettyfig_romanize<'a>(
     room: &mut [u8],
     out: &mut [u8],
 ) -> Answer
-    ensures answer { λ r. ⌜ returned r (now (out .exit)) ≡ called (given mode (now (rules .entry)) (now (classes .entry)) (now (vowels .entry)) (now (code .entry)) (now (text .entry))
-        (length (now (slots .entry))) (length (now (room .entry))) (length (now (out .entry)))) ⌝ }
+    ensures answer { λ r. ⌜ returned r (now (out .exit)) ≡ called (given mode (now (rules .entry)) (now (classes .entry)) (now (vowels .entry))
+        (now (code .entry)) (now (text .entry)) (length (now (slots .entry))) (length (now (room .entry))) (length (now (out .entry)))) ⌝ }
     ensures slots { λ _. ⌜ now (slots .exit) ≡ replicate (length (now (slots .entry))) 0 ⌝ }
     ensures room { λ _. ⌜ now (room .exit) ≡ replicate (length (now (room .entry))) 0 ⌝ }
 {

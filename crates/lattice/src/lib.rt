@@ -1,14 +1,7 @@
 // Building the lattice (romanize.rs, lattice/mod.rs): from each start the edges of its spans, then a fallback for each
 // character that no edge covers. The first edge that finds no slot or no room ends it.
-ghost use mathlib.Core.Path.{_≡_};
-ghost use Prim.Native.Nat.{_+_};
-ghost use lib.ListN.{replicate};
-ghost use Rattle.vowelrows.specs.Told.{FineVowels};
-ghost use Rattle.words.specs.Given.{size-in, Prepared};
-ghost use Rattle.passes.specs.Reached.{nothing, Somewhere};
-ghost use Rattle.second_pass.specs.Fallback.{chars-in, Own};
 ghost use Rattle.second_pass.specs.Starts.{Standing};
-ghost use Rattle.lattice.specs.Lattice.{Lattice};
+ghost use Rattle.lattice.specs.Lattice.{Lattice, Buildable};
 use edge::Added;
 use edge::Filled;
 
@@ -26,9 +19,7 @@ pub fn build_lattice<'a>(
     places: &mut [u32],
     starts: &mut [u32],
 ) -> Added
-    requires { ⌜ Prepared (now rules) (now ready) × FineVowels (now vowels) × Own (now text) (chars-in (now line))
-        × Somewhere (now ready) (now line) (now slots) (now room) (now places) nothing
-        × (now places ≡ replicate (size-in (now line) + 1) 0) × (now starts ≡ replicate (size-in (now line) + 1) 0) ⌝ }
+    requires { ⌜ Buildable (now rules) (now ready) (now vowels) (now text) (now line) (now slots) (now room) (now places) (now starts) ⌝ }
     ensures built { λ r. ⌜ Lattice (now (rules .entry)) (now (ready .entry)) (now (vowels .entry)) (now (code .entry)) (now (line .entry))
         (now (slots .entry), now (room .entry), now (places .entry)) (now (slots .exit), now (room .exit), now (places .exit)) r ⌝ }
     ensures starts { λ r. ⌜ Standing (now (slots .exit)) (now (starts .exit)) r ⌝ }

@@ -1,8 +1,7 @@
 // `add_edge` with places: the one writer of what they tell of edges.
 ghost use mathlib.Core.Path.{_≡_};
 ghost use mathlib.Core.List.{List};
-ghost use mathlib.Core.Bool.{false};
-ghost use Prim.Native.Nat.{_<_, _≤_};
+ghost use Prim.Native.Nat.{_<_};
 ghost use lib.ListN.{length};
 ghost use Rattle.definition.specs.Texts.{last-is};
 ghost use Rattle.definition.specs.Utf8.{decoded};
@@ -10,9 +9,7 @@ ghost use Rattle.definition.specs.Tables.{Class};
 ghost use Rattle.definition.specs.Classes.{alpha};
 ghost use Rattle.definition.specs.Edges.{Edge};
 ghost use Rattle.utf8.specs.Encodings.{TextBytes};
-ghost use Rattle.edge.specs.Slots.{edge-by, edges-of};
-ghost use Rattle.edge.specs.Stored.{Stored};
-ghost use Rattle.edge.specs.Adding.{there, added, slots-after, room-after, Writable};
+ghost use Rattle.edge.specs.Adding.{Adds, Addable};
 ghost use Rattle.places.specs.Shows.{Ends};
 ghost use Rattle.noting.specs.Noting.{places-after};
 use edge::Added;
@@ -43,14 +40,9 @@ pub fn add_edge(
     text: &[u8],
     end: Ending,
 ) -> Added
-    requires { ⌜ Stored (now slots) (now room) (filled .count) (filled .used) × Writable (filled .used) e (now text)
-        × (filled .since ≤ filled .count) × (there (edges-of (now room) (filled .since) (now slots)) (edge-by e (now text)) ≡ false)
-        × (e .from < e .to) × (e .to < length (now places)) ⌝ }
-    ensures answer { λ r. ⌜ r ≡ added (now (slots .entry)) (now (room .entry)) (filled .count) (filled .used) e (now (text .entry)) ⌝ }
-    ensures slots { λ _. ⌜ now (slots .exit)
-        ≡ slots-after (now (slots .entry)) (now (room .entry)) (filled .count) (filled .used) e (now (text .entry)) ⌝ }
-    ensures room { λ _. ⌜ now (room .exit)
-        ≡ room-after (now (slots .entry)) (now (room .entry)) (filled .count) (filled .used) e (now (text .entry)) ⌝ }
+    requires { ⌜ Addable (now slots) (now room) filled e (now text) × (e .from < e .to) × (e .to < length (now places)) ⌝ }
+    ensures edge { λ r. ⌜ Adds (now (slots .entry)) (now (room .entry)) (filled .count) (filled .used) e (now (text .entry))
+        r (now (slots .exit)) (now (room .exit)) ⌝ }
     ensures places { λ r. ⌜ now (places .exit) ≡ places-after r (filled .count) e end (now (places .entry)) ⌝ }
 {
     let count = filled.count;

@@ -23,7 +23,7 @@ use Rattle.rowread.specs.declared.Cursor.the-variants.{Next, Wrong as Faulty}
 use Rattle.rowread.specs.declared.RowParts.{RowParts}
 use Rattle.rowread.specs.declared.RowRead.{RowRead}
 use Rattle.rowread.specs.declared.RowRead.the-variants.{Parts, Wrong as NotRead}
-use Rattle.dicts.specs.Marks.{mark-of}
+use Rattle.rulecheck.specs.Marks.{mark-of}
 use Rattle.reader.specs.declared.RowHere.{RowHere}
 use Rattle.reader.specs.declared.RowHere.the-variants.{Row, Wrong, End}
 use Rattle.reader.specs.Rows.{parts, told, row-here, next-row}

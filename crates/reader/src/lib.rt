@@ -8,7 +8,7 @@ ghost use Prim.Native.Nat.{_-_};
 ghost use lib.ListN.{length, drop};
 ghost use Rattle.definition.specs.RuleRows.{rule-right, rule-fault};
 ghost use Rattle.blocks.specs.Faults.{fault-place};
-ghost use Rattle.dicts.specs.Marks.{mark-of};
+ghost use Rattle.rulecheck.specs.Marks.{mark-of};
 ghost use Rattle.reader.specs.Rows.{row-here, next-row, right-rows};
 use blocks::TableRead;
 use rowread::Fault;

@@ -13,8 +13,6 @@ ghost use Rattle.rowread.specs.Reading.{read-others, read-end, read-tail
 ghost use Rattle.rowread.specs.Row.{walked, Parted};
 
 // What a row may hold at most (document 01).
-pub const MOST_SOURCE: u32 = 16;
-
 const MOST_CODES: u32 = 8;
 
 const MOST_ALTERNATIVES: u32 = 8;
@@ -224,7 +222,7 @@ fn read_source(rules: &[u8], row: usize, z: usize, o: usize) -> Cursor
     ensures { λ r. ⌜ r ≡ read-source z (drop row (now (rules .entry))) o ⌝ }
 {
     let n = base::at(rules, row, o);
-    let c = field(z, o, 1, Fault::Range, between(1, n, MOST_SOURCE));
+    let c = field(z, o, 1, Fault::Range, between(1, n, rulerow::MOST_SOURCE));
     let Cursor::Next(next) = c else {
         return c;
     };

@@ -4,12 +4,16 @@ ghost use mathlib.Core.Bool.{true};
 ghost use Prim.Native.Nat.{_+_, _<_, _≤_};
 ghost use lib.ListN.{length, getD, drop};
 ghost use mathlib.Core.List.{[]};
+ghost use Rattle.base.specs.Big.{offset-limit};
 ghost use Rattle.definition.specs.RuleRows.{rises, rule-size, rule-flag, rule-count, rule-source, source-count};
 ghost use Rattle.definition.specs.RuleRows.{target-bit, end-target-bit, target-at, end-target-at, others-at};
 ghost use Rattle.definition.specs.RuleRows.{codes-at, codes-count, past-text, text-size, text-of};
 ghost use Rattle.definition.specs.Places.{Placed};
 ghost use Rattle.rulerow.specs.Sizes.{size-limit};
 ghost use Rattle.rulerow.specs.Others.{others, Other, other-at};
+
+// Characters of a source, at most (document 01).
+pub const MOST_SOURCE: u32 = 16;
 
 // Bits of its flags: only and not at the start of a word, only and not at its end, only for a whole word; a target, and
 // one for the end of a syllable, are there.
@@ -106,7 +110,7 @@ pub fn target_at(rules: &[u8], row: usize) -> usize
 
 // Past the text at `o`, where the row has one.
 fn past_text(rules: &[u8], row: usize, o: usize, there: bool) -> usize
-    requires { ⌜ o < 65536 ⌝ }
+    requires { ⌜ o < offset-limit ⌝ }
     ensures { λ r. ⌜ (r ≡ past-text there o (drop row (now (rules .entry)))) × (r ≤ o + 256) ⌝ }
 {
     if there {

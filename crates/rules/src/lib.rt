@@ -1,8 +1,8 @@
 // Choosing a rule (rules.rs).
 ghost use mathlib.Core.Path.{_≡_};
-ghost use mathlib.Core.Bool.{true, _||_};
+ghost use mathlib.Core.Bool.{_||_};
 ghost use mathlib.Core.List.{List};
-ghost use Prim.Native.Nat.{ℕ, _+_, _<_, _≤_};
+ghost use Prim.Native.Nat.{ℕ, _<_, _≤_};
 ghost use lib.ListN.{drop};
 ghost use Rattle.base.specs.Pick.{pick};
 ghost use Rattle.base.specs.Lists.{has, bind};
@@ -200,7 +200,8 @@ fn beats(rules: &[u8], row: usize, other: usize) -> bool
 // The best so far, where the rule in a row is valid and may beat it.
 fn improve(rules: &[u8], row: usize, valid: bool, best: Choice) -> Choice
     requires { ⌜ Row (drop row (now rules)) × Rowed (now rules) best ⌝ }
-    ensures { λ r. ⌜ (chosen (now (rules .entry)) r ≡ pick valid (improve (chosen (now (rules .entry)) best) (rule-of (drop row (now (rules .entry))))) (chosen (now (rules .entry)) best))
+    ensures { λ r. ⌜ (chosen (now (rules .entry)) r
+        ≡ pick valid (improve (chosen (now (rules .entry)) best) (rule-of (drop row (now (rules .entry))))) (chosen (now (rules .entry)) best))
         × Rowed (now (rules .entry)) r ⌝ }
 {
     if valid {

@@ -32,9 +32,9 @@ use Rattle.utf8.specs.Encodings.{low-decoded}
 use Rattle.edge.specs.declared.Filled.{Filled}
 use Rattle.edge.specs.declared.Numbers.{Numbers}
 use Rattle.edge.specs.declared.Added.{Added as Answer}
-use Rattle.edge.specs.Slots.{edge-by, edges-of}
+use Rattle.edge.specs.Slots.{edge-by}
 use Rattle.edge.specs.Stored.{Stored}
-use Rattle.edge.specs.Adding.{there, added, slots-after, room-after, Writable}
+use Rattle.edge.specs.Adding.{added, slots-after, room-after, Writable, Addable}
 use Rattle.places.specs.declared.Ending.{Ending}
 use Rattle.places.specs.Entry.{over-in}
 use Rattle.places.specs.Shows.{Ends, memory, told, over-shown}
@@ -102,9 +102,7 @@ category-letter ks e c =
 
 -- What `add_edge` asks of an edge
 abbrev pub Ready : List ℕ → List ℕ → Filled → List ℕ → Numbers → List ℕ → Type 0
-Ready S R filled P x b =
-    Stored S R (filled .count) (filled .used) × Writable (filled .used) x b × (filled .since ≤ filled .count)
-    × (there (edges-of R (filled .since) S) (edge-by x b) ≡ false) × (x .from < x .to) × (x .to < length P)
+Ready S R filled P x b = Addable S R filled x b × (x .from < x .to) × (x .to < length P)
 
 -- and the one over a single character has
 module _ {S R : List ℕ} {filled : Filled} {p : ℕ} (bare : Bare S R filled p) where
@@ -115,7 +113,7 @@ module _ {S R : List ℕ} {filled : Filled} {p : ℕ} (bare : Bare S R filled p)
       let f = ap (λ (x : Numbers). x .from) y in
       let t = ap (λ (x : Numbers). x .to) y in
       let a = bare .all in
-      (s, ok, omega arith, bare-new bare (edge-by x b) f t, omega (arith, f, t), omega (arith, t))
+      ((s, ok, omega arith, bare-new bare (edge-by x b) f t), omega (arith, f, t), omega (arith, t))
 
 -- A category's edge can be written
 pub category-fits : (p used : ℕ) → p < most-characters → used < addressable → (c : ℕ) (b : List ℕ) → b ≡ category-text c → (x : Numbers) → x ≡ single-numbers p c

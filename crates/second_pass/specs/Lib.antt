@@ -1,3 +1,4 @@
 pub mod Falls
 pub mod Fallback
 pub mod Starts
+pub mod SecondPass

@@ -2,21 +2,19 @@
 // covers. The first that finds no slot or no room ends it.
 ghost use mathlib.Core.Path.{_≡_};
 ghost use mathlib.Core.List.{List};
-ghost use Prim.Native.Nat.{ℕ, _+_, _*_, _<_};
-ghost use lib.ListN.{length};
+ghost use Prim.Native.Nat.{ℕ, _+_, _<_};
 ghost use Rattle.base.specs.Pick.{pick};
 ghost use Rattle.base.specs.Lists.{has};
-ghost use Rattle.definition.specs.Limits.{most-bytes};
-ghost use Rattle.definition.specs.Building.{each, fall};
+ghost use Rattle.definition.specs.Building.{fall};
 ghost use Rattle.edge.specs.Slots.{two-bytes};
 ghost use Rattle.words.specs.Given.{size-in, kind-in, alpha-kind, Prepared};
 ghost use Rattle.rules.specs.Chosen.{said};
-ghost use Rattle.passes.specs.Reached.{addressable, Somewhere, Reaches};
+ghost use Rattle.passes.specs.Reached.{addressable, Somewhere};
 ghost use Rattle.passes.specs.Endings.{last-letter};
-ghost use Rattle.passes.specs.Starts.{Began};
 ghost use Rattle.second_pass.specs.Falls.{put-fallback};
-ghost use Rattle.second_pass.specs.Fallback.{search-note, single-numbers, chars-in, Own, At, Bare};
+ghost use Rattle.second_pass.specs.Fallback.{search-note, single-numbers, At, Bare};
 ghost use Rattle.second_pass.specs.Starts.{Standing};
+ghost use Rattle.second_pass.specs.SecondPass.{FallReady, FallsBack, SecondPass};
 use edge::Added;
 use edge::Filled;
 use edge::Numbers;
@@ -80,9 +78,8 @@ fn add_fallback<'a>(
 ) -> Added
     requires { ⌜ Prepared (now rules) (now ready) × At (now text) (now line) here × (filled .used < addressable)
         × Somewhere (now ready) (now line) (now slots) (now room) (now places) filled × Bare (now slots) (now room) filled (here .p) ⌝ }
-    ensures { λ r. ⌜ ((vowels : List ℕ) → Reaches (now (rules .entry)) (now (ready .entry)) vowels (now (code .entry)) (now (line .entry))
-        (now (slots .entry), now (room .entry), now (places .entry)) (now (slots .exit), now (room .exit), now (places .exit))
-        filled (filled .used + most-bytes) (λ D t. put-fallback D t (here .p)) r) ⌝ }
+    ensures { λ r. ⌜ FallsBack (now (rules .entry)) (now (ready .entry)) (now (code .entry)) (now (line .entry)) filled (λ D t. put-fallback D t (here .p))
+        (now (slots .entry), now (room .entry), now (places .entry)) (now (slots .exit), now (room .exit), now (places .exit)) r ⌝ }
 {
     let note = spans::category_note(classes::category(words::kind_at(line, here.p + 1)));
     let numbers = single(here.p, note);
@@ -149,9 +146,8 @@ fn fall_back_at<'a>(
 ) -> Added
     requires { ⌜ Prepared (now rules) (now ready) × At (now text) (now line) here × (filled .used < addressable)
         × Somewhere (now ready) (now line) (now slots) (now room) (now places) filled × (filled .since ≡ filled .count) ⌝ }
-    ensures { λ r. ⌜ ((vowels : List ℕ) → Reaches (now (rules .entry)) (now (ready .entry)) vowels (now (code .entry)) (now (line .entry))
-        (now (slots .entry), now (room .entry), now (places .entry)) (now (slots .exit), now (room .exit), now (places .exit))
-        filled (filled .used + most-bytes) (λ D t. fall D t (here .p)) r) ⌝ }
+    ensures { λ r. ⌜ FallsBack (now (rules .entry)) (now (ready .entry)) (now (code .entry)) (now (line .entry)) filled (λ D t. fall D t (here .p))
+        (now (slots .entry), now (room .entry), now (places .entry)) (now (slots .exit), now (room .exit), now (places .exit)) r ⌝ }
 {
     if places::is_covered(places, here.p) {
         return Added::Fits {
@@ -187,12 +183,9 @@ pub fn add_rom_fall_back_singles<'a>(
     starts: &mut [u32],
     filled: Filled,
 ) -> Added
-    requires { ⌜ Prepared (now rules) (now ready) × Own (now text) (chars-in (now line)) × (filled .used + size-in (now line) * most-bytes < addressable)
-        × Somewhere (now ready) (now line) (now slots) (now room) (now places) filled
-        × Began (now slots) (now room) (size-in (now line)) (now starts) (Added.Fits (filled .count) (filled .used)) ⌝ }
-    ensures built { λ r. ⌜ ((vowels : List ℕ) → Reaches (now (rules .entry)) (now (ready .entry)) vowels (now (code .entry)) (now (line .entry))
-        (now (slots .entry), now (room .entry), now (places .entry)) (now (slots .exit), now (room .exit), now (places .exit))
-        filled (filled .used + size-in (now (line .entry)) * most-bytes) (λ D t. each (fall D t) (length t) 0) r) ⌝ }
+    requires { ⌜ FallReady (now rules) (now ready) (now text) (now line) (now slots) (now room) (now places) (now starts) filled ⌝ }
+    ensures built { λ r. ⌜ SecondPass (now (rules .entry)) (now (ready .entry)) (now (code .entry)) (now (line .entry)) filled
+        (now (slots .entry), now (room .entry), now (places .entry)) (now (slots .exit), now (room .exit), now (places .exit)) r ⌝ }
     ensures starts { λ r. ⌜ Standing (now (slots .exit)) (now (starts .exit)) r ⌝ }
 {
     let n = words::text_len(line);

@@ -1,6 +1,8 @@
 -- The edge of a span as it is answered, and the text of a fallback.
+use mathlib.Core.Bool.{true}
 use mathlib.Core.Option.{Option, none, some}
 use mathlib.Core.List.{List}
+use mathlib.Core.Path.{_≡_}
 use Prim.Native.Nat.{ℕ}
 use lib.Dec.{eqb}
 use Rattle.base.specs.Pick.{pick}
@@ -12,7 +14,7 @@ use Rattle.definition.specs.Edges.{Edge, View, M}
 use Rattle.definition.specs.Tables.{Tables}
 use Rattle.definition.specs.Call.{tables-of}
 use Rattle.definition.specs.Building.{fallback-plus}
-use Rattle.rom.specs.Rom.{text}
+use Rattle.rom.specs.Rom.{text, Clean}
 use Rattle.words.specs.Did.{Asked}
 use Rattle.words.specs.Given.{World, seen, Told, Lent}
 use Rattle.edge.specs.declared.Numbers.{Numbers}
@@ -30,6 +32,11 @@ edge-with e w = record { from = e .from; to = e .to; note = e .note; core = e .c
 -- what was answered, where it is there
 unfoldable pub found : Spanned → Option Edge
 found r = pick (r .there) (some (edge-with (r .numbers) (text (r .rom)))) none
+
+-- An edge is found, that of the definition's `f`, and its romanization is clean
+abbrev pub FindsEdge : List ℕ → List ℕ → List ℕ → List ℕ → List ℕ → List ℕ → List ℕ → (Tables → Text → View → M Edge) → Spanned → Type 0
+FindsEdge rules ready vowels code line before after f r =
+    Finds rules ready vowels code line before after f (edge-with (r .numbers) (text (r .rom))) × (r .there ≡ true) × Clean (r .rom)
 
 -- a target without its plus before m, n, g or r
 unfoldable pub plus-dropped : Text → Text

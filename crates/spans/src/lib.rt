@@ -1,6 +1,5 @@
 // The edge of a span (`add_romanization`): what full search answers, through vowel step and expansion; and the text of
 // a fallback (`get_fallback_rom_and_annot`), a part of the rule table or of the text itself.
-ghost use mathlib.Core.Bool.{true};
 ghost use mathlib.Core.Path.{_≡_};
 ghost use Prim.Native.Nat.{_+_, _<_, _≤_};
 ghost use lib.ListN.{length, take, drop};
@@ -13,7 +12,7 @@ ghost use Rattle.rom.specs.Rom.{text, Clean};
 ghost use Rattle.words.specs.Given.{size-in, Prepared};
 ghost use Rattle.words.specs.Looks.{Looked};
 ghost use Rattle.rules.specs.Chosen.{said, Said};
-ghost use Rattle.spans.specs.Spans.{Finds, edge-with, found, plus-dropped, fallback-bytes, category-note};
+ghost use Rattle.spans.specs.Spans.{Finds, edge-with, FindsEdge, found, plus-dropped, fallback-bytes, category-note};
 use edge::Numbers;
 use rom::Rom;
 use rules::Chosen;
@@ -119,9 +118,8 @@ fn edge_of(
 ) -> Spanned
     requires { ⌜ Prepared (now rules) (now ready) × FineVowels (now vowels) × (length (now w) ≤ most-target)
         × (span .from < span .to) × (span .to ≤ size-in (now line)) ⌝ }
-    ensures { λ r. ⌜ Finds (now (rules .entry)) (now (ready .entry)) (now (vowels .entry)) (now (code .entry)) (now (line .entry)) (now (places .entry)) (now (places .exit))
-        (λ D t v. edge-of D t v tail (now (w .entry)) (span .from) (span .to)) (edge-with (r .numbers) (text (r .rom)))
-        × (r .there ≡ true) × Clean (r .rom) ⌝ }
+    ensures { λ r. ⌜ FindsEdge (now (rules .entry)) (now (ready .entry)) (now (vowels .entry)) (now (code .entry)) (now (line .entry))
+        (now (places .entry)) (now (places .exit)) (λ D t v. edge-of D t v tail (now (w .entry)) (span .from) (span .to)) r ⌝ }
 {
     let core = w.len();
     let rom = rom::bytes_of(w);
@@ -157,8 +155,8 @@ pub fn span_edge(
     look: Look,
 ) -> Spanned
     requires { ⌜ Prepared (now rules) (now ready) × FineVowels (now vowels) × Looked (now rules) (now line) look ⌝ }
-    ensures { λ r. ⌜ Finds (now (rules .entry)) (now (ready .entry)) (now (vowels .entry)) (now (code .entry)) (now (line .entry)) (now (places .entry)) (now (places .exit))
-        (λ D t v. span-edge D t v (look .from) (look .to)) (found r) × Clean (r .rom) ⌝ }
+    ensures { λ r. ⌜ Finds (now (rules .entry)) (now (ready .entry)) (now (vowels .entry)) (now (code .entry)) (now (line .entry))
+        (now (places .entry)) (now (places .exit)) (λ D t v. span-edge D t v (look .from) (look .to)) (found r) × Clean (r .rom) ⌝ }
 {
     let span = Span {
         from: look.from,

@@ -43,7 +43,7 @@ fn three(input: &[u8], at: usize) -> usize
 // What the check says of a table: 0 rules, 1 classes, 2 vowels.
 fn checked(kind: usize, table: &[u8]) -> TableRead {
     if kind == 0 {
-        return dicts::check_rules(table);
+        return rulecheck::check_rules(table);
     }
     if kind == 1 {
         return classes::check_classes(table);

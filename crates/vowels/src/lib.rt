@@ -12,11 +12,10 @@ ghost use lib.ListN.{length, getD, take};
 ghost use lib.Seq.{slice};
 ghost use Rattle.base.specs.Lists.{any};
 ghost use Rattle.base.specs.Bits.{flagged};
-ghost use Rattle.definition.specs.Limits.{most-bytes, most-target, most-vowel};
+ghost use Rattle.definition.specs.Limits.{most-target, most-vowel};
 ghost use Rattle.definition.specs.Texts.{Text, khmer-yo, vowels};
 ghost use Rattle.definition.specs.VowelRows.{vowels-of};
 ghost use Rattle.definition.specs.Vowels.{bases, consonant-only, before-yo, bare, keeps-end, vowel-by, vowel-step};
-ghost use Rattle.definition.specs.Building.{grown};
 ghost use Rattle.vowelrows.specs.Told.{FineVowels};
 ghost use Rattle.rom.specs.Rom.{text, Clean};
 ghost use Rattle.ends.specs.Shown.{Within, shown, chosen};
@@ -24,6 +23,7 @@ ghost use Rattle.ends.specs.Grew.{grew};
 ghost use Rattle.words.specs.Given.{World, kinds, size-in, kind-in, Prepared, Told, Lined};
 ghost use Rattle.rules.specs.Lent.{Answers, lexicon-of};
 ghost use Rattle.vowels.specs.Ways.{keeping, silent, inside, settled};
+ghost use Rattle.vowels.specs.Steps.{Voiceable, Voices};
 
 // U+1799, the Khmer yo.
 const KHMER_YO: u32 = 0x1799;
@@ -191,7 +191,8 @@ fn form(
     span: Span,
 ) -> Which
     requires { ⌜ Prepared (now rules) (now ready) × Within (length (now bytes)) f × (span .from < span .to) × (span .to ≤ size-in (now line)) ⌝ }
-    ensures { λ r. ⌜ ((vowel : Text) → Answers (now (rules .entry)) (now (ready .entry)) (now (code .entry)) (now (line .entry)) (now (places .entry)) (now (places .exit))
+    ensures { λ r. ⌜ ((vowel : Text)
+        → Answers (now (rules .entry)) (now (ready .entry)) (now (code .entry)) (now (line .entry)) (now (places .entry)) (now (places .exit))
         (λ L t v. vowel-by L t v tail (shown (now (bytes .entry)) vowel f) (span .from) (span .to)) (chosen r (shown (now (bytes .entry)) vowel f))) ⌝ }
 {
     if takes_vowel(bytes, f.from, f.to, tail) {
@@ -234,11 +235,10 @@ fn vowel_by(
     tail: bool,
     span: Span,
 ) -> Voiced
-    requires { ⌜ Prepared (now rules) (now ready) × Clean r × (0 < length (now letters)) × (r .len + length (now letters) ≤ most-bytes)
-        × (span .from < span .to) × (span .to ≤ size-in (now line)) ⌝ }
-    ensures { λ v. ⌜ Answers (now (rules .entry)) (now (ready .entry)) (now (code .entry)) (now (line .entry)) (now (places .entry)) (now (places .exit))
-        (λ L t e. vowel-by L t e tail (bases ao (now (letters .entry)) (text r) (eqb (span .from + 1) (span .to))) (span .from) (span .to)) (text (v .rom))
-        × Clean (v .rom) × (v .rom .len ≤ r .len + length (now (letters .entry))) × (v .grown ≡ grown (text r) (text (v .rom))) ⌝ }
+    requires { ⌜ Voiceable (now rules) (now ready) (now line) (now letters) r span ⌝ }
+    ensures { λ v. ⌜ Voices (now (rules .entry)) (now (ready .entry)) (now (code .entry)) (now (line .entry)) (now (places .entry)) (now (places .exit))
+        (λ L t e. vowel-by L t e tail (bases ao (now (letters .entry)) (text r) (eqb (span .from + 1) (span .to))) (span .from) (span .to))
+        r (length (now (letters .entry))) v ⌝ }
 {
     let len = r.len;
     let b = r.bytes;
@@ -264,9 +264,8 @@ pub fn add_default_abugida_vowel(
 ) -> Voiced
     requires { ⌜ Prepared (now rules) (now ready) × FineVowels (now vowels) × Clean r × (r .len ≤ most-target)
         × (span .from < span .to) × (span .to ≤ size-in (now line)) ⌝ }
-    ensures { λ v. ⌜ Answers (now (rules .entry)) (now (ready .entry)) (now (code .entry)) (now (line .entry)) (now (places .entry)) (now (places .exit))
-        (λ L t e. vowel-step L t e (vowels-of (now (vowels .entry))) tail (text r) (span .from) (span .to)) (text (v .rom))
-        × Clean (v .rom) × (v .rom .len ≤ r .len + most-vowel) × (v .grown ≡ grown (text r) (text (v .rom))) ⌝ }
+    ensures { λ v. ⌜ Voices (now (rules .entry)) (now (ready .entry)) (now (code .entry)) (now (line .entry)) (now (places .entry)) (now (places .exit))
+        (λ L t e. vowel-step L t e (vowels-of (now (vowels .entry))) tail (text r) (span .from) (span .to)) r most-vowel v ⌝ }
 {
     let VowelOf::Row(row) = vowelrows::vowel_row(vowels, script_at(line, span.from + 1)) else {
         return Voiced {

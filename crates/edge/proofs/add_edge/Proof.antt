@@ -94,7 +94,7 @@ returns-4 c =
     let R = now (a .room) in
     let t = now (a .text) in
     let r = entered S R (a .filled .count) (a .filled .used) (a .e) t (sym (l .before .is-there .ensures) ∙ l .if1 .left) (omega arith) (omega arith) in
-    (r .0, (c .before .before .before .before .before .before .put-slot .ensures ∙ r .1 .0, c .before .before .put-at .ensures ∙ r .1 .1))
+    (r .0, c .before .before .before .before .before .before .put-slot .ensures ∙ r .1, c .before .before .put-at .ensures ∙ r .2)
 
 pub add-edge-spec : {M : Type 1} → statement M
 add-edge-spec =

@@ -50,10 +50,12 @@ add-edge-requires c κs =
     let forward = s .forward in
     let inside = s .inside in
     let long = lent-after (f .span-edge .last .1 .1 .1 .1 .1 .0) (o .lent) (A .kept) .edges .long in (
-      o .stored,
-      span-writable rules vowels code o (p .0) (p .1) (p .2) r A h (p .5),
-      p .4 .most,
-      span-new rules vowels code o (p .0) (p .1) (p .2) r A h (p .5) (p .4),
+      (
+        o .stored,
+        span-writable rules vowels code o (p .0) (p .1) (p .2) r A h (p .5),
+        p .4 .most,
+        span-new rules vowels code o (p .0) (p .1) (p .2) r A h (p .5) (p .4),
+      ),
       forward,
       omega (arith, inside, long),
     )
@@ -81,7 +83,7 @@ returns c =
     span-added (now (a .rules)) (now (a .vowels)) (now (a .code)) o (p .0) (p .1) (p .2) r asked (g .before .before .before .before .before .before .before .before .if1 .taken) (p .5)
     (g .before .before .before .before .ending-of .result)
     (λ x q l. g .before .before .before .before .ending-of .ensures (kinds w) x q (g .before .before .before .before .before .ends-in-letter .ensures ∙ l))
-    (A .last .0) (A .last .1 .0) (A .last .1 .1 .0) (A .result) (A .ensures .0) (A .ensures .1 .0) (A .ensures .1 .1 .0) (A .ensures .1 .1 .1)
+    (A .last .0) (A .last .1 .0) (A .last .1 .1 .0) (A .result) (A .ensures .0 .0) (A .ensures .0 .1) (A .ensures .0 .2) (A .ensures .1)
 
 same-length-4 : tie.Need-same-length-4
 same-length-4 c = search needs

@@ -44,7 +44,9 @@ returns c =
     (c .before .before .before .before .place-of .ensures .0) (omega arith) (omega arith)
 
 slice-aggregate-look-up : tie.Need-slice-aggregate-look-up
-slice-aggregate-look-up c = let a = c .before .before .before .before .before .args in sym (length-take-le index-entries (now (a .index)) (omega (arith, c .before .before .before .before .before .pre .long)))
+slice-aggregate-look-up c =
+    let s = c .before .before .before .before .before in
+    sym (length-take-le index-entries (now (s .args .index)) (omega (arith, s .pre .long)))
 
 look-up-requires : tie.Need-look-up-requires
 look-up-requires c κs = search needs

@@ -36,8 +36,10 @@ returns c =
     let k = c .before .before .before .before .before .before .before .before .before .before .before .before in
     let a = k .before .before .before .before .before .before .before .args in
     let A = k .add-edge .ensures in
-    let D = c .before .before .before .before .before .before .done .given in
-    (sym (D .1) ∙ A .0, (A .1 .0, (A .1 .1, c .before .before .note-edge .ensures ∙ after-more (a .filled .count) (a .e) (a .end) (now (a .places)) _ (D .0 .0) (D .0 .1 .0) refl (omega arith))))
+    let D = c .before .before .before .before .before .before .done .given in (
+      (sym (D .1) ∙ A .0, A .1, A .2),
+      c .before .before .note-edge .ensures ∙ after-more (a .filled .count) (a .e) (a .end) (now (a .places)) _ (D .0 .0) (D .0 .1 .0) refl (omega arith),
+    )
 
 same-length-4 : tie.Need-same-length-4
 same-length-4 c = search needs
@@ -51,7 +53,7 @@ returns-2 c =
     let a = k .before .before .before .before .before .before .before .args in
     let A = k .add-edge .ensures in
     let D = c .before .before .done .given in
-    (sym (D .1) ∙ A .0, (A .1 .0, (A .1 .1, after-same (a .filled .count) (a .e) (a .end) (now (a .places)) _ (D .0 .0) (D .0 .1 .0) refl (omega arith))))
+    ((sym (D .1) ∙ A .0, A .1, A .2), after-same (a .filled .count) (a .e) (a .end) (now (a .places)) _ (D .0 .0) (D .0 .1 .0) refl (omega arith))
 
 same-length-6 : tie.Need-same-length-6
 same-length-6 c = search needs
@@ -64,7 +66,7 @@ returns-3 c =
     let k = c .before .before .before .before .before .before in
     let a = k .before .before .before .before .before .before .before .args in
     let A = k .add-edge .ensures in
-    (A .0, (A .1 .0, (A .1 .1, after-refused (k .add-edge .result) (subst Refused (sym (c .enum-told .given .1)) tt) (a .filled .count) (a .e) (a .end) (now (a .places)))))
+    (A, after-refused (k .add-edge .result) (subst Refused (sym (c .enum-told .given .1)) tt) (a .filled .count) (a .e) (a .end) (now (a .places)))
 
 same-length-8 : tie.Need-same-length-8
 same-length-8 c = search needs
@@ -77,7 +79,7 @@ returns-4 c =
     let k = c .before .before .before .before .before .before in
     let a = k .before .before .before .before .before .before .before .args in
     let A = k .add-edge .ensures in
-    (A .0, (A .1 .0, (A .1 .1, after-refused (k .add-edge .result) (subst Refused (sym (c .enum-told2 .given .1)) tt) (a .filled .count) (a .e) (a .end) (now (a .places)))))
+    (A, after-refused (k .add-edge .result) (subst Refused (sym (c .enum-told2 .given .1)) tt) (a .filled .count) (a .e) (a .end) (now (a .places)))
 
 pub add-edge-spec : {M : Type 1} → statement M
 add-edge-spec =

@@ -169,7 +169,7 @@ returns c =
     let A = g .add-edge in
     λ vowels w o.
     category-adds x (the-space ∷ []) (spaced (x .before .category-note .result) i) (λ e. omega (arith, e, i)) w o (f .ending-of .result) (f .ending-of .ensures (kinds w)) vowels
-    (A .last .0) (A .last .1 .0) (A .last .1 .1 .0) (A .result) (A .ensures .0) (A .ensures .1 .0) (A .ensures .1 .1 .0) (A .ensures .1 .1 .1)
+    (A .last .0) (A .last .1 .0) (A .last .1 .1 .0) (A .result) (A .ensures .0 .0) (A .ensures .0 .1) (A .ensures .0 .2) (A .ensures .1)
 
 slice-aggregate-add-edge-2 : tie.Need-slice-aggregate-add-edge-2
 slice-aggregate-add-edge-2 c = search needs
@@ -204,7 +204,7 @@ returns-2 c =
     let A = g .add-edge2 in
     λ vowels w o.
     category-adds x [] (unspaced (x .before .category-note .result) i) h w o (f .ending-of2 .result) (f .ending-of2 .ensures (kinds w)) vowels
-    (A .last .0) (A .last .1 .0) (A .last .1 .1 .0) (A .result) (A .ensures .0) (A .ensures .1 .0) (A .ensures .1 .1 .0) (A .ensures .1 .1 .1)
+    (A .last .0) (A .last .1 .0) (A .last .1 .1 .0) (A .result) (A .ensures .0 .0) (A .ensures .0 .1) (A .ensures .0 .2) (A .ensures .1)
 
 add-number-at : tie.Need-add-number-at
 add-number-at c = search needs
@@ -286,7 +286,7 @@ returns-3 c =
     (answer b) (places-then b) (s .simple-top-romanization-candidate-for-span .ensures .0 w (o .told) (o .lent)) (b .before .encoded-len .result) (size-at b w o)
     (now (b .fallback-text .result)) (b .fallback-text .ensures) (x .result) y (sym (noted d w o) ∙ none)
     (letter .result) (letter .ensures (now (a .rules))) (end .result) (end .ensures (kinds w)) vowels
-    (A .last .0) (A .last .1 .0) (A .last .1 .1 .0) (A .result) (A .ensures .0) (A .ensures .1 .0) (A .ensures .1 .1 .0) (A .ensures .1 .1 .1)
+    (A .last .0) (A .last .1 .0) (A .last .1 .1 .0) (A .result) (A .ensures .0 .0) (A .ensures .0 .1) (A .ensures .0 .2) (A .ensures .1)
 
 pub add-fallback-spec : {M : Type 1} → statement M
 add-fallback-spec =

@@ -8,9 +8,9 @@ use borrow.Author.Needs.{needs}
 use denote.Ref.{now}
 use Rattle.base.specs.Lists.{all}
 use Rattle.definition.specs.RuleRows.{printable}
-use Rattle.dicts.specs.Turns.{bytes-over, bytes-other, bytes-next}
-use Rattle.dicts.proofs.all_printable.Statement.{statement}
-use Rattle.dicts.proofs.all_printable.Tie as tie
+use Rattle.rulecheck.specs.Turns.{bytes-over, bytes-other, bytes-next}
+use Rattle.rulecheck.proofs.all_printable.Statement.{statement}
+use Rattle.rulecheck.proofs.all_printable.Tie as tie
 
 abbrev Inv-loop : tie.InvT-loop
 Inv-loop s from to at₀ at =

@@ -6,10 +6,10 @@ use native.Mathlib.Omega.{arith}
 use lib.ListN.{length}
 use denote.Ref.{now}
 use borrow.Author.Needs.{needs}
-use Rattle.dicts.specs.Marks.{mark-of}
-use Rattle.dicts.specs.Plain.{Rising, fault-from, walk-inside, walk-rises, walk-on}
-use Rattle.dicts.proofs.plain_rows.Statement.{statement}
-use Rattle.dicts.proofs.plain_rows.Tie as tie
+use Rattle.rulecheck.specs.Marks.{mark-of}
+use Rattle.rulecheck.specs.Plain.{Rising, fault-from, walk-inside, walk-rises, walk-on}
+use Rattle.rulecheck.proofs.plain_rows.Statement.{statement}
+use Rattle.rulecheck.proofs.plain_rows.Tie as tie
 
 abbrev Inv-loop : tie.InvT-loop
 Inv-loop rules at left old first low here₀ more₀ last₀ none₀ least₀ here more last none least =

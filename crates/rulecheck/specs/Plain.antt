@@ -20,7 +20,7 @@ use Rattle.definition.specs.RuleRows.{end-target-bit, source-count, codes-at, c
 use Rattle.definition.specs.RuleRows.{three-at, rule-source, rule-codes, rises, rule-fits, source-right, codes-right, target-right, end-target-right, rule-right}
 use Rattle.definition.specs.Checking.{from, next}
 use Rattle.definition.specs.Accepted.{rule-moves}
-use Rattle.dicts.specs.Marks.{mark-of}
+use Rattle.rulecheck.specs.Marks.{mark-of}
 use Rattle.base.specs.Pick.{pick}
 use Rattle.blocks.specs.Held.{held}
 use Rattle.rulerow.specs.There.{three-there, byte-there}

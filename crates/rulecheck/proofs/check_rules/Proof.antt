@@ -14,10 +14,10 @@ use Rattle.definition.specs.Checking.{from, started, no-header, over, next, spe
 use Rattle.definition.specs.Accepted.{rule-moves}
 use Rattle.definition.specs.Checked.{rule-checked}
 use Rattle.blocks.specs.Faults.{fault-place}
-use Rattle.dicts.specs.Marks.{mark-of}
-use Rattle.dicts.specs.Plain.{after-row}
-use Rattle.dicts.proofs.check_rules.Statement.{statement}
-use Rattle.dicts.proofs.check_rules.Tie as tie
+use Rattle.rulecheck.specs.Marks.{mark-of}
+use Rattle.rulecheck.specs.Plain.{after-row}
+use Rattle.rulecheck.proofs.check_rules.Statement.{statement}
+use Rattle.rulecheck.proofs.check_rules.Tie as tie
 
 abbrev Inv-loop : tie.InvT-loop
 Inv-loop rules at₀ left₀ old₀ first₀ at left old first =

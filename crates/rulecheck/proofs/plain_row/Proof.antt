@@ -2,10 +2,10 @@
 use native.Mathlib.Omega.{arith}
 use mathlib.Core.Path.{refl, sym, _∙_}
 use denote.Ref.{now}
-use Rattle.dicts.specs.Plain.{told, not-plain}
+use Rattle.rulecheck.specs.Plain.{told, not-plain}
 use borrow.Author.Needs.{needs}
-use Rattle.dicts.proofs.plain_row.Statement.{statement}
-use Rattle.dicts.proofs.plain_row.Tie as tie
+use Rattle.rulecheck.proofs.plain_row.Statement.{statement}
+use Rattle.rulecheck.proofs.plain_row.Tie as tie
 
 sub-if1 : tie.Need-sub-if1
 sub-if1 c = search needs

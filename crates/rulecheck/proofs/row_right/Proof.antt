@@ -3,9 +3,9 @@ use mathlib.Core.Path.{ap}
 use denote.Ref.{now}
 use borrow.Author.Needs.{needs}
 use Rattle.rowread.specs.Row.{walked}
-use Rattle.dicts.specs.Marks.{first-row, later-row, wrong-row}
-use Rattle.dicts.proofs.row_right.Statement.{statement}
-use Rattle.dicts.proofs.row_right.Tie as tie
+use Rattle.rulecheck.specs.Marks.{first-row, later-row, wrong-row}
+use Rattle.rulecheck.proofs.row_right.Statement.{statement}
+use Rattle.rulecheck.proofs.row_right.Tie as tie
 
 read-row-requires : tie.Need-read-row-requires
 read-row-requires c κs = search needs
