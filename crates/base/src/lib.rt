@@ -75,6 +75,13 @@ pub fn four(s: &[u8], row: usize, i: usize) -> u64
 }
 
 // The same, for those who know that all of the bytes are there.
+pub fn at_there(s: &[u8], row: usize, i: usize) -> u32
+    requires { ⌜ row + i < length (now s) ⌝ }
+    ensures { λ r. ⌜ (r ≡ getD (drop row (now (s .entry))) i 0) × (r < 256) ⌝ }
+{
+    wide(s[row + i])
+}
+
 pub fn three_there(s: &[u8], row: usize, i: usize) -> u32
     requires { ⌜ row + i + 2 < length (now s) ⌝ }
     ensures { λ r. ⌜ (r ≡ be3 (drop row (now (s .entry))) i) × (r < 16777216) ⌝ }

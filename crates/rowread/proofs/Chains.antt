@@ -2,7 +2,7 @@
 use mathlib.Core.Bool.{Bool}
 use mathlib.Core.Path.{_≡_, refl, sym, ap, _∙_}
 use mathlib.Core.List.{List}
-use Prim.Native.Nat.{ℕ, zero, suc, _-_, _<_, _≤_}
+use Prim.Native.Nat.{ℕ, zero, suc, _+_, _-_, _<_, _≤_}
 use native.Mathlib.Omega.{arith}
 use lib.ListN.{length}
 use borrow.Author.Tests.{le-leb, lt-leb}
@@ -14,6 +14,7 @@ use Rattle.rowread.specs.declared.Fault.the-variants.{Length, Range}
 use Rattle.rowread.specs.declared.Cursor.{Cursor}
 use Rattle.rowread.specs.declared.Cursor.the-variants.{Next, Wrong}
 use Rattle.rowread.specs.Reading.{and-then, field, read-text, read-texts, read-text-if, read-parts, read-row}
+use Rattle.rowread.proofs.Tests.{field-past}
 use Rattle.rowread.proofs.Inside.{onward, faulty, inside-at, inside-text, inside-text-if}
 
 -- Texts one after another: reading those that are left leads where all lead
@@ -51,6 +52,12 @@ module _ {z : ℕ} {s : List ℕ} {n o left at : ℕ} (w : Left z s n o left at)
 -- a field whose test the code has asked, `x` being its answer
 pub by-test : (z o n : ℕ) (k : Fault) (x b : Bool) (r : Cursor) → r ≡ field z o n k x → x ≡ b → r ≡ field z o n k b
 by-test z o n k x b r e f = e ∙ ap (field z o n k) f
+
+-- where the row has no room for a count
+pub count-past : (z o : ℕ) (test : ℕ → Bool) (body : ℕ → ℕ → Cursor) (m : ℕ) → z < o + 1
+    → Wrong Length o ≡ and-then (field z o 1 Range (test m)) (body m)
+unfolding and-then
+count-past z o test body m h = sym (ap (λ c. and-then c (body m)) (field-past z o 1 Range (test m) h))
 
 -- A count and as many of what it counts: `n` is the count that was read, `r` the cursor past it
 module _ (z o : ℕ) (test : ℕ → Bool) (body : ℕ → ℕ → Cursor) (n m : ℕ) (e : n ≡ m) (r : Cursor) where

@@ -2,7 +2,7 @@
 use mathlib.Core.Bool.{Bool, true, false}
 use mathlib.Core.Path.{_≡_, refl, sym, ap, _∙_}
 use mathlib.Core.List.{List}
-use Prim.Native.Nat.{ℕ, zero, suc, _+_, _-_, _<_, _≤_}
+use Prim.Native.Nat.{ℕ, zero, suc, _+_, _-_, _*_, _<_, _≤_}
 use native.Mathlib.Omega.{arith}
 use lib.ListN.{getD, drop}
 use Rattle.base.specs.Big.{be3}
@@ -52,6 +52,17 @@ module _ {q : List ℕ → Bool} {size : ℕ} {k : Fault} {z : ℕ} {s : List �
         leads = sym (first q size k z s left at h ∙ rw (field-right z at size k (q (drop at s)) l e)) ∙ w .leads;
         inside = l;
       }
+
+-- the same, of fields of three bytes and of one, where it is told how far the walk has come
+pub record Threes (q : List ℕ → Bool) (k : Fault) (z : ℕ) (s : List ℕ) (n o at : ℕ) : Type 0 where
+  pub left : ℕ
+  pub walk : Left q 3 k z s n o left at
+  pub stands : at + 3 * left ≡ o + 3 * n
+
+pub record Ones (q : List ℕ → Bool) (k : Fault) (z : ℕ) (s : List ℕ) (n o at : ℕ) : Type 0 where
+  pub left : ℕ
+  pub walk : Left q 1 k z s n o left at
+  pub stands : at + left ≡ o + n
 
 -- the test of what stands there, `x` being the code's answer on the number `c` that it read
 module _ {size : ℕ} {k : Fault} {z : ℕ} {s : List ℕ} {n o left at : ℕ} where

@@ -1,7 +1,7 @@
 // A row of the rule table read field by field (dicts/model.rs): its parts, or the first thing that is wrong with it.
 ghost use mathlib.Core.Path.{_≡_};
 ghost use mathlib.Core.Bool.{true, _&&_};
-ghost use Prim.Native.Nat.{_+_, _<_, _≤_};
+ghost use Prim.Native.Nat.{_+_, _*_, _<_, _≤_};
 ghost use lib.Dec.{leb};
 ghost use lib.ListN.{length, drop};
 ghost use Rattle.definition.specs.RuleRows.{printable, source-count};
@@ -9,7 +9,7 @@ ghost use Rattle.definition.specs.RuleRows.{target-at, end-target-at, others-at
 ghost use Rattle.rulerow.specs.Sizes.{size-limit};
 ghost use Rattle.rowread.specs.Reading.{field, fields, character-right, code-letters, byte-right};
 ghost use Rattle.rowread.specs.Reading.{read-text, read-texts, read-text-if, read-flags, read-source, read-codes};
-ghost use Rattle.rowread.specs.Reading.{read-others, read-end, read-tail, read-parts, read-row};
+ghost use Rattle.rowread.specs.Reading.{read-others, read-end, read-tail, read-parts, read-row, rightly};
 ghost use Rattle.rowread.specs.Row.{walked, Parted};
 
 // What a row may hold at most (document 01).
@@ -89,32 +89,55 @@ fn code_letters(rules: &[u8], row: usize, o: usize) -> bool
     requires { ⌜ (o < size-limit) × (o + 3 ≤ length (drop row (now rules))) ⌝ }
     ensures { λ r. ⌜ r ≡ code-letters (drop o (drop row (now (rules .entry)))) ⌝ }
 {
-    if blocks::small(base::at(rules, row, o)) {
-        if blocks::small(base::at(rules, row, o + 1)) {
-            return blocks::small(base::at(rules, row, o + 2));
+    if blocks::small(base::at_there(rules, row, o)) {
+        if blocks::small(base::at_there(rules, row, o + 1)) {
+            return blocks::small(base::at_there(rules, row, o + 2));
         }
     }
     false
 }
 
-// As many characters of a source. Each of these loops asks first whether the field fits, so that a code's letters are
-// asked only where the table has them.
+// How many of `n` fields of three bytes from `o` on, or of one byte, lie in a row of size `z`.
+fn threes_there(z: usize, o: usize, n: usize) -> usize
+    requires { ⌜ o ≤ z ⌝ }
+    ensures { λ r. ⌜ (r ≤ n) × (o + 3 * r ≤ z) × (r < n → z < o + 3 * r + 3) ⌝ }
+{
+    let room = (z - o) / 3;
+    if n <= room {
+        return n;
+    }
+    room
+}
+
+fn ones_there(z: usize, o: usize, n: usize) -> usize
+    requires { ⌜ o ≤ z ⌝ }
+    ensures { λ r. ⌜ (r ≤ n) × (o + r ≤ z) × (r < n → z < o + r + 1) ⌝ }
+{
+    let room = z - o;
+    if n <= room {
+        return n;
+    }
+    room
+}
+
+// As many characters of a source. Each of these loops reads those that lie in the row; then the first that does not is at
+// fault.
 fn read_characters(rules: &[u8], row: usize, z: usize, n: usize, o: usize) -> Cursor
-    requires { ⌜ (z < size-limit) × (o ≤ z) ⌝ }
+    requires { ⌜ (z < size-limit) × (o ≤ z) × (z ≤ length (drop row (now rules))) ⌝ }
     ensures { λ r. ⌜ r ≡ fields character-right 3 Fault.Letter z (drop row (now (rules .entry))) n o ⌝ }
 {
-    let mut left = n;
+    let there = threes_there(z, o, n);
+    let end = o + 3 * there;
     let mut at = o;
-    while 0 < left {
-        if z < at + 3 {
-            return Cursor::Wrong(Fault::Length, at);
-        }
-        if blocks::scalar(base::three(rules, row, at)) {
-            left -= 1;
+    while at < end {
+        if blocks::scalar(base::three_there(rules, row, at)) {
             at += 3;
         } else {
             return Cursor::Wrong(Fault::Letter, at);
         }
+    }
+    if there < n {
+        return Cursor::Wrong(Fault::Length, at);
     }
     Cursor::Next(at)
 }
@@ -124,49 +147,52 @@ fn read_language_codes(rules: &[u8], row: usize, z: usize, n: usize, o: usize) -
     requires { ⌜ (z < size-limit) × (o ≤ z) × (z ≤ length (drop row (now rules))) ⌝ }
     ensures { λ r. ⌜ r ≡ fields code-letters 3 Fault.Letter z (drop row (now (rules .entry))) n o ⌝ }
 {
-    let mut left = n;
+    let there = threes_there(z, o, n);
+    let end = o + 3 * there;
     let mut at = o;
-    while 0 < left {
-        if z < at + 3 {
-            return Cursor::Wrong(Fault::Length, at);
-        }
+    while at < end {
         if code_letters(rules, row, at) {
-            left -= 1;
             at += 3;
         } else {
             return Cursor::Wrong(Fault::Letter, at);
         }
+    }
+    if there < n {
+        return Cursor::Wrong(Fault::Length, at);
     }
     Cursor::Next(at)
 }
 
 // As many bytes of a target text.
 fn read_bytes(rules: &[u8], row: usize, z: usize, n: usize, o: usize) -> Cursor
-    requires { ⌜ (z < size-limit) × (o ≤ z) ⌝ }
+    requires { ⌜ (z < size-limit) × (o ≤ z) × (z ≤ length (drop row (now rules))) ⌝ }
     ensures { λ r. ⌜ r ≡ fields byte-right 1 Fault.Byte z (drop row (now (rules .entry))) n o ⌝ }
 {
-    let mut left = n;
+    let there = ones_there(z, o, n);
+    let end = o + there;
     let mut at = o;
-    while 0 < left {
-        if z < at + 1 {
-            return Cursor::Wrong(Fault::Length, at);
-        }
-        if printable(base::at(rules, row, at)) {
-            left -= 1;
+    while at < end {
+        if printable(base::at_there(rules, row, at)) {
             at += 1;
         } else {
             return Cursor::Wrong(Fault::Byte, at);
         }
+    }
+    if there < n {
+        return Cursor::Wrong(Fault::Length, at);
     }
     Cursor::Next(at)
 }
 
 // A text: its length byte, then its bytes. A fault of a field is the answer as it stands.
 fn read_text(rules: &[u8], row: usize, z: usize, o: usize) -> Cursor
-    requires { ⌜ (z < size-limit) × (o ≤ z) ⌝ }
+    requires { ⌜ (z < size-limit) × (o ≤ z) × (z ≤ length (drop row (now rules))) ⌝ }
     ensures { λ r. ⌜ r ≡ read-text z (drop row (now (rules .entry))) o ⌝ }
 {
-    let n = base::at(rules, row, o);
+    if z <= o {
+        return Cursor::Wrong(Fault::Length, o);
+    }
+    let n = base::at_there(rules, row, o);
     let c = field(z, o, 1, Fault::Range, n <= MOST_TARGET);
     let Cursor::Next(next) = c else {
         return c;
@@ -176,7 +202,7 @@ fn read_text(rules: &[u8], row: usize, z: usize, o: usize) -> Cursor
 
 // As many texts.
 fn read_texts(rules: &[u8], row: usize, z: usize, n: usize, o: usize) -> Cursor
-    requires { ⌜ (z < size-limit) × (o ≤ z) ⌝ }
+    requires { ⌜ (z < size-limit) × (o ≤ z) × (z ≤ length (drop row (now rules))) ⌝ }
     ensures { λ r. ⌜ r ≡ read-texts z (drop row (now (rules .entry))) n o ⌝ }
 {
     let mut left = n;
@@ -194,7 +220,7 @@ fn read_texts(rules: &[u8], row: usize, z: usize, n: usize, o: usize) -> Cursor
 
 // A text, where the row has one.
 fn read_text_if(rules: &[u8], row: usize, z: usize, o: usize, there: bool) -> Cursor
-    requires { ⌜ (z < size-limit) × (o ≤ z) ⌝ }
+    requires { ⌜ (z < size-limit) × (o ≤ z) × (z ≤ length (drop row (now rules))) ⌝ }
     ensures { λ r. ⌜ r ≡ read-text-if there z (drop row (now (rules .entry))) o ⌝ }
 {
     if there {
@@ -218,10 +244,13 @@ fn read_flags(rules: &[u8], row: usize, z: usize) -> Cursor
 
 // The source.
 fn read_source(rules: &[u8], row: usize, z: usize, o: usize) -> Cursor
-    requires { ⌜ (z < size-limit) × (o ≤ z) ⌝ }
+    requires { ⌜ (z < size-limit) × (o ≤ z) × (z ≤ length (drop row (now rules))) ⌝ }
     ensures { λ r. ⌜ r ≡ read-source z (drop row (now (rules .entry))) o ⌝ }
 {
-    let n = base::at(rules, row, o);
+    if z <= o {
+        return Cursor::Wrong(Fault::Length, o);
+    }
+    let n = base::at_there(rules, row, o);
     let c = field(z, o, 1, Fault::Range, between(1, n, rulerow::MOST_SOURCE));
     let Cursor::Next(next) = c else {
         return c;
@@ -234,7 +263,10 @@ fn read_codes(rules: &[u8], row: usize, z: usize, o: usize) -> Cursor
     requires { ⌜ (z < size-limit) × (o ≤ z) × (z ≤ length (drop row (now rules))) ⌝ }
     ensures { λ r. ⌜ r ≡ read-codes z (drop row (now (rules .entry))) o ⌝ }
 {
-    let n = base::at(rules, row, o);
+    if z <= o {
+        return Cursor::Wrong(Fault::Length, o);
+    }
+    let n = base::at_there(rules, row, o);
     let c = field(z, o, 1, Fault::Range, n <= MOST_CODES);
     let Cursor::Next(next) = c else {
         return c;
@@ -244,10 +276,13 @@ fn read_codes(rules: &[u8], row: usize, z: usize, o: usize) -> Cursor
 
 // The alternatives.
 fn read_others(rules: &[u8], row: usize, z: usize, o: usize) -> Cursor
-    requires { ⌜ (z < size-limit) × (o ≤ z) ⌝ }
+    requires { ⌜ (z < size-limit) × (o ≤ z) × (z ≤ length (drop row (now rules))) ⌝ }
     ensures { λ r. ⌜ r ≡ read-others z (drop row (now (rules .entry))) o ⌝ }
 {
-    let n = base::at(rules, row, o);
+    if z <= o {
+        return Cursor::Wrong(Fault::Length, o);
+    }
+    let n = base::at_there(rules, row, o);
     let c = field(z, o, 1, Fault::Range, n <= MOST_ALTERNATIVES);
     let Cursor::Next(next) = c else {
         return c;
@@ -267,7 +302,7 @@ fn read_end(z: usize, o: usize) -> Cursor
 
 // The texts of a row from its target on, and its end.
 fn read_tail(rules: &[u8], row: usize, z: usize, o: usize) -> Cursor
-    requires { ⌜ (z < size-limit) × (o ≤ z) ⌝ }
+    requires { ⌜ (z < size-limit) × (o ≤ z) × (z ≤ length (drop row (now rules))) ⌝ }
     ensures { λ r. ⌜ r ≡ read-tail z (drop row (now (rules .entry))) o ⌝ }
 {
     let target = read_text_if(
@@ -342,6 +377,17 @@ fn row_parts(rules: &[u8], row: usize, size: usize) -> RowParts
         target: rulerow::target_at(rules, row),
         ending: rulerow::end_target_at(rules, row),
         others: rulerow::others_at(rules, row),
+    }
+}
+
+// Whether the row at `row` has no fault.
+pub fn is_right(rules: &[u8], row: usize) -> bool
+    requires { ⌜ row ≤ length (now rules) ⌝ }
+    ensures { λ r. ⌜ r ≡ rightly (read-row (drop row (now (rules .entry)))) ⌝ }
+{
+    match walk_row(rules, row) {
+        Cursor::Next(_) => true,
+        Cursor::Wrong(_, _) => false,
     }
 }
 

@@ -8,7 +8,6 @@ ghost use Rattle.blocks.specs.Faults.{fault-place};
 ghost use Rattle.rulecheck.specs.Marks.{mark-of};
 ghost use Rattle.rulecheck.specs.Plain.{Plain, Rising, fault-from};
 use blocks::TableRead;
-use rowread::RowRead;
 
 // Bytes of a target, at most.
 const MOST_TARGET: usize = rowread::MOST_TARGET as usize;
@@ -127,18 +126,13 @@ fn row_right(rules: &[u8], row: usize, old: usize, first: bool) -> bool
     requires { ⌜ row ≤ length (now rules) ⌝ }
     ensures { λ r. ⌜ r ≡ rule-right (mark-of (now (rules .entry)) old first) (drop row (now (rules .entry))) ⌝ }
 {
-    let c = rowread::read_row(rules, row);
-    match c {
-        RowRead::Parts(_) => {
-            if first {
-                return true;
-            }
-            return rulerow::sources_rise(rules, old, row);
-        }
-        RowRead::Wrong(_, _) => {
-            return false;
-        }
+    if first {
+        return rowread::is_right(rules, row);
     }
+    if rulerow::sources_rise(rules, old, row) {
+        return rowread::is_right(rules, row);
+    }
+    false
 }
 
 // The first fault of a rule table. No more than `MOST_ROWS` rows, and sources rise.

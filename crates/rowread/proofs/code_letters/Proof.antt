@@ -1,6 +1,7 @@
 -- `rowread::code_letters`: each return is a case of three letters, which the table has.
 use mathlib.Core.Path.{sym, ap, _∙_}
-use lib.ListN.{drop}
+use native.Mathlib.Omega.{arith}
+use lib.ListN.{drop, length-drop}
 use borrow.Author.Needs.{needs}
 use denote.Ref.{now}
 use Rattle.definition.specs.Blocks.{small}
@@ -8,26 +9,32 @@ use Rattle.rowread.proofs.Tests.{not-first, not-second, by-third}
 use Rattle.rowread.proofs.code_letters.Statement.{statement}
 use Rattle.rowread.proofs.code_letters.Tie as tie
 
-at-requires : tie.Need-at-requires
-at-requires c κs = search needs
+at-there-requires : tie.Need-at-there-requires
+at-there-requires c κs =
+    let a = c .before .args in
+    omega (arith, length-drop (a .row) (now (a .rules)))
 
 small-requires : tie.Need-small-requires
 small-requires c κs = search needs
 
-add-at : tie.Need-add-at
-add-at c = search needs
+add-at-there : tie.Need-add-at-there
+add-at-there c = search needs
 
-at-requires-2 : tie.Need-at-requires-2
-at-requires-2 c κs = search needs
+at-there-requires-2 : tie.Need-at-there-requires-2
+at-there-requires-2 c κs =
+    let a = c .before .before .before .before .args in
+    omega (arith, length-drop (a .row) (now (a .rules)))
 
 small-requires-2 : tie.Need-small-requires-2
 small-requires-2 c κs = search needs
 
-add-at-2 : tie.Need-add-at-2
-add-at-2 c = search needs
+add-at-there-2 : tie.Need-add-at-there-2
+add-at-there-2 c = search needs
 
-at-requires-3 : tie.Need-at-requires-3
-at-requires-3 c κs = search needs
+at-there-requires-3 : tie.Need-at-there-requires-3
+at-there-requires-3 c κs =
+    let a = c .before .before .before .before .before .before .before .args in
+    omega (arith, length-drop (a .row) (now (a .rules)))
 
 small-requires-3 : tie.Need-small-requires-3
 small-requires-3 c κs = search needs
@@ -38,10 +45,10 @@ returns c =
     let i = k .before .before .before in
     let p = i .before .before .before in
     c .small3 .ensures
-    ∙ ap small (c .before .at3 .ensures .0)
+    ∙ ap small (c .before .at-there3 .ensures .0)
     ∙ by-third (drop (p .args .row) (now (p .args .rules))) (p .args .o) (p .pre .1)
-    (sym (i .small .ensures ∙ ap small (i .before .at .ensures .0)) ∙ k .before .before .if1 .taken)
-    (sym (k .small2 .ensures ∙ ap small (k .before .at2 .ensures .0)) ∙ c .before .before .if2 .taken)
+    (sym (i .small .ensures ∙ ap small (i .before .at-there .ensures .0)) ∙ k .before .before .if1 .taken)
+    (sym (k .small2 .ensures ∙ ap small (k .before .at-there2 .ensures .0)) ∙ c .before .before .if2 .taken)
 
 returns-2 : tie.Need-returns-2
 returns-2 c =
@@ -49,27 +56,27 @@ returns-2 c =
     let i = k .before .before .before in
     let p = i .before .before .before in
     not-second (drop (p .args .row) (now (p .args .rules))) (p .args .o) (p .pre .1)
-    (sym (i .small .ensures ∙ ap small (i .before .at .ensures .0)) ∙ k .before .before .if1 .taken)
-    (sym (k .small2 .ensures ∙ ap small (k .before .at2 .ensures .0)) ∙ c .if2 .left)
+    (sym (i .small .ensures ∙ ap small (i .before .at-there .ensures .0)) ∙ k .before .before .if1 .taken)
+    (sym (k .small2 .ensures ∙ ap small (k .before .at-there2 .ensures .0)) ∙ c .if2 .left)
 
 returns-3 : tie.Need-returns-3
 returns-3 c =
     let i = c .before in
     let p = i .before .before .before in
     not-first (drop (p .args .row) (now (p .args .rules))) (p .args .o) (p .pre .1)
-    (sym (i .small .ensures ∙ ap small (i .before .at .ensures .0)) ∙ c .if1 .left)
+    (sym (i .small .ensures ∙ ap small (i .before .at-there .ensures .0)) ∙ c .if1 .left)
 
 pub code-letters-spec : {M : Type 1} → statement M
 code-letters-spec =
     tie.close
     (tie.spec
-    at-requires
+    at-there-requires
     small-requires
-    add-at
-    at-requires-2
+    add-at-there
+    at-there-requires-2
     small-requires-2
-    add-at-2
-    at-requires-3
+    add-at-there-2
+    at-there-requires-3
     small-requires-3
     returns
     returns-2

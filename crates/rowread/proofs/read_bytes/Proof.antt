@@ -1,57 +1,86 @@
--- `rowread::read_bytes`: what is left to read leads where the whole leads (`Left`), and each turn keeps that.
+-- `rowread::read_bytes`: what is left to read leads where the whole leads (`Ones`), and each turn keeps that.
+use Prim.Native.Nat.{ℕ, _+_, _-_, _*_, _≤_}
 use native.Mathlib.Omega.{arith}
-use lib.ListN.{drop}
+use lib.ListN.{drop, length-drop}
+use denote.Ref.{now}
 use borrow.Author.Needs.{needs}
 use Rattle.rowread.specs.declared.Fault.the-variants.{Byte}
 use Rattle.rowread.specs.Reading.{byte-right}
-use Rattle.rowread.proofs.Fields.{Left, begun, no-more, past, not-right, right, is-byte}
+use Rattle.rowread.proofs.Fields.{Ones, begun, no-more, past, not-right, right, is-byte}
 use Rattle.rowread.proofs.read_bytes.Statement.{statement}
 use Rattle.rowread.proofs.read_bytes.Tie as tie
 
 abbrev Inv-loop : tie.InvT-loop
-Inv-loop rules row z n o left₀ at₀ left at = Left byte-right 1 Byte z (drop row rules) n o left at
+Inv-loop rules row z n o there end at₀ at = Ones byte-right Byte z (drop row rules) n o at × (at ≤ end)
 
 abbrev μ-loop : tie.MeasureT-loop
-μ-loop rules row z n o left₀ at₀ left at = left
+μ-loop rules row z n o there end at₀ at = end - at
+
+ones-there-requires : tie.Need-ones-there-requires Inv-loop μ-loop
+ones-there-requires c κs = omega arith
+
+add-end : tie.Need-add-end Inv-loop μ-loop
+add-end c = omega (arith, c .ones-there .ensures .1)
 
 loop-holds : tie.Need-loop-holds Inv-loop μ-loop
-loop-holds c = begun (omega arith)
+loop-holds c =
+    let a = c .before .before .args in
+    (record { left = a .n; walk = begun (omega arith); stands = omega arith }, omega arith)
 
-add-if1 : tie.Need-add-if1 Inv-loop μ-loop
-add-if1 c = omega arith
-
-returns : tie.Need-returns Inv-loop μ-loop
-returns c = past (c .before .before .loop .inv) (omega arith) (omega arith)
-
-at-requires : tie.Need-at-requires Inv-loop μ-loop
-at-requires c κs = omega arith
+at-there-requires : tie.Need-at-there-requires Inv-loop μ-loop
+at-there-requires c κs =
+    let l = c .before in
+    let a = l .before .before .before .args in
+    let t = l .before .ones-there .ensures in
+    omega (arith, l .loop .inv .0 .stands, t .0, t .1, length-drop (a .row) (now (a .rules)))
 
 printable-requires : tie.Need-printable-requires Inv-loop μ-loop
 printable-requires c κs = search needs
 
-sub-left : tie.Need-sub-left Inv-loop μ-loop
-sub-left c = omega arith
-
 add-at : tie.Need-add-at Inv-loop μ-loop
-add-at c = omega arith
+add-at c = let l = c .before .before .before .before in omega (arith, l .loop .inv .1, l .before .ones-there .ensures .1)
 
 loop-less : tie.Need-loop-less Inv-loop μ-loop
 loop-less c = omega arith
 
 loop-again : tie.Need-loop-again Inv-loop μ-loop
 loop-again c =
-    let w = c .before .before .before .before .before .loop .inv in
-    right w (omega arith) (omega arith)
-    (is-byte w _ (c .before .printable .ensures) (c .before .before .at .ensures .0) (c .if2 .taken))
+    let l = c .before .before .before .before in
+    let w = l .loop .inv .0 in
+    let t = l .before .ones-there .ensures in
+    let e = w .stands in (
+      record {
+        left = w .left - 1;
+        walk = right (w .walk) (omega (arith, t .0)) (omega (arith, t .0, t .1)) (is-byte (w .walk) _ (c .before .printable .ensures) (c .before .before .at-there .ensures .0) (c .if1 .taken));
+        stands = omega (arith, t .0);
+      },
+      omega (arith, t .0),
+    )
+
+returns : tie.Need-returns Inv-loop μ-loop
+returns c =
+    let l = c .before .before .before .before in
+    let w = l .loop .inv .0 in
+    let t = l .before .ones-there .ensures in
+    let e = w .stands in
+    not-right (w .walk) (omega (arith, t .0)) (omega (arith, t .0, t .1)) (is-byte (w .walk) _ (c .before .printable .ensures) (c .before .before .at-there .ensures .0) (c .if1 .left))
 
 returns-2 : tie.Need-returns-2 Inv-loop μ-loop
 returns-2 c =
-    let w = c .before .before .before .before .before .loop .inv in
-    not-right w (omega arith) (omega arith)
-    (is-byte w _ (c .before .printable .ensures) (c .before .before .at .ensures .0) (c .if2 .left))
+    let l = c .before .before in
+    let w = l .loop .inv .0 in
+    let t = l .before .ones-there .ensures in
+    let e = w .stands in
+    let near = t .2 (omega arith) in
+    past (w .walk) (omega (arith, l .loop .inv .1)) (omega (arith, l .loop .inv .1))
 
 returns-3 : tie.Need-returns-3 Inv-loop μ-loop
-returns-3 c = no-more (c .before .loop .inv) (omega arith)
+returns-3 c =
+    let l = c .before .before in
+    let w = l .loop .inv .0 in
+    let t = l .before .ones-there .ensures in
+    let e = w .stands in
+    no-more (w .walk) (omega (arith, t .0, l .loop .inv .1))
 
 pub read-bytes-spec : {M : Type 1} → statement M
 read-bytes-spec =
@@ -59,14 +88,14 @@ read-bytes-spec =
     (tie.spec
     Inv-loop
     μ-loop
+    ones-there-requires
+    add-end
     loop-holds
-    add-if1
-    returns
-    at-requires
+    at-there-requires
     printable-requires
-    sub-left
     add-at
     loop-less
     loop-again
+    returns
     returns-2
     returns-3)

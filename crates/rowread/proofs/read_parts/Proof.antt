@@ -34,7 +34,7 @@ read-source-requires c κs =
     let f = c .before .before .before in
     let t = f .before .before in
     let z = t .args .z in
-    (omega arith, inside-at z _ _ _ (inside-flags z (S t)) (f .read-flags .ensures) (c .before .flags .given .1))
+    (omega arith, inside-at z _ _ _ (inside-flags z (S t)) (f .read-flags .ensures) (c .before .flags .given .1), omega arith)
 
 enum-known-source : tie.Need-enum-known-source
 enum-known-source c = search needs
@@ -86,7 +86,7 @@ read-tail-requires c κs =
     let f = g .before .before .before .before in
     let t = f .before .before in
     let z = t .args .z in
-    (omega arith, inside-at z _ _ _ (inside-codes z (S t) _) (i .read-codes .ensures) (c .before .codes .given .1))
+    (omega arith, inside-at z _ _ _ (inside-codes z (S t) _) (i .read-codes .ensures) (c .before .codes .given .1), omega arith)
 
 returns-4 : tie.Need-returns-4
 unfolding read-parts read-tail

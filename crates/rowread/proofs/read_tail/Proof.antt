@@ -33,7 +33,7 @@ read-text-if-requires-2 c κs =
     let k = c .before .before in
     let f = k .before .before in
     let t = f .before .before .before in
-    (omega arith, past-text-if _ _ _ _ _ _ (t .pre .1) (f .read-text-if .ensures) (k .target .given .1))
+    (omega arith, past-text-if _ _ _ _ _ _ (t .pre .1) (f .read-text-if .ensures) (k .target .given .1), omega arith)
 
 enum-known-end-target : tie.Need-enum-known-end-target
 enum-known-end-target c = search needs
@@ -58,7 +58,7 @@ read-others-requires c κs =
     let f = k .before .before in
     let t = f .before .before .before in
     let h = past-text-if _ _ _ _ _ _ (t .pre .1) (f .read-text-if .ensures) (k .target .given .1) in
-    (omega arith, past-text-if _ _ _ _ _ _ h (g .read-text-if2 .ensures) (c .before .end-target .given .1))
+    (omega arith, past-text-if _ _ _ _ _ _ h (g .read-text-if2 .ensures) (c .before .end-target .given .1), omega arith)
 
 enum-known-others : tie.Need-enum-known-others
 enum-known-others c = search needs
