@@ -74,7 +74,7 @@ pub fn four(s: &[u8], row: usize, i: usize) -> u64
     three(s, row, i) as u64 * 256 + at(s, row, i + 3) as u64
 }
 
-// The same, for those who know that all of the bytes are there.
+// The byte and the numbers at `i`, counted from the place `row` on, for those who know that all of the bytes are there.
 pub fn at_there(s: &[u8], row: usize, i: usize) -> u32
     requires { ⌜ row + i < length (now s) ⌝ }
     ensures { λ r. ⌜ (r ≡ getD (drop row (now (s .entry))) i 0) × (r < 256) ⌝ }

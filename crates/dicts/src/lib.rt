@@ -10,7 +10,7 @@ ghost use Rattle.dicts.specs.Entries.{entry-below};
 ghost use Rattle.dicts.specs.Longer.{has-longer};
 ghost use Rattle.base.specs.Lists.{starts};
 
-// The index has the offset of every so manieth row, and so many entries.
+// How many rows lie from one entry of the index to the next, and how many entries it has.
 const INDEX_STEP: usize = 16;
 
 pub const INDEX_ENTRIES: usize = 512;
