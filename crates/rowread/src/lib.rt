@@ -9,13 +9,13 @@ ghost use Rattle.definition.specs.RuleRows.{target-at, end-target-at, others-at
 ghost use Rattle.rulerow.specs.Sizes.{size-limit};
 ghost use Rattle.rowread.specs.Reading.{field, fields, character-right, code-letters, byte-right};
 ghost use Rattle.rowread.specs.Reading.{read-text, read-texts, read-text-if, read-flags, read-source, read-codes};
-ghost use Rattle.rowread.specs.Reading.{read-others, read-end, read-tail, read-parts, read-row, rightly};
+ghost use Rattle.rowread.specs.Reading.{read-others, read-end, read-tail, read-parts, read-row};
 ghost use Rattle.rowread.specs.Row.{walked, Parted};
 
 // What a row may hold at most (document 01).
-const MOST_CODES: u32 = 8;
+pub const MOST_CODES: u32 = 8;
 
-const MOST_ALTERNATIVES: u32 = 8;
+pub const MOST_ALTERNATIVES: u32 = 8;
 
 pub const MOST_TARGET: u32 = 64;
 
@@ -85,7 +85,7 @@ fn field(z: usize, o: usize, n: usize, fault: Fault, ok: bool) -> Cursor
 }
 
 // Are the three bytes of a language code, which the table has, all letters?
-fn code_letters(rules: &[u8], row: usize, o: usize) -> bool
+pub fn code_letters(rules: &[u8], row: usize, o: usize) -> bool
     requires { ⌜ (o < size-limit) × (o + 3 ≤ length (drop row (now rules))) ⌝ }
     ensures { λ r. ⌜ r ≡ code-letters (drop o (drop row (now (rules .entry)))) ⌝ }
 {
@@ -377,17 +377,6 @@ fn row_parts(rules: &[u8], row: usize, size: usize) -> RowParts
         target: rulerow::target_at(rules, row),
         ending: rulerow::end_target_at(rules, row),
         others: rulerow::others_at(rules, row),
-    }
-}
-
-// Whether the row at `row` has no fault.
-pub fn is_right(rules: &[u8], row: usize) -> bool
-    requires { ⌜ row ≤ length (now rules) ⌝ }
-    ensures { λ r. ⌜ r ≡ rightly (read-row (drop row (now (rules .entry)))) ⌝ }
-{
-    match walk_row(rules, row) {
-        Cursor::Next(_) => true,
-        Cursor::Wrong(_, _) => false,
     }
 }
 

@@ -1,3 +1,3 @@
-pub mod Turns
 pub mod Marks
 pub mod Plain
+pub mod Walks

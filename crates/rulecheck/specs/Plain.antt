@@ -1,10 +1,9 @@
 -- Rows of the commonest kind: one character, no codes, a target, no alternatives. What is asked of them is a handful of
 -- tests; such a row is right.
-use mathlib.Core.Bool.{Bool, true, false}
+use mathlib.Core.Bool.{true, false}
 use mathlib.Core.Path.{_≡_, refl, sym, ap, _∙_}
 use mathlib.Core.List.{List, [], _∷_}
-use mathlib.Core.Option.{Option}
-use Prim.Native.Nat.{ℕ, zero, suc, _+_, _/_, _%_, _-_, _<_, _≤_}
+use Prim.Native.Nat.{ℕ, _+_, _/_, _%_, _-_, _<_, _≤_}
 use native.Mathlib.Omega.{arith}
 use lib.ListN.{length, getD, take, drop, length-drop}
 use lib.Seq.{drop-drop}
@@ -17,37 +16,14 @@ use Rattle.definition.specs.Texts.{Text}
 use Rattle.definition.specs.Utf8.{scalar}
 use Rattle.definition.specs.RuleRows.{printable, text-size, text-of, text-right, texts-size, texts-right, rule-size, rule-flag, zero-bit, target-bit}
 use Rattle.definition.specs.RuleRows.{end-target-bit, source-count, codes-at, codes-count, target-at, past-text, end-target-at, others-at, others-end, others-right}
-use Rattle.definition.specs.RuleRows.{three-at, rule-source, rule-codes, rises, rule-fits, source-right, codes-right, target-right, end-target-right, rule-right}
-use Rattle.definition.specs.Checking.{from, next}
-use Rattle.definition.specs.Accepted.{rule-moves}
-use Rattle.rulecheck.specs.Marks.{mark-of}
-use Rattle.base.specs.Pick.{pick}
+use Rattle.definition.specs.RuleRows.{rule-source, rule-codes, rule-fits, source-right, codes-right, target-right, end-target-right, rule-right}
+use Rattle.rulecheck.specs.Marks.{Rising, Past, past-right}
 use Rattle.blocks.specs.Held.{held}
 use Rattle.rulerow.specs.There.{three-there, byte-there}
 
--- from `low` on a first character rises over the source before it
-pub record Rising (old : Text) (low : ℕ) : Type 0 where
-  pub above : (c : ℕ) (t : Text) → low ≤ c → rises old (c ∷ t) ≡ true
-
-pub none-before : Rising [] 0
-unfolding rises
-none-before = record { above = λ c t l. refl }
-
-pub after-row : (s : List ℕ) (low : ℕ) → low ≡ be3 s 6 + 1 → Rising (rule-source s) low
-unfolding rule-source
-after-row s low e = record { above = λ c t l. go (source-count s) c t (let h = three-there s 6 in omega arith) }
-  where
-    go : (n c : ℕ) (t : Text) → suc (three-at (drop 6 s)) ≤ c → rises (counted three-at 3 n (drop 6 s)) (c ∷ t) ≡ true
-    go zero c t l = unfold counted rises in refl
-    go (suc n) c t l = unfold counted rises in rw (lt-ltb (three-at (drop 6 s)) c (omega arith)) refl
-
--- the first fault of a table from a row on, after the row at `old` unless it is the first
-abbrev pub fault-from : List ℕ → ℕ → ℕ → ℕ → Bool → Option ℕ
-fault-from b at left old first = from rule-size rule-source rule-right at left (mark-of b old first) b
-
--- a plain row, and the character past its own
-pub record Plain (low : ℕ) (s : List ℕ) (past : ℕ) : Type 0 where
-  pub passed : past ≡ be3 s 6 + 1
+-- a plain row, and its end
+pub record Plain (low : ℕ) (s : List ℕ) (row past : ℕ) : Type 0 where
+  pub passed : past ≡ row + (12 + getD s 10 0)
   pub long : 12 + getD s 10 0 ≤ length s
   pub size : rule-size s ≡ 12 + getD s 10 0
   pub one : source-count s ≡ 1
@@ -59,7 +35,7 @@ pub record Plain (low : ℕ) (s : List ℕ) (past : ℕ) : Type 0 where
   pub char : scalar (be3 s 6) ≡ true
   pub bytes : all printable (take (getD s 10 0) (drop 11 s)) ≡ true
 
-module _ (low : ℕ) (s : List ℕ) (past : ℕ) (p : Plain low s past) where
+module _ (low : ℕ) (s : List ℕ) (row past : ℕ) (p : Plain low s row past) where
   source : rule-source s ≡ be3 s 6 ∷ []
   unfolding rule-source counted
   source = rw (p .one) (ap (λ c. c ∷ []) (sym (three-there s 6)))
@@ -133,7 +109,7 @@ module _ (low : ℕ) (s : List ℕ) (past : ℕ) (p : Plain low s past) where
   plain-right old r = sym (rw (fits, sourced old r, coded, targeted, ended, othered) refl)
 
 -- 0 says nothing
-pub not-plain : {low : ℕ} {s : List ℕ} → 0 < 0 → Plain low s 0
+pub not-plain : {low : ℕ} {s : List ℕ} {row : ℕ} → 0 < 0 → Plain low s row 0
 not-plain e = absurd (omega arith)
 
 -- a row is plain where the tests say so, each of what was read
@@ -142,7 +118,7 @@ module _ (b : List ℕ) (row low n c : ℕ) where
       → source-count (drop row b) ≡ 1 → getD (drop row b) 9 0 ≡ 0 → getD (drop row b) 2 0 / 32 ≡ 1 → n ≤ 64
       → getD (drop row b) (11 + n) 0 ≡ 0 → low ≤ c → c ≡ be3 (drop row b) 6 → c < 0xD800
       → (from to : ℕ) → from ≡ row + 11 → to ≡ from + n
-      → true ≡ all printable (take (to - from) (drop from b)) → Plain low (drop row b) (c + 1)
+      → true ≡ all printable (take (to - from) (drop from b)) → Plain low (drop row b) row (to + 1)
   told e l z o k f m t w h g from to i j u =
       let d : to - from ≡ getD (drop row b) 10 0 = omega arith in
       let y : drop from b ≡ drop 11 (drop row b) = ap (λ x. drop x b) i ∙ sym (drop-drop 11 row b) in
@@ -161,20 +137,6 @@ module _ (b : List ℕ) (row low n c : ℕ) where
             ∙ ap (λ x. all printable (take (to - from) x)) (sym y) ∙ sym u;
       }
 
--- Past a plain row the first fault is as before it
-module _ (b : List ℕ) (at left old : ℕ) (first : Bool) (low past : ℕ) (g : at ≤ length b)
-    (r : Rising (mark-of b old first) low) (p : Plain low (drop at b) past) where
-  pub walk-inside : at + rule-size (drop at b) ≤ length b
-  walk-inside = let l = p .long in let z = p .size in omega (arith, length-drop at b)
-
-  pub walk-rises : Rising (mark-of b at false) past
-  unfolding mark-of pick
-  walk-rises = after-row (drop at b) past (p .passed)
-
-  pub walk-on : 0 < left → (to rest : ℕ) → to ≡ at + rule-size (drop at b) → rest ≡ left - 1
-      → fault-from b to rest at false ≡ fault-from b at left old first
-  unfolding mark-of pick
-  walk-on h to rest e f =
-      let l = p .long in
-      next rule-size rule-source rule-right rule-moves b at left (mark-of b old first)
-      (omega (arith, length-drop at b)) h (plain-right low (drop at b) past p (mark-of b old first) r) to rest (rule-source (drop at b)) e f refl
+pub plain-past : {low : ℕ} {s : List ℕ} {row r : ℕ} (old : Text) → Rising old low → Plain low s row r → Past old s row r
+plain-past {low} {s} {row} {r} old h p =
+    past-right old s row r (p .passed ∙ ap (λ z. row + z) (sym (p .size))) (plain-right low s row r p old h)

@@ -1,38 +1,25 @@
 // The check of the rule table: its first fault, or none.
 ghost use mathlib.Core.Path.{_≡_};
-ghost use Prim.Native.Nat.{_-_, _<_, _≤_};
-ghost use lib.ListN.{length, take, drop};
-ghost use Rattle.base.specs.Lists.{all};
-ghost use Rattle.definition.specs.RuleRows.{printable, rule-right, rule-fault};
+ghost use Prim.Native.Nat.{_<_, _≤_};
+ghost use lib.ListN.{length, drop};
+ghost use Rattle.definition.specs.RuleRows.{rule-right, rule-fault};
 ghost use Rattle.blocks.specs.Faults.{fault-place};
-ghost use Rattle.rulecheck.specs.Marks.{mark-of};
-ghost use Rattle.rulecheck.specs.Plain.{Plain, Rising, fault-from};
+ghost use Rattle.rulecheck.specs.Marks.{mark-at, Rising, Past};
+ghost use Rattle.rulecheck.specs.Walks.{Stands};
+ghost use Rattle.rulecheck.specs.Plain.{Plain};
 use blocks::TableRead;
 
 // Bytes of a target, at most.
 const MOST_TARGET: usize = rowread::MOST_TARGET as usize;
 
-// Whether all bytes from a place to another may stand in a target text.
-fn all_printable(s: &[u8], from: usize, to: usize) -> bool
-    requires { ⌜ (from ≤ to) × (to ≤ length (now s)) ⌝ }
-    ensures { λ r. ⌜ r ≡ all printable (take (to - from) (drop from (now (s .entry)))) ⌝ }
-{
-    let mut at = from;
-    while at < to {
-        if rowread::printable(base::byte(s, at)) {
-            at += 1;
-        } else {
-            return false;
-        }
-    }
-    true
-}
+// Half of the rows that a table may have.
+const HALF: u32 = blocks::MOST_ROWS / 2;
 
 // A right row of the commonest kind: one character below the surrogates, not below `low`, no codes, a target, no
-// alternatives. The answer is the character past its own, or 0 for a row of another kind, which is read field by field.
-fn plain_row(rules: &[u8], row: usize, low: u32) -> u32
+// alternatives. The answer is the row's end, or 0 for a row of another kind, whose fields are tested one by one.
+fn plain_row(rules: &[u8], row: usize, low: u32) -> usize
     requires { ⌜ row ≤ length (now rules) ⌝ }
-    ensures { λ r. ⌜ (0 < r → Plain low (drop row (now (rules .entry))) r) ⌝ }
+    ensures { λ r. ⌜ (0 < r → Plain low (drop row (now (rules .entry))) row r) ⌝ }
 {
     if rules.len() - row < 12 {
         return 0;
@@ -46,18 +33,18 @@ fn plain_row(rules: &[u8], row: usize, low: u32) -> u32
     if base::at(rules, row, 2) / 32 != 1 {
         return 0;
     }
+    let n = base::at(rules, row, 10) as usize;
+    if MOST_TARGET < n {
+        return 0;
+    }
+    if rowtest::size_there(rules, row) != 12 + n {
+        return 0;
+    }
     let c = base::three(rules, row, 6);
     if c < low {
         return 0;
     }
     if 0xD7FF < c {
-        return 0;
-    }
-    let n = base::at(rules, row, 10) as usize;
-    if MOST_TARGET < n {
-        return 0;
-    }
-    if rulerow::size(rules, row) != 12 + n {
         return 0;
     }
     if rules.len() - row < 12 + n {
@@ -68,97 +55,101 @@ fn plain_row(rules: &[u8], row: usize, low: u32) -> u32
     }
     let from = row + 11;
     let to = from + n;
-    if all_printable(rules, from, to) {
-        return c + 1;
+    if rowtest::all_printable(rules, from, to) {
+        return to + 1;
     }
     0
 }
 
-// Where the check of a rule table stands: at a row, with as many rows left, after the row at `old` unless it is the first.
-// From `low` on a first character rises.
-pub struct Walk {
-    pub at: usize,
-    pub left: u32,
-    pub old: usize,
-    pub first: bool,
-    pub low: u32,
-}
-
-// Past the rows of the commonest kind that stand one after another.
-fn plain_rows(rules: &[u8], at: usize, left: u32, old: usize, first: bool, low: u32) -> Walk
-    requires { ⌜ (at ≤ length (now rules)) × Rising (mark-of (now rules) old first) low ⌝ }
-    ensures { λ r. ⌜ (fault-from (now (rules .entry)) (r .at) (r .left) (r .old) (r .first) ≡ fault-from (now (rules .entry)) at left old first)
-        × Rising (mark-of (now (rules .entry)) (r .old) (r .first)) (r .low) × (at ≤ r .at) × (r .at ≤ length (now (rules .entry))) ⌝ }
+// Whether a row is right after the one at `old`, or as the first, where `low` is 0. From `low` on its first character rises;
+// else whole sources are compared.
+fn row_right(rules: &[u8], row: usize, old: usize, low: u32) -> bool
+    requires { ⌜ (row ≤ length (now rules)) × Rising (mark-at (now rules) old low) low ⌝ }
+    ensures { λ r. ⌜ r ≡ rule-right (mark-at (now (rules .entry)) old low) (drop row (now (rules .entry))) ⌝ }
 {
-    let mut here = at;
-    let mut more = left;
-    let mut last = old;
-    let mut none = first;
-    let mut least = low;
-    while 0 < more {
-        let next = plain_row(rules, here, least);
-        if next == 0 {
-            return Walk {
-                at: here,
-                left: more,
-                old: last,
-                first: none,
-                low: least,
-            };
+    if rowtest::fields_right(rules, row) {
+        if low <= base::three(rules, row, 6) {
+            return true;
         }
-        last = here;
-        none = false;
-        least = next;
-        here += rulerow::size(rules, here);
-        more -= 1;
-    }
-    Walk {
-        at: here,
-        left: more,
-        old: last,
-        first: none,
-        low: least,
-    }
-}
-
-// Whether a row is right after the one at `old`, or as the first.
-fn row_right(rules: &[u8], row: usize, old: usize, first: bool) -> bool
-    requires { ⌜ row ≤ length (now rules) ⌝ }
-    ensures { λ r. ⌜ r ≡ rule-right (mark-of (now (rules .entry)) old first) (drop row (now (rules .entry))) ⌝ }
-{
-    if first {
-        return rowread::is_right(rules, row);
-    }
-    if rulerow::sources_rise(rules, old, row) {
-        return rowread::is_right(rules, row);
+        return rulerow::sources_rise(rules, old, row);
     }
     false
 }
 
-// The first fault of a rule table. No more than `MOST_ROWS` rows, and sources rise.
+// The end of a right row, or 0 for a row at fault.
+fn row_past(rules: &[u8], row: usize, old: usize, low: u32) -> usize
+    requires { ⌜ (row ≤ length (now rules)) × Rising (mark-at (now rules) old low) low ⌝ }
+    ensures { λ r. ⌜ Past (mark-at (now (rules .entry)) old low) (drop row (now (rules .entry))) row r ⌝ }
+{
+    let end = plain_row(rules, row, low);
+    if 0 < end {
+        return end;
+    }
+    if row_right(rules, row, old, low) {
+        return row + rulerow::size(rules, row);
+    }
+    0
+}
+
+// Where the check of a rule table stands: at a row, with as many rows left, after the row at `old`. From `low` on a first
+// character rises; 0 tells the first row.
+pub struct Walk {
+    pub at: usize,
+    pub left: u32,
+    pub old: usize,
+    pub low: u32,
+}
+
+// Past the right rows that stand one after another, `most` of them at most.
+fn past_rows(rules: &[u8], at: usize, most: u32, old: usize, low: u32) -> Walk
+    requires { ⌜ Rising (mark-at (now rules) old low) low ⌝ }
+    ensures { λ r. ⌜ Stands (now (rules .entry)) at most old low (r .at) (r .left) (r .old) (r .low) ⌝ }
+{
+    let mut here = at;
+    let mut left = most;
+    let mut last = old;
+    let mut least = low;
+    while 0 < left {
+        if rules.len() <= here {
+            return Walk {
+                at: here,
+                left,
+                old: last,
+                low: least,
+            };
+        }
+        let end = row_past(rules, here, last, least);
+        if end == 0 {
+            return Walk {
+                at: here,
+                left,
+                old: last,
+                low: least,
+            };
+        }
+        last = here;
+        least = base::three_there(rules, here, 6) + 1;
+        here = end;
+        left -= 1;
+    }
+    Walk {
+        at: here,
+        left,
+        old: last,
+        low: least,
+    }
+}
+
+// The first fault of a rule table. No more than `MOST_ROWS` rows, and sources rise. The rows are walked in two halves: a
+// function that is called twice stays one by itself, and its loop has all registers.
 pub fn check_rules(rules: &[u8]) -> TableRead
     ensures { λ r. ⌜ fault-place r ≡ rule-fault (now (rules .entry)) ⌝ }
 {
     if blocks::headed(rules) {
-        let mut at: usize = 5;
-        let mut left: u32 = blocks::MOST_ROWS;
-        let mut old: usize = 5;
-        let mut first = true;
-        while at < rules.len() {
-            if left == 0 {
-                return TableRead::Fault(at);
-            }
-            if row_right(rules, at, old, first) {
-                let low = base::three(rules, at, 6) + 1;
-                let next = at + rulerow::size(rules, at);
-                let walk = plain_rows(rules, next, left - 1, at, false, low);
-                at = walk.at;
-                left = walk.left;
-                old = walk.old;
-                first = walk.first;
-            } else {
-                return TableRead::Fault(at);
-            }
+        let half = past_rows(rules, 5, HALF, 5, 0);
+        let whole = past_rows(rules, half.at, half.left + HALF, half.old, half.low);
+        if whole.at < rules.len() {
+            return TableRead::Fault(whole.at);
         }
         return TableRead::Valid;
     }

@@ -1,4 +1,4 @@
--- `dicts::plain_row`: where each test passes.
+-- `rulecheck::plain_row`: where each test passes.
 use native.Mathlib.Omega.{arith}
 use mathlib.Core.Path.{refl, sym, _∙_}
 use denote.Ref.{now}
@@ -31,29 +31,29 @@ at-requires-2 c κs = search needs
 returns-4 : tie.Need-returns-4
 returns-4 c = not-plain
 
-three-requires : tie.Need-three-requires
-three-requires c κs = search needs
-
-returns-5 : tie.Need-returns-5
-returns-5 c = not-plain
-
-returns-6 : tie.Need-returns-6
-returns-6 c = not-plain
-
 at-requires-3 : tie.Need-at-requires-3
 at-requires-3 c κs = search needs
 
 cast-n : tie.Need-cast-n
 cast-n c = search needs
 
+returns-5 : tie.Need-returns-5
+returns-5 c = not-plain
+
+size-there-requires : tie.Need-size-there-requires
+size-there-requires c κs = search needs
+
+add-if6 : tie.Need-add-if6
+add-if6 c = search needs
+
+returns-6 : tie.Need-returns-6
+returns-6 c = not-plain
+
+three-requires : tie.Need-three-requires
+three-requires c κs = search needs
+
 returns-7 : tie.Need-returns-7
 returns-7 c = not-plain
-
-size-requires : tie.Need-size-requires
-size-requires c κs = search needs
-
-add-if8 : tie.Need-add-if8
-add-if8 c = search needs
 
 returns-8 : tie.Need-returns-8
 returns-8 c = not-plain
@@ -91,17 +91,19 @@ add-result c = search needs
 returns-11 : tie.Need-returns-11
 returns-11 c z =
     let i = c .before .before .before in
-    let s = i .before .before .before in
+    let h = i .before .before .before .before in
+    let s = h .before .before in
     let k = s .before .before in
-    let h = k .before .before .before in
-    let y = h .before .before .before .before in
-    let q = y .before .before .before .before .before in
-    let a = q .args in
+    let f = k .before .before in
+    let y = f .before .before in
+    let o = y .before .before in
+    let a = o .before .before .before .args in
     told (now (a .rules)) (a .row) (a .low) (k .at3 .result) (h .three .result)
-    (omega arith) (omega arith) (omega (arith, s .size .ensures .0, i .before .before .if8 .left))
-    (omega (arith, y .before .before .source-len .ensures .0)) (omega (arith, y .at .ensures .0))
-    (omega (arith, h .before .before .at2 .ensures .0)) (omega arith)
-    (omega (arith, i .at4 .ensures .0)) (omega arith) (omega (arith, h .three .ensures .0)) (omega arith)
+    (omega arith) (omega arith) (omega (arith, s .size-there .ensures .0, h .before .if6 .left))
+    (omega (arith, o .source-len .ensures .0)) (omega (arith, y .at .ensures .0))
+    (omega (arith, f .at2 .ensures .0)) (omega arith)
+    (omega (arith, i .at4 .ensures .0)) (omega (arith, i .before .before .before .if7 .left)) (omega (arith, h .three .ensures .0))
+    (omega (arith, i .before .before .if8 .left))
     _ _ refl refl (sym (c .if11 .taken) ∙ c .before .all-printable .ensures)
 
 returns-12 : tie.Need-returns-12
@@ -119,14 +121,14 @@ plain-row-spec =
     returns-3
     at-requires-2
     returns-4
-    three-requires
-    returns-5
-    returns-6
     at-requires-3
     cast-n
+    returns-5
+    size-there-requires
+    add-if6
+    returns-6
+    three-requires
     returns-7
-    size-requires
-    add-if8
     returns-8
     sub-if9
     add-if9

@@ -1,4 +1,4 @@
--- `dicts::all_printable`: what is left from `at` on says what the whole does.
+-- `rowtest::all_printable`: what is left from `at` on says what the whole does.
 use Prim.Native.Nat.{ℕ, _-_, _≤_}
 use mathlib.Core.Path.{_≡_, refl, sym, _∙_}
 use mathlib.Core.List.{List}
@@ -8,9 +8,9 @@ use borrow.Author.Needs.{needs}
 use denote.Ref.{now}
 use Rattle.base.specs.Lists.{all}
 use Rattle.definition.specs.RuleRows.{printable}
-use Rattle.rulecheck.specs.Turns.{bytes-over, bytes-other, bytes-next}
-use Rattle.rulecheck.proofs.all_printable.Statement.{statement}
-use Rattle.rulecheck.proofs.all_printable.Tie as tie
+use Rattle.rowtest.specs.Turns.{bytes-over, bytes-other, bytes-next}
+use Rattle.rowtest.proofs.all_printable.Statement.{statement}
+use Rattle.rowtest.proofs.all_printable.Tie as tie
 
 abbrev Inv-loop : tie.InvT-loop
 Inv-loop s from to at₀ at =

@@ -1,0 +1,4 @@
+pub mod Turns
+pub mod Threes
+pub mod Texts
+pub mod Fields
