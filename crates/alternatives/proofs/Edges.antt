@@ -38,8 +38,8 @@ use Rattle.edge.specs.Best.{Found}
 use Rattle.edge.specs.Counted.{counted-agree, all-agree, all-at}
 use Rattle.edge.specs.Stored.{Slot, Stored, slot-length, slot-size, edge-agree, slot-agree}
 use Rattle.listing.specs.Items.{Written, put-items, put-items-append}
-use Rattle.dicts.specs.Doors.{with-source}
-use Rattle.dicts.specs.Sorted.{rules-from}
+use Rattle.rule_table.specs.Doors.{with-source}
+use Rattle.rule_table.specs.Sorted.{rules-from}
 use Rattle.words.specs.Did.{Did}
 use Rattle.definition.specs.Alternatives.{vowels-low}
 use Rattle.words.specs.Found.{Rows, rules-in}

@@ -30,7 +30,7 @@ use Rattle.edge.specs.declared.Numbers.{Numbers}
 use Rattle.edge.specs.Slots.{edge-by}
 use Rattle.listing.specs.Rows.{row-of, row-size, row-length}
 use Rattle.listing.specs.Items.{Written, item, put-bytes, put-items, Puts, put-items-append}
-use Rattle.dicts.specs.Sorted.{rules-from, rules-next}
+use Rattle.rule_table.specs.Sorted.{rules-from, rules-next}
 use Rattle.words.specs.Found.{Rows, rules-in, none-in, one-in, row-there}
 use Rattle.marks.specs.Marked.{Marked}
 use Rattle.offers.specs.declared.Asked.{Asked}

@@ -11,7 +11,7 @@ use Rattle.definition.specs.Edges.{Edge}
 use Rattle.definition.specs.Rules.{holds-at}
 use Rattle.definition.specs.RuleRows.{rule-of}
 use Rattle.definition.specs.Offers.{offers, all-offers}
-use Rattle.listing.specs.Sizes.{head-bytes}
+use Rattle.definition.specs.Listing.{row-head-bytes}
 use Rattle.offers.specs.declared.Asked.{Asked}
 use Rattle.offers.specs.Texts.{texts, most-offers, holding}
 
@@ -37,7 +37,7 @@ Blank cells = cells ≡ replicate (length cells) 0
 
 -- How much of the listing an alternative takes at most, a row's head and its text; those of a row, of an edge, of a path
 abbrev pub offer-bytes : ℕ
-offer-bytes = head-bytes + most-alternative
+offer-bytes = row-head-bytes + most-alternative
 
 abbrev pub row-bytes : ℕ
 row-bytes = most-offers * offer-bytes

@@ -16,14 +16,14 @@ use Rattle.edge.specs.declared.Numbers.{Numbers}
 use Rattle.edge.specs.declared.BestEdge.{BestEdge}
 use Rattle.edge.specs.Slots.{edge-by, edges-of}
 use Rattle.edge.specs.Stored.{Stored}
-use Rattle.edge.specs.Best.{edge-at, Found}
+use Rattle.edge.specs.Best.{best-means, Found}
 use Rattle.listing.specs.Sizes.{Countable}
 use Rattle.listing.specs.Items.{Written, put-items}
-use Rattle.places.specs.Shows.{memory, told}
+use Rattle.edge_places.specs.Shows.{memory, told}
 use Rattle.standing.specs.Stands.{Stands}
 use Rattle.words.specs.Found.{Row, Rows}
 use Rattle.words.specs.Given.{World, seen, size, size-in, Prepared, Told, Lent}
-use Rattle.rules.specs.Lent.{lexicon-of}
+use Rattle.rule_choice.specs.Lent.{lexicon-of}
 use Rattle.marks.specs.Marked.{Marked}
 use Rattle.offers.specs.declared.Asked.{Asked}
 use Rattle.offers.specs.Texts.{texts, Spoken}
@@ -45,7 +45,7 @@ Offered rules code a before x l u o cells =
 abbrev pub EdgeReady : List ℕ → List ℕ → List ℕ → List ℕ → List ℕ → Listed → BestEdge → Type 0
 EdgeReady rules ready line slots room listed best =
     Prepared rules ready × Stored slots room (listed .count) (listed .used) × Found (listed .count) best
-    × Opt (Sound (size-in line)) (edge-at room slots best) × Countable (listed .at) edge-bytes
+    × Opt (Sound (size-in line)) (best-means room slots best) × Countable (listed .at) edge-bytes
 
 -- And those of a path: starts tell where the edges of each stand, all edges are sound, and the text is not too long
 abbrev pub PathReady : List ℕ → List ℕ → List ℕ → List ℕ → List ℕ → List ℕ → Listed → Type 0

@@ -18,7 +18,7 @@ ghost use Rattle.definition.specs.Paths.{other, join};
 ghost use Rattle.definition.specs.Offers.{offers, found-by};
 ghost use Rattle.rom.specs.Rom.{text as text-of, Clean};
 ghost use Rattle.edge.specs.Slots.{edge-by, edges-of};
-ghost use Rattle.edge.specs.Best.{edge-at};
+ghost use Rattle.edge.specs.Best.{best-means};
 ghost use Rattle.listing.specs.Sizes.{Countable};
 ghost use Rattle.listing.specs.Items.{Puts};
 ghost use Rattle.words.specs.Found.{Row, Rows};
@@ -69,7 +69,7 @@ fn is_offered(
     offers::row_offers(rules, row, e, text, k, w)
 }
 
-// Is it new: not the edge's own, and not offered before? What the filter surely doesn't hold was not offered.
+// Is a text that a row offers new: not the edge's own, and not offered before? What the filter surely doesn't hold was not offered.
 fn is_new(
     rules: &[u8],
     code: &[u8],
@@ -87,7 +87,7 @@ fn is_new(
     ensures { λ r. ⌜ r ≡ not (any (same (now (w .entry))) (earlier (edge-by e (now (text .entry))) (now (code .entry)) asked (now (rules .entry)) before
         ++ row-offered (edge-by e (now (text .entry))) (now (rules .entry)) row k)) ⌝ }
 {
-    if room::same(w, text) {
+    if lent_bytes::same(w, text) {
         return false;
     }
     let held = marks::may_hold(cells, w);
@@ -98,7 +98,7 @@ fn is_new(
     true
 }
 
-// The annotation of number `k`: an alternative's, or the target's behind them.
+// The annotation of text number `k` of a row: an alternative's, or that of the target, which comes after them.
 fn note_of(o: Offers, k: usize) -> u8
     ensures { λ r. ⌜ r ≡ pick (ltb k (o .others)) note-alt note-alt3 ⌝ }
 {
@@ -108,7 +108,7 @@ fn note_of(o: Offers, k: usize) -> u8
     edge::ALT3
 }
 
-// An edge with the span of another, where it is new.
+// The row of an alternative, which has its edge's span, where it is new.
 fn put_new(out: &mut [u8], at: usize, new: bool, e: Numbers, note: u8, w: &[u8]) -> usize
     requires { ⌜ Countable at offer-bytes × Short most-alternative (now w) ⌝ }
     ensures { λ r. ⌜ Puts true (put new (other (edge-by e []) note (now (w .entry))) []) offer-bytes (at, now (out .entry)) (r, now (out .exit)) ⌝ }
@@ -159,7 +159,7 @@ fn put_offers(
     to
 }
 
-// The same, where its rule holds.
+// What a row offers that is new, where its rule holds.
 fn put_holding(
     out: &mut [u8],
     at: usize,
@@ -177,7 +177,7 @@ fn put_holding(
         (holding-offers (edge-by e (now (text .entry))) (now (code .entry)) asked (rule-of (drop row (now (rules .entry)))))
         (at, now (out .entry)) (r, now (out .exit)) (now (cells .exit)) ⌝ }
 {
-    if rules::holds(rules, code, row, asked.start, asked.end) {
+    if rule_choice::holds(rules, code, row, asked.start, asked.end) {
         return put_offers(out, at, rules, code, asked, before, row, e, text, cells);
     }
     at
@@ -206,13 +206,13 @@ fn put_rows(
     let mut before: usize = 0;
     while before < rows {
         to = put_holding(out, to, rules, code, asked, before, row, e, text, cells);
-        row += rulerow::size(rules, row);
+        row += rule_row::size(rules, row);
         before += 1;
     }
     to
 }
 
-// The same with cells of any content.
+// What some rows offer that is new, with cells of any content: they are emptied first.
 fn put_filtered(
     out: &mut [u8],
     at: usize,
@@ -229,7 +229,7 @@ fn put_filtered(
         (holding (now (code .entry)) (asked .start) (asked .end) (now (rules .entry)) (asked .first) rows)) edge-bytes
         (at, now (out .entry)) (r, now (out .exit)) ⌝ }
 {
-    room::clear(cells);
+    lent_bytes::clear(cells);
     put_rows(out, at, rules, code, asked, rows, e, text, cells)
 }
 
@@ -293,7 +293,7 @@ fn put_edge_alternatives(
     )
 }
 
-// Those of the edge that was answered, if any. Its text is copied, so that the room behind the texts can be lent.
+// The alternatives of the edge that the path has found, if any. Its text is copied, so that the room behind the texts can be lent.
 fn put_best_alternatives(
     out: &mut [u8],
     rules: &[u8],
@@ -308,7 +308,7 @@ fn put_best_alternatives(
 ) -> usize
     requires { ⌜ EdgeReady (now rules) (now ready) (now line) (now slots) (now room) listed best ⌝ }
     ensures { λ r. ⌜ Alternatives (now (rules .entry)) (now (ready .entry)) (now (code .entry)) (now (line .entry)) (now (places .entry)) (now (places .exit))
-        (join (edge-at (now (room .entry)) (now (slots .entry)) best) []) (listed .at, now (out .entry)) (r, now (out .exit)) × (r ≤ listed .at + edge-bytes)
+        (join (best-means (now (room .entry)) (now (slots .entry)) best) []) (listed .at, now (out .entry)) (r, now (out .exit)) × (r ≤ listed .at + edge-bytes)
         × (take (listed .used) (now (room .exit)) ≡ take (listed .used) (now (room .entry))) ⌝ }
 {
     match best {

@@ -1,7 +1,7 @@
 -- What holds of every element of a list, and of what may be absent.
 use mathlib.Core.Bool.{Bool, true, false, _&&_}
 use mathlib.Core.Path.{_≡_, refl, _∙_, ap}
-use mathlib.Core.List.{List, [], _∷_, _++_, reverse, reverseAux}
+use mathlib.Core.List.{List, [], _∷_, _++_, map, reverse, reverseAux}
 use mathlib.Core.Option.{Option, none, some}
 use Prim.Native.Nat.{ℕ, zero, suc, _<_}
 use native.Mathlib.Omega.{arith}
@@ -201,3 +201,21 @@ module _ {A : Type 0} where
   All-kept P q [] h = tt
   All-kept P q (x ∷ l) h =
       All-put (λ x. P x × (q x ≡ true)) (q x) x (keep q l) (λ e. (h .0, e)) (All-kept P q l (h .1))
+
+  -- two facts of each element; a fact of each element that a map has made, and back
+  pub All-both : (P Q : A → Type 0) (l : List A) → All P l → All Q l → All (λ x. P x × Q x) l
+  All-both P Q [] h k = tt
+  All-both P Q (x ∷ l) h k = ((h .0, k .0), All-both P Q l (h .1) (k .1))
+
+  module _ {B : Type 0} where
+    pub All-to : (P : B → Type 0) (f : A → B) (l : List A) → All (λ x. P (f x)) l → All P (map f l)
+    All-to P f [] h = tt
+    All-to P f (x ∷ l) h = (h .0, All-to P f l (h .1))
+
+    pub All-of : (P : B → Type 0) (f : A → B) (l : List A) → All P (map f l) → All (λ x. P (f x)) l
+    All-of P f [] h = tt
+    All-of P f (x ∷ l) h = (h .0, All-of P f l (h .1))
+
+    pub map-cong : (f g : A → B) (l : List A) → All (λ x. f x ≡ g x) l → map f l ≡ map g l
+    map-cong f g [] h = refl
+    map-cong f g (x ∷ l) h = rw (h .0, map-cong f g l (h .1))

@@ -13,8 +13,8 @@ use lib.Seq.{take-nil}
 use borrow.Author.Tests.{le-leb, lt-leb, leb-true, eq-eqb, ne-eqb, eqb-true}
 use Rattle.base.specs.Bools.{and-left, and-right}
 use Rattle.base.specs.Pick.{pick}
-use Rattle.base.specs.Lists.{put, keep, any, tail, empty, holds, front, after, best-of, best, is, or-else, same, starts}
-use Rattle.base.specs.Alls.{All}
+use Rattle.base.specs.Lists.{put, keep, any, tail, empty, holds, front, after, best-of, best, is, or-else, first-of, same, starts}
+use Rattle.base.specs.Alls.{All, All-map}
 
 -- `any` and `keep` of two lists, one behind the other
 pub any-append : {A : Type 0} (f : A → Bool) (l k : List A) → any f (l ++ k) ≡ (any f l || any f k)
@@ -148,6 +148,24 @@ starts-split (x ∷ a) (y ∷ b) e =
     ap (λ (z : ℕ). z ∷ b) (sym p) ∙ ap (λ (l : List ℕ). x ∷ l) q
 
 -- what is absent on both sides
+-- the first that is there, by whether the front one is
+module _ {A : Type 0} (a : Option A) where
+  pub first-past : (l : List (Option A)) → a ≡ none → first-of (a ∷ l) ≡ first-of l
+  unfolding first-of
+  first-past l e = rw e
+
+  pub first-here : (l : List (Option A)) (x : A) → a ≡ some x → first-of (a ∷ l) ≡ some x
+  unfolding first-of
+  first-here l x e = rw e
+
+  pub first-only : first-of (a ∷ []) ≡ a
+  unfolding first-of
+  first-only = go a
+    where
+      go : (a : Option A) → or-else a none ≡ a
+      go none = refl
+      go (some x) = refl
+
 pub or-none : {A : Type 0} (a b : Option A) → or-else a b ≡ none → (a ≡ none) × (b ≡ none)
 or-none none b e = (refl, e)
 or-none (some x) b e = absurd (let w : _≡_ {A = ℕ} 0 1 = cc in omega arith)
@@ -176,6 +194,22 @@ module _ {A : Type 0} where
           → All (λ x. q x ≡ false) (x ∷ l)
       go true z e f = absurd (let w : _≡_ {A = ℕ} 0 1 = cc in omega arith)
       go false z e f = (z, f e)
+
+  -- where all pass, all are kept; where one is kept, no other has passed
+  pub keep-every : (q : A → Bool) (l : List A) → All (λ x. q x ≡ true) l → keep q l ≡ l
+  unfolding keep
+  keep-every q [] h = refl
+  keep-every q (x ∷ l) h = rw (h .0) (ap (λ r. x ∷ r) (keep-every q l (h .1)))
+
+  pub keep-only : (q : A → Bool) (x : A) (l : List A) → keep q l ≡ x ∷ [] → All (λ y. q y ≡ true → y ≡ x) l
+  unfolding keep
+  keep-only q x [] e = tt
+  keep-only q x (y ∷ l) e = go (q y) refl e (keep-only q x l)
+    where
+      go : (b : Bool) → q y ≡ b → put b y (keep q l) ≡ x ∷ []
+          → (keep q l ≡ x ∷ [] → All (λ y. q y ≡ true → y ≡ x) l) → All (λ y. q y ≡ true → y ≡ x) (y ∷ l)
+      go true z e f = (λ t. cc, All-map (λ v w t. absurd (true≢false (sym t ∙ w))) l (keep-nothing q l cc))
+      go false z e f = (λ t. absurd (true≢false (sym t ∙ z)), f e)
 
   -- A list moved by `s`
   pub any-map : (f g : A → Bool) (s : A → A) → ((x : A) → f (s x) ≡ g x) → (l : List A) → any f (map s l) ≡ any g l

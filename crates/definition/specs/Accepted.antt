@@ -8,9 +8,10 @@ use native.Mathlib.Omega.{arith}
 use lib.ListN.{length, drop}
 use borrow.Author.Tests.{ltb-false, le-ltb, not-false}
 use Rattle.base.specs.Pick.{pick}
+use Rattle.base.specs.Lists.{first-of}
 use Rattle.base.specs.ListLaws.{or-none}
 use Rattle.base.specs.Alls.{All, rows-all}
-use Rattle.definition.specs.Limits.{most-characters, most-rows, most-script}
+use Rattle.definition.specs.Limits.{most-mode, most-characters, most-rows, most-script}
 use Rattle.definition.specs.Texts.{Text}
 use Rattle.definition.specs.Utf8.{bad-sequence}
 use Rattle.definition.specs.Tables.{Rule, Class, Vowel}
@@ -18,7 +19,8 @@ use Rattle.definition.specs.Blocks.{head-bytes}
 use Rattle.definition.specs.RuleRows.{rule-fault, rule-size, rule-source, rule-right, rule-of, rules-of}
 use Rattle.definition.specs.ClassRows.{class-fault, class-size, class-next, class-right, class-of, classes-of}
 use Rattle.definition.specs.VowelRows.{vowel-fault, vowel-size, vowel-next, vowel-right, vowel-of, vowels-of}
-use Rattle.definition.specs.Call.{Inputs, characters, code-right, first-left-out, when, placed, refusal}
+use Rattle.definition.specs.Refusals.{when, placed}
+use Rattle.definition.specs.Call.{Inputs, characters, code-right, first-left-out, before-text, text-refusal, refusal}
 use Rattle.definition.specs.BlockTurns.{Chain, fault-none, chain-each, chain-few}
 
 -- A row has a size
@@ -77,7 +79,7 @@ vowels-all Q f b e = rows-all vowel-of Q vowel-moves (λ s q. f (q .0) s (q .1))
 
 -- All that an accepted call has passed
 pub record Accepted (i : Inputs) : Type 0 where
-  pub mode : i .mode ≤ 3
+  pub mode : i .mode ≤ most-mode
   pub rules : rule-fault (i .rules) ≡ none
   pub classes : class-fault (i .classes) ≡ none
   pub vowels : vowel-fault (i .vowels) ≡ none
@@ -97,31 +99,33 @@ placed-none n none e = refl
 placed-none n (some p) e = absurd (let w : _≡_ {A = ℕ} 0 1 = cc in omega arith)
 
 pub accepted-of : (i : Inputs) → refusal i ≡ none → Accepted i
-unfolding refusal
+unfolding refusal before-text text-refusal first-of characters
 accepted-of i e =
-    let a = or-none _ _ e in
+    let both = or-none _ _ e in
+    let a = or-none _ _ (both .0) in
     let b = or-none _ _ (a .1) in
     let c = or-none _ _ (b .1) in
     let d = or-none _ _ (c .1) in
     let f = or-none _ _ (d .1) in
-    let g = or-none _ _ (f .1) in
+    let g = or-none _ _ (both .1) in
     let h = or-none _ _ (g .1) in
+    let k = or-none _ _ (h .1) in
     record {
-      mode = ltb-false 3 (i .mode) (when-none _ _ _ (a .0));
+      mode = ltb-false most-mode (i .mode) (when-none _ _ _ (a .0));
       rules = placed-none _ _ (b .0);
       classes = placed-none _ _ (c .0);
       vowels = placed-none _ _ (d .0);
       code = not-false _ (when-none _ _ _ (f .0));
       text = placed-none _ _ (g .0);
       size = ltb-false most-characters _ (when-none _ _ _ (h .0));
-      kept = placed-none _ _ (h .1);
+      kept = placed-none _ _ (k .0);
     }
 
 -- and what has passed all is accepted
 pub refusal-of : (i : Inputs) → Accepted i → refusal i ≡ none
-unfolding refusal when placed pick
+unfolding refusal before-text text-refusal first-of characters when placed pick
 refusal-of i a = rw (
-  le-ltb 3 (i .mode) (a .mode),
+  le-ltb most-mode (i .mode) (a .mode),
   a .rules,
   a .classes,
   a .vowels,

@@ -1,5 +1,5 @@
 -- The class of U+0020 under an accepted class table: no letter, no mark, no script, no flag.
--- So wherever the definition reads a character outside the text, it reads what the Rust takes for none.
+-- So wherever the definition reads a character outside the text, it reads what the Rust takes for none (Outside).
 use mathlib.Core.Bool.{Bool, true, false, _&&_}
 use mathlib.Core.Path.{_≡_, refl}
 use mathlib.Core.List.{List, [], _∷_}

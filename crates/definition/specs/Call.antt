@@ -6,8 +6,10 @@ use Prim.Native.Nat.{ℕ, zero, _+_, _-_, _/_}
 use lib.Dec.{eqb, leb, ltb}
 use lib.ListN.{length, replicate}
 use Rattle.base.specs.Pick.{pick}
-use Rattle.base.specs.Lists.{all, or-else, bind, same}
-use Rattle.definition.specs.Limits.{most-characters, slot-bytes}
+use Rattle.base.specs.Lists.{all, or-else, first-of, same}
+use Rattle.definition.specs.Limits.{most-mode, code-letters, most-characters, slot-bytes}
+use Rattle.definition.specs.Refusals.{Refusal, refuse, when, placed, refused-mode, refused-rules, refused-classes, refused-vowels, refused-code}
+use Rattle.definition.specs.Refusals.{refused-utf8, refused-too-long, refused-left-out, refused-output}
 use Rattle.definition.specs.Texts.{Text}
 use Rattle.definition.specs.Tables.{Tables}
 use Rattle.definition.specs.Blocks.{small}
@@ -18,7 +20,7 @@ use Rattle.definition.specs.Utf8.{bad-sequence, decoded}
 use Rattle.definition.specs.Edges.{State}
 use Rattle.definition.specs.Building.{lattice}
 use Rattle.definition.specs.Listing.{shown}
-use Rattle.definition.specs.Capacity.{Refusal, refuse, misfit}
+use Rattle.definition.specs.Capacity.{misfit}
 
 -- What a call is given: tables, code and text are bytes; slots, text room and output are their lengths in bytes
 pub record Inputs : Type 0 where
@@ -57,7 +59,7 @@ characters i = decoded (i .text)
 
 -- a language code: empty, or three letters a-z
 unfoldable pub code-right : Text → Bool
-code-right c = same c [] || (eqb (length c) 3 && all small c)
+code-right c = same c [] || (eqb (length c) code-letters && all small c)
 
 -- Tibetan, Braille and Hangul syllables are left out: the position of the first
 unfoldable pub left-out : ℕ → Bool
@@ -67,36 +69,38 @@ unfoldable pub first-left-out : ℕ → Text → Option ℕ
 first-left-out p [] = none
 first-left-out p (c ∷ t) = pick (left-out c) (some p) (first-left-out (p + 1) t)
 
--- a refusal where a test holds, or at a place where there is one
-unfoldable pub when : Bool → ℕ → ℕ → Option Refusal
-when b n p = pick b (some (refuse n p)) none
+-- What is refused before any edge is built: the first of these, in this order. Of mode, tables and code
+unfoldable pub before-text : ℕ → List ℕ → List ℕ → List ℕ → List ℕ → Option Refusal
+before-text mode rules classes vowels code = first-of
+    (when (ltb most-mode mode) refused-mode 0
+    ∷ placed refused-rules (rule-fault rules)
+    ∷ placed refused-classes (class-fault classes)
+    ∷ placed refused-vowels (vowel-fault vowels)
+    ∷ when (not (code-right code)) refused-code 0
+    ∷ [])
 
-unfoldable pub placed : ℕ → Option ℕ → Option Refusal
-placed n o = bind o (λ p. some (refuse n p))
+-- and then of the text
+unfoldable pub text-refusal : List ℕ → Option Refusal
+text-refusal text = first-of
+    (placed refused-utf8 (bad-sequence text)
+    ∷ when (ltb most-characters (length (decoded text))) refused-too-long most-characters
+    ∷ placed refused-left-out (first-left-out 0 (decoded text))
+    ∷ [])
 
--- 1 to 8, in their order: what is refused before any edge is built
 unfoldable pub refusal : Inputs → Option Refusal
-refusal i =
-    or-else (when (ltb 3 (i .mode)) 1 0)
-    (or-else (placed 2 (rule-fault (i .rules)))
-    (or-else (placed 3 (class-fault (i .classes)))
-    (or-else (placed 4 (vowel-fault (i .vowels)))
-    (or-else (when (not (code-right (i .code))) 5 0)
-    (or-else (placed 6 (bad-sequence (i .text)))
-    (or-else (when (ltb most-characters (length (characters i))) 7 most-characters)
-    (placed 8 (first-left-out 0 (characters i)))))))))
+refusal i = or-else (before-text (i .mode) (i .rules) (i .classes) (i .vowels) (i .code)) (text-refusal (i .text))
 
 -- after a refusal length and count are 0, and the output is zero
 unfoldable pub refused : Inputs → Refusal → Called
 refused i r = record { number = r .number; place = r .place; length = 0; edges = 0; output = replicate (i .out) 0 }
 
--- 11, or done: the bytes, and zeros after them
+-- the output is too short, or the call is done: the bytes, and zeros after them
 unfoldable pub written : Inputs → ℕ → List ℕ → Called
 written i n w =
-    pick (ltb (i .out) (length w)) (refused i (refuse 11 (length w)))
+    pick (ltb (i .out) (length w)) (refused i (refuse refused-output (length w)))
     (record { number = 0; place = 0; length = length w; edges = n; output = w ++ replicate (i .out - length w) 0 })
 
--- 9 and 10: the room that the lattice's edges take
+-- the slots and the room that the lattice's edges take
 unfoldable pub within-room : Inputs → Tables → Text → State → Option Refusal → Called
 within-room i D t st none = written i (length (st .0)) (shown D t (i .mode) st)
 within-room i D t st (some r) = refused i r

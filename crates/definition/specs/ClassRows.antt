@@ -9,11 +9,11 @@ use Rattle.base.specs.Big.{be3}
 use Rattle.base.specs.Bits.{flagged}
 use Rattle.base.specs.Lists.{holds}
 use Rattle.base.specs.Rows.{rows}
-use Rattle.definition.specs.Limits.{most-rows, most-script}
+use Rattle.definition.specs.Limits.{flags-limit, most-rows, most-script}
 use Rattle.definition.specs.Texts.{latin, the-space}
 use Rattle.definition.specs.Utf8.{scalar}
 use Rattle.definition.specs.Tables.{Class, category-letter, category-Zs, script-none}
-use Rattle.definition.specs.Blocks.{head-bytes, fault}
+use Rattle.definition.specs.Blocks.{head-bytes, faulty-row}
 
 -- Bits of the flags; bit 7 is zero
 abbrev pub sign-bit : ℕ
@@ -80,7 +80,7 @@ class-next s = class-char s + 1
 unfoldable pub class-fits : ℕ → List ℕ → Bool
 class-fits low s =
     holds 6 s && scalar (class-char s) && leb low (class-char s)
-    && leb (class-category s) category-Zs && leb (class-script s) most-script && ltb (class-flags s) 128
+    && leb (class-category s) category-Zs && leb (class-script s) most-script && ltb (class-flags s) flags-limit
 
 unfoldable pub space-right : List ℕ → Bool
 space-right s =
@@ -95,7 +95,7 @@ class-right low s = class-fits low s && space-right s && latin-right s
 
 -- The table: its first faulty row, and its classes
 unfoldable pub class-fault : List ℕ → Option ℕ
-class-fault b = fault class-size class-next class-right most-rows 0 b
+class-fault b = faulty-row class-size class-next class-right most-rows 0 b
 
 unfoldable pub classes-of : List ℕ → List Class
 classes-of b = rows class-of class-size (drop head-bytes b)

@@ -1,6 +1,6 @@
 -- The lattice's edges in adding order, what is asked of them, and what is remembered of word starts
 -- (`edge.rs`, `lattice/mod.rs`).
-use mathlib.Core.Bool.{Bool, not, _&&_}
+use mathlib.Core.Bool.{Bool, true, false, _&&_}
 use mathlib.Core.List.{List, [], _∷_, _++_}
 use mathlib.Core.Option.{Option, none, some}
 use Prim.Native.Nat.{ℕ, zero, suc, _+_, _-_}
@@ -58,28 +58,31 @@ pub record View : Type 0 where
   pub letter : ℕ → Bool
   -- does the longest one that ends here end in a consonant (without w and y)?
   pub closed : ℕ → Bool
-  -- the nearest text to the left that is not empty
-  pub behind : ℕ → Text
+  -- the nearest text to the left that is not empty, looked for from a position back to the one given first
+  pub behind : ℕ → ℕ → Text
 
 -- CONSONANT_END_RE: [bcdfghjklmnpqrstvxz]$
 unfoldable pub closing : ℕ → Bool
 closing = among "bcdfghjklmnpqrstvxz"
 
--- `find_rom_edge_path_backwards_str`, back from `p` to the text's start, in `k` steps at most:
+-- `find_rom_edge_path_backwards_str`, back from `p` to `a`, in `k` steps at most:
 -- over positions where no edge ends, and over empty texts
-unfoldable pub walk : List Edge → ℕ → ℕ → Text
-walk es zero p = []
-walk es (suc k) p =
-    elim (left-best es p) [
-      | none ↦ walk es k (p - 1)
-      | some x ↦ elim (x .text) [ [] ↦ walk es k (x .from) | c ∷ w ↦ c ∷ w ]
+unfoldable pub walk : List Edge → ℕ → ℕ → ℕ → Text
+walk es a zero p = []
+walk es a (suc k) p =
+    elim (ltb a p) [
+      | false ↦ []
+      | true ↦ elim (left-best es p) [
+        | none ↦ walk es a k (p - 1)
+        | some x ↦ elim (x .text) [ [] ↦ walk es a k (x .from) | c ∷ w ↦ c ∷ w ]
+      ]
     ]
 
 unfoldable pub view : List Class → List Edge → View
 view ks es = record {
   letter = λ p. any (λ x. last-is (alpha ks) (x .text)) (ending es p);
   closed = λ p. is (λ x. last-is closing (x .text)) (left-best es p);
-  behind = λ p. walk es p p;
+  behind = λ a p. walk es a p p;
 }
 
 -- What is remembered: for each position 0 not asked, 1 a start of word, 2 none.

@@ -75,7 +75,8 @@ pre-vowel rs ks t w =
 unfoldable pub before : List Rule → List Class → Text → Work → Work
 before rs ks t w = maybe (pre-vowel rs ks t w) w (λ y. work (w .rom ++ y) (w .from - 1) (w .to) note-exp)
 
--- O ang is silent unless between consonants: both neighbours Thai, what stands behind ends in one
+-- O ang is silent unless between consonants: both neighbours Thai, what stands behind it, looked for back to the text's
+-- start, ends in one
 -- (THAI_CONSONANT_XZ_END_RE: [bcdfghjklmnpqrstvwxz]+$), and the next one's first rule is one or more
 -- (THAI_CONSONANT_XZ_ONLY_RE: ^[bcdfghjklmnpqrstvwxz]+$)
 unfoldable pub o-ang-side : ℕ → Bool
@@ -84,7 +85,7 @@ o-ang-side = among "bcdfghjklmnpqrstvwxz"
 unfoldable pub between : List Rule → List Class → Text → View → Work → Bool
 between rs ks t v w =
     eqb (script ks (prev t (w .from))) script-thai && eqb (script ks (at t (w .to))) script-thai
-    && last-is o-ang-side (v .behind (w .from))
+    && last-is o-ang-side (v .behind 0 (w .from))
     && is (λ y. not (same y []) && all o-ang-side y) (first-rule rs (at t (w .to) ∷ []))
 
 unfoldable pub silent : List Rule → List Class → Text → View → ℕ → Work → Bool

@@ -18,7 +18,8 @@ use Rattle.definition.specs.Tables.{Tables, lexicon}
 use Rattle.definition.specs.Edges.{Edge, M, State, starting, covered, alike, new-in, add, view}
 use Rattle.definition.specs.Rules.{is-prefix}
 use Rattle.definition.specs.Building.{put-in, each, span-edge, fallback-edge, rise, build, fall, lattice}
-use Rattle.definition.specs.Capacity.{Refusal, refuse, bytes, misfit}
+use Rattle.definition.specs.Refusals.{Refusal, refuse, refused-room}
+use Rattle.definition.specs.Capacity.{bytes, misfit}
 
 -- The second list is the first with some edges behind it, each as `P` says
 pub record Added (P : Edge → Type 0) (es fs : List Edge) : Type 0 where
@@ -144,8 +145,8 @@ misfit-grown k r [] more x e = absurd (let w : _≡_ {A = ℕ} 0 1 = cc in omega
 misfit-grown zero r (y ∷ es) more x e = e
 misfit-grown (suc k) r (y ∷ es) more x e = go (leb (bytes y) r) e (misfit-grown k (r - bytes y) es more x)
   where
-    go : (b : Bool) → elim b [ true ↦ misfit k (r - bytes y) es | false ↦ some (refuse 10 (y .from)) ] ≡ some x → (misfit k (r - bytes y) es ≡ some x → misfit k (r - bytes y) (es ++ more) ≡ some x)
-        → elim b [ true ↦ misfit k (r - bytes y) (es ++ more) | false ↦ some (refuse 10 (y .from)) ] ≡ some x
+    go : (b : Bool) → elim b [ true ↦ misfit k (r - bytes y) es | false ↦ some (refuse refused-room (y .from)) ] ≡ some x → (misfit k (r - bytes y) es ≡ some x → misfit k (r - bytes y) (es ++ more) ≡ some x)
+        → elim b [ true ↦ misfit k (r - bytes y) (es ++ more) | false ↦ some (refuse refused-room (y .from)) ] ≡ some x
     go true e f = f e
     go false e f = e
 
@@ -160,9 +161,9 @@ misfit-after k r [] more e = let p : k - 0 ≡ k = omega arith in let q : r - 0 
 misfit-after zero r (y ∷ es) more e = absurd (let w : _≡_ {A = ℕ} 0 1 = cc in omega arith)
 misfit-after (suc k) r (y ∷ es) more e = go (leb (bytes y) r) e (misfit-after k (r - bytes y) es more)
   where
-    go : (b : Bool) → _≡_ {A = Option Refusal} (elim b [ true ↦ misfit k (r - bytes y) es | false ↦ some (refuse 10 (y .from)) ]) none
+    go : (b : Bool) → _≡_ {A = Option Refusal} (elim b [ true ↦ misfit k (r - bytes y) es | false ↦ some (refuse refused-room (y .from)) ]) none
         → (misfit k (r - bytes y) es ≡ none → misfit k (r - bytes y) (es ++ more) ≡ misfit (k - length es) (r - bytes y - all-bytes es) more)
-        → elim b [ true ↦ misfit k (r - bytes y) (es ++ more) | false ↦ some (refuse 10 (y .from)) ] ≡ misfit (suc k - length (y ∷ es)) (r - (bytes y + all-bytes es)) more
+        → elim b [ true ↦ misfit k (r - bytes y) (es ++ more) | false ↦ some (refuse refused-room (y .from)) ] ≡ misfit (suc k - length (y ∷ es)) (r - (bytes y + all-bytes es)) more
     go true e f =
         let p : suc k - length (y ∷ es) ≡ k - length es = omega arith in
         let q : r - (bytes y + all-bytes es) ≡ r - bytes y - all-bytes es = omega arith in rw (p, q) (f e)

@@ -1,6 +1,7 @@
 -- The definition: document 01 as mathematics. What it is about
 pub mod Limits
 pub mod Notes
+pub mod Refusals
 pub mod Texts
 pub mod Utf8
 pub mod Tables
@@ -39,6 +40,10 @@ pub mod Places
 pub mod Risen
 pub mod Ranges
 pub mod Blank
+-- outside the text the definition reads a space, and the Rust has none: they answer alike
+pub mod Outside
+pub mod Absent
+pub mod Unruled
 -- edges are only appended, and 17 for each character at most; what the room refuses
 pub mod Growth
 -- each edge goes forward within the text, in 198 bytes, with the core that its text has
@@ -58,11 +63,16 @@ pub mod Cover
 -- alternatives only follow the path, in 68 bytes; code 13 is absent
 pub mod Alternatives
 pub mod Alt2
+-- how many edges a listing has, and how many bytes: four hold their number
+pub mod Counts
+pub mod AllEdges
+pub mod Sizes
 -- edge by edge, whatever is remembered of word starts
 pub mod Recalled
 pub mod Offers
--- UTF-8 there and back; a part of an accepted text is accepted; what is returned
+-- UTF-8 there and back; a part of an accepted text is accepted; what is returned, and how every call ends
 pub mod Roundtrip
 pub mod Rewritten
 pub mod Parts
 pub mod Returned
+pub mod Endings

@@ -1,5 +1,12 @@
 -- The limits of document 01, each named once.
-use Prim.Native.Nat.{ℕ}
+use Prim.Native.Nat.{ℕ, _+_, _-_}
+
+-- the highest mode, and the letters of a language code
+abbrev pub most-mode : ℕ
+most-mode = 3
+
+abbrev pub code-letters : ℕ
+code-letters = 3
 
 -- characters of a text
 abbrev pub most-characters : ℕ
@@ -30,16 +37,31 @@ most-vowel = 4
 abbrev pub most-script : ℕ
 most-script = 127
 
+-- flags of a class row stay below the bit that is 0
+abbrev pub flags-limit : ℕ
+flags-limit = 128
+
+-- ASCII characters, all bytes of a target text among them
+abbrev pub ascii-characters : ℕ
+ascii-characters = 128
+
 -- bytes of a slot
 abbrev pub slot-bytes : ℕ
 slot-bytes = 12
 
--- What follows from these, proved in the laws: bytes of an edge's text and of an alternative's, edges for each character
-abbrev pub most-bytes : ℕ
-most-bytes = 198
-
+-- What follows from these, as the laws prove. Bytes of a target with an inherent vowel: so long is an alternative's text
 abbrev pub most-alternative : ℕ
-most-alternative = 68
+most-alternative = most-target + most-vowel
 
+-- bytes of an edge's text: to these the expansion adds 1 of a doubled letter, a Thai pre-vowel's target, 1 of a Coptic
+-- grave, the target of a small ya in the place of 1, and 1 of a long mark
+abbrev pub most-bytes : ℕ
+most-bytes = most-alternative + 1 + most-target + 1 + (most-target - 1) + 1
+
+-- edges for each character: one for each length of a source, and a fallback
 abbrev pub most-edges : ℕ
-most-edges = 17
+most-edges = most-source + 1
+
+-- what four bytes hold is below this, and so are the bytes of any listing's rows (Sizes)
+abbrev pub listing-limit : ℕ
+listing-limit = 4294967296

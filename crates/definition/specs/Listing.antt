@@ -6,8 +6,13 @@ use Rattle.base.specs.Big.{two, four}
 use Rattle.definition.specs.Texts.{Text}
 use Rattle.definition.specs.Tables.{Tables}
 use Rattle.definition.specs.Utf8.{encoded}
+use Rattle.definition.specs.Blocks.{version-1}
 use Rattle.definition.specs.Edges.{Edge, State}
 use Rattle.definition.specs.Paths.{joined, path-of, with-alternatives-of, all-edges-of}
+
+-- bytes of a row before its text
+abbrev pub row-head-bytes : ℕ
+row-head-bytes = 8
 
 -- An edge's row: length of the rest 2, start 2, end 2, annotation 1, core length 1, text
 unfoldable pub edge-row : Edge → List ℕ → List ℕ
@@ -17,9 +22,9 @@ unfoldable pub edge-rows : List Edge → List ℕ
 edge-rows [] = []
 edge-rows (x ∷ l) = edge-row x (encoded (x .text)) ++ edge-rows l
 
--- a block: version 1, the length of all that follows, the rows
+-- a block: its version, the length of all that follows, the rows
 unfoldable pub block : List ℕ → List ℕ
-block rows = 1 ∷ (four (length rows) ++ rows)
+block rows = version-1 ∷ (four (length rows) ++ rows)
 
 unfoldable pub listing : List Edge → List ℕ
 listing l = block (edge-rows l)

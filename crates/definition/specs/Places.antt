@@ -10,6 +10,7 @@ use Rattle.base.specs.Rows.{Each, each-map}
 use Rattle.definition.specs.Limits.{most-source}
 use Rattle.definition.specs.Texts.{Text}
 use Rattle.definition.specs.Blocks.{head-bytes}
+use Rattle.definition.specs.RuleRows.{target-from, end-target-from, others-from}
 use Rattle.definition.specs.RuleRows.{rule-size, rule-flag, target-bit, end-target-bit, source-count, codes-at, codes-count, target-at, past-text}
 use Rattle.definition.specs.RuleRows.{end-target-at, others-at, others-end, rule-source, rule-right, rule-fault}
 use Rattle.definition.specs.ClassRows.{class-size, class-next, class-right, class-fault}
@@ -48,9 +49,9 @@ rule-placed old s e =
       source = unfold codes-at in refl;
       least = c .least;
       most = c .most;
-      codes = unfold target-at in refl;
-      target = unfold end-target-at in past-far (rule-flag s target-bit) (target-at s) s;
-      end-target = unfold others-at in past-far (rule-flag s end-target-bit) (end-target-at s) s;
+      codes = unfold target-from in refl;
+      target = unfold end-target-from in past-far (rule-flag s target-bit) (target-at s) s;
+      end-target = unfold others-from in past-far (rule-flag s end-target-bit) (end-target-at s) s;
       others = let z = c .filled in omega arith;
       last = c .filled;
     }

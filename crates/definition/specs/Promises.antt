@@ -16,6 +16,7 @@ use Rattle.base.specs.Alls.{All, Opt, all-all}
 use Rattle.definition.specs.Limits.{most-characters, most-alternatives, most-target, most-vowel, most-edges}
 use Rattle.definition.specs.Texts.{Text}
 use Rattle.definition.specs.Blocks.{small}
+use Rattle.definition.specs.RuleRows.{end-target-right-from, target-right-from}
 use Rattle.definition.specs.RuleRows.{printable, text-of, text-right, texts-of, texts-right, rule-flag, target-bit, end-target-bit, target-at}
 use Rattle.definition.specs.RuleRows.{end-target-at, others-at, others-of, others-right, text-where, target-right, end-target-right, rule-right}
 use Rattle.definition.specs.RuleRows.{rule-fault, rule-of}
@@ -53,7 +54,7 @@ where-short true s e = text-short s e
 where-short false s e = tt
 
 pub rule-spoken : (old : Text) (s : List ℕ) → rule-right old s ≡ true → Spoken (rule-of s)
-unfolding rule-of target-right end-target-right others-right others-of
+unfolding rule-of target-right-from end-target-right-from others-right others-of
 rule-spoken old s e =
     let c = rule-checked old s e in
     record {

@@ -15,7 +15,8 @@ use Rattle.definition.specs.Tables.{Tables}
 use Rattle.definition.specs.Edges.{State}
 use Rattle.definition.specs.Building.{lattice}
 use Rattle.definition.specs.Listing.{shown}
-use Rattle.definition.specs.Capacity.{Refusal, misfit}
+use Rattle.definition.specs.Refusals.{Refusal}
+use Rattle.definition.specs.Capacity.{misfit}
 use Rattle.definition.specs.Call.{Inputs, Called, tables, characters, refusal, refused, written, within-room, with-lattice, accepted, unless-refused, called}
 
 pub record Returned (i : Inputs) (r : Called) : Type 0 where

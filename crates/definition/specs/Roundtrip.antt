@@ -1,7 +1,7 @@
 -- UTF-8 there and back: the characters of a text's bytes are the text, and no sequence is bad.
 use mathlib.Core.Bool.{Bool, true, false, _&&_, _||_}
-use mathlib.Core.Path.{_≡_, refl, _∙_, ap}
-use mathlib.Core.List.{List, [], _∷_, _++_}
+use mathlib.Core.Path.{_≡_, refl, sym, _∙_, ap}
+use mathlib.Core.List.{List, [], _∷_, _++_, append-assoc}
 use mathlib.Core.Option.{none}
 use Prim.Native.Nat.{ℕ, _+_, _-_, _*_, _/_, _%_, _≤_, _<_}
 use native.Mathlib.Omega.{arith}
@@ -13,7 +13,7 @@ use Rattle.base.specs.Pick.{pick}
 use Rattle.base.specs.Bools.{and-right}
 use Rattle.base.specs.Alls.{All}
 use Rattle.definition.specs.Texts.{Text}
-use Rattle.definition.specs.Utf8.{char, bad, six, checked, sequence, read, scalar, bad-sequence, decoded, encode, encoded}
+use Rattle.definition.specs.Utf8.{char, six, checked, sequence, read, scalar, bad-sequence, decoded, encode, encoded}
 use Rattle.definition.specs.Utf8Turns.{bad-at, bad-sequence-is, bad-none, bad-next, decoded-none, decoded-next, char-bytes}
 
 six-of : (m : ℕ) → m < 64 → six (128 + m) ≡ m
@@ -123,3 +123,9 @@ bad-encoded o (c ∷ w) h =
 
 pub encoded-right : (w : Text) → All (λ c. scalar c ≡ true) w → bad-sequence (encoded w) ≡ none
 encoded-right w h = bad-sequence-is (encoded w) ∙ bad-encoded 0 w h
+
+-- The bytes of two texts, one behind the other
+pub encoded-append : (u w : Text) → encoded (u ++ w) ≡ encoded u ++ encoded w
+unfolding encoded
+encoded-append [] w = refl
+encoded-append (d ∷ u) w = ap (λ l. encode d ++ l) (encoded-append u w) ∙ sym (append-assoc (encode d) (encoded u) (encoded w))

@@ -15,7 +15,7 @@ use Rattle.definition.specs.Limits.{most-rows, most-source, most-codes, 
 use Rattle.definition.specs.Texts.{Text}
 use Rattle.definition.specs.Utf8.{scalar}
 use Rattle.definition.specs.Tables.{Rule}
-use Rattle.definition.specs.Blocks.{head-bytes, fault, small}
+use Rattle.definition.specs.Blocks.{head-bytes, faulty-row, small}
 
 -- Target texts: a length byte 0 to 64 and that many bytes 0x20 to 0x7E
 unfoldable pub printable : ℕ → Bool
@@ -81,25 +81,40 @@ rule-count s = be2 s 3
 unfoldable pub source-count : List ℕ → ℕ
 source-count s = getD s 5 0
 
+-- where the language codes begin, behind the source
 unfoldable pub codes-at : List ℕ → ℕ
 codes-at s = 6 + 3 * source-count s
-
-unfoldable pub codes-count : List ℕ → ℕ
-codes-count s = getD s (codes-at s) 0
-
-unfoldable pub target-at : List ℕ → ℕ
-target-at s = codes-at s + 1 + 3 * codes-count s
 
 -- past the text at `o`, where the row has one
 unfoldable pub past-text : Bool → ℕ → List ℕ → ℕ
 past-text true o s = o + text-size (drop o s)
 past-text false o s = o
 
-unfoldable pub end-target-at : List ℕ → ℕ
-end-target-at s = past-text (rule-flag s target-bit) (target-at s) s
+-- what follows in a row whose codes begin at `c`
+unfoldable pub codes-count-from : ℕ → List ℕ → ℕ
+codes-count-from c s = getD s c 0
 
-unfoldable pub others-at : List ℕ → ℕ
-others-at s = past-text (rule-flag s end-target-bit) (end-target-at s) s
+unfoldable pub target-from : ℕ → List ℕ → ℕ
+target-from c s = c + 1 + 3 * codes-count-from c s
+
+unfoldable pub end-target-from : ℕ → List ℕ → ℕ
+end-target-from c s = past-text (rule-flag s target-bit) (target-from c s) s
+
+unfoldable pub others-from : ℕ → List ℕ → ℕ
+others-from c s = past-text (rule-flag s end-target-bit) (end-target-from c s) s
+
+-- and in one that has its source
+abbrev pub codes-count : List ℕ → ℕ
+codes-count s = codes-count-from (codes-at s) s
+
+abbrev pub target-at : List ℕ → ℕ
+target-at s = target-from (codes-at s) s
+
+abbrev pub end-target-at : List ℕ → ℕ
+end-target-at s = end-target-from (codes-at s) s
+
+abbrev pub others-at : List ℕ → ℕ
+others-at s = others-from (codes-at s) s
 
 -- the alternatives from `o` on, a count and as many texts: where they end, what they are, and whether they are right
 unfoldable pub others-end : ℕ → List ℕ → ℕ
@@ -121,28 +136,34 @@ code-of s = take 3 s
 unfoldable pub rule-source : List ℕ → Text
 rule-source s = counted three-at 3 (source-count s) (drop 6 s)
 
-unfoldable pub rule-codes : List ℕ → List Text
-rule-codes s = counted code-of 3 (codes-count s) (drop (codes-at s + 1) s)
+unfoldable pub codes-from : ℕ → List ℕ → List Text
+codes-from c s = counted code-of 3 (codes-count-from c s) (drop (c + 1) s)
+
+abbrev pub rule-codes : List ℕ → List Text
+rule-codes s = codes-from (codes-at s) s
 
 -- a text where the flag says that there is one
 unfoldable pub text-where : Bool → List ℕ → Option Text
 text-where b s = pick b (some (text-of s)) none
 
--- The rule that a row stands for
-unfoldable pub rule-of : List ℕ → Rule
-rule-of s = record {
-  source = rule-source s;
+-- The rule that a row stands for, with a source that is given and codes that begin at `c`; and with its own
+abbrev pub rule-from : Text → ℕ → List ℕ → Rule
+rule-from source c s = record {
+  source = source;
   start-only = rule-flag s start-only-bit;
   not-start = rule-flag s not-start-bit;
   end-only = rule-flag s end-only-bit;
   not-end = rule-flag s not-end-bit;
   whole-word = rule-flag s whole-word-bit;
   count = rule-count s;
-  codes = rule-codes s;
-  target = text-where (rule-flag s target-bit) (drop (target-at s) s);
-  end-target = text-where (rule-flag s end-target-bit) (drop (end-target-at s) s);
-  others = others-of (others-at s) s;
+  codes = codes-from c s;
+  target = text-where (rule-flag s target-bit) (drop (target-from c s) s);
+  end-target = text-where (rule-flag s end-target-bit) (drop (end-target-from c s) s);
+  others = others-of (others-from c s) s;
 }
+
+unfoldable pub rule-of : List ℕ → Rule
+rule-of s = rule-from (rule-source s) (codes-at s) s
 
 -- sources rise, character by character, a prefix first; equal ones may repeat
 unfoldable pub rises : Text → Text → Bool
@@ -150,24 +171,37 @@ rises [] b = true
 rises (x ∷ a) [] = false
 rises (x ∷ a) (y ∷ b) = ltb x y || (eqb x y && rises a b)
 
--- A right row lies in the block, its parts fill it, and none breaks a limit. `old` is the source before
-unfoldable pub rule-fits : List ℕ → Bool
-rule-fits s =
-    holds (rule-size s) s && eqb (others-end (others-at s) s) (rule-size s) && not (rule-flag s zero-bit)
+-- A right row lies in the block, its parts fill it, and none breaks a limit: here those from the codes on, which begin at `c`
+unfoldable pub fits-from : ℕ → List ℕ → Bool
+fits-from c s =
+    holds (rule-size s) s && eqb (others-end (others-from c s) s) (rule-size s) && not (rule-flag s zero-bit)
 
+unfoldable pub codes-right-from : ℕ → List ℕ → Bool
+codes-right-from c s = leb (codes-count-from c s) most-codes && all (all small) (codes-from c s)
+
+unfoldable pub target-right-from : ℕ → List ℕ → Bool
+target-right-from c s = not (rule-flag s target-bit) || text-right (drop (target-from c s) s)
+
+unfoldable pub end-target-right-from : ℕ → List ℕ → Bool
+end-target-right-from c s = not (rule-flag s end-target-bit) || text-right (drop (end-target-from c s) s)
+
+abbrev pub rule-fits : List ℕ → Bool
+rule-fits s = fits-from (codes-at s) s
+
+abbrev pub codes-right : List ℕ → Bool
+codes-right s = codes-right-from (codes-at s) s
+
+abbrev pub target-right : List ℕ → Bool
+target-right s = target-right-from (codes-at s) s
+
+abbrev pub end-target-right : List ℕ → Bool
+end-target-right s = end-target-right-from (codes-at s) s
+
+-- and the source, which is asked to rise after `old`, the source before
 unfoldable pub source-right : Text → List ℕ → Bool
 source-right old s =
     leb 1 (source-count s) && leb (source-count s) most-source
     && all scalar (rule-source s) && rises old (rule-source s)
-
-unfoldable pub codes-right : List ℕ → Bool
-codes-right s = leb (codes-count s) most-codes && all (all small) (rule-codes s)
-
-unfoldable pub target-right : List ℕ → Bool
-target-right s = not (rule-flag s target-bit) || text-right (drop (target-at s) s)
-
-unfoldable pub end-target-right : List ℕ → Bool
-end-target-right s = not (rule-flag s end-target-bit) || text-right (drop (end-target-at s) s)
 
 unfoldable pub rule-right : Text → List ℕ → Bool
 rule-right old s =
@@ -176,7 +210,7 @@ rule-right old s =
 
 -- The table: its first faulty row, and its rules
 unfoldable pub rule-fault : List ℕ → Option ℕ
-rule-fault b = fault rule-size rule-source rule-right most-rows [] b
+rule-fault b = faulty-row rule-size rule-source rule-right most-rows [] b
 
 unfoldable pub rules-of : List ℕ → List Rule
 rules-of b = rows rule-of rule-size (drop head-bytes b)

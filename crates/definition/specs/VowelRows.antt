@@ -10,7 +10,7 @@ use Rattle.base.specs.Rows.{rows}
 use Rattle.definition.specs.Limits.{most-vowel, most-script}
 use Rattle.definition.specs.Texts.{Text}
 use Rattle.definition.specs.Tables.{Vowel}
-use Rattle.definition.specs.Blocks.{head-bytes, fault, small}
+use Rattle.definition.specs.Blocks.{head-bytes, faulty-row, small}
 
 -- The parts of a row
 abbrev pub vowel-script : List ℕ → ℕ
@@ -49,7 +49,7 @@ vowel-right low s = vowel-fits low s && letters-right s
 
 -- The table: its first faulty row, and its vowels
 unfoldable pub vowel-fault : List ℕ → Option ℕ
-vowel-fault b = fault vowel-size vowel-next vowel-right most-script 1 b
+vowel-fault b = faulty-row vowel-size vowel-next vowel-right most-script 1 b
 
 unfoldable pub vowels-of : List ℕ → List Vowel
 vowels-of b = rows vowel-of vowel-size (drop head-bytes b)

@@ -17,7 +17,7 @@ use Rattle.definition.specs.Edges.{Edge, starting, alike, new-in, add}
 use Rattle.definition.specs.Capacity.{bytes}
 use Rattle.definition.specs.Growth.{all-bytes}
 use Rattle.utf8.specs.Encodings.{TextBytes}
-use Rattle.room.specs.Puts.{put-at, put-before, put-from, put-there, put-length}
+use Rattle.lent_bytes.specs.Puts.{put-at, put-before, put-from, put-there, put-length}
 use Rattle.edge.specs.declared.Numbers.{Numbers}
 use Rattle.edge.specs.declared.Filled.{Filled}
 use Rattle.edge.specs.declared.Added.{Added}

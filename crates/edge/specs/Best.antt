@@ -13,9 +13,9 @@ use Rattle.edge.specs.Counted.{all-at}
 use Rattle.edge.specs.Stored.{Slot}
 use Rattle.edge.specs.Asked.{Readable}
 
-abbrev pub edge-at : List ℕ → List ℕ → BestEdge → Option Edge
-edge-at room slots (At o) = some (edge-of room (drop o slots))
-edge-at room slots Nothing = none
+abbrev pub best-means : List ℕ → List ℕ → BestEdge → Option Edge
+best-means room slots (At o) = some (edge-of room (drop o slots))
+best-means room slots Nothing = none
 
 -- it is one of the first `count` slots
 abbrev pub Found : ℕ → BestEdge → Type 0

@@ -12,7 +12,8 @@ use Rattle.base.specs.Pick.{pick}
 use Rattle.base.specs.Lists.{any}
 use Rattle.definition.specs.Limits.{slot-bytes}
 use Rattle.definition.specs.Edges.{Edge, starting, alike, new-in, add}
-use Rattle.definition.specs.Capacity.{Refusal, refuse, bytes, misfit}
+use Rattle.definition.specs.Refusals.{Refusal, refuse, refused-slots, refused-room}
+use Rattle.definition.specs.Capacity.{bytes, misfit}
 use Rattle.definition.specs.Growth.{all-bytes, misfit-after}
 use Rattle.edge.specs.declared.Numbers.{Numbers}
 use Rattle.edge.specs.declared.Added.{Added}
@@ -22,9 +23,9 @@ use Rattle.edge.specs.Stored.{Stored, edge-count}
 use Rattle.edge.specs.Adding.{there, slot-left, room-left, answer, added, Writable, written-bytes}
 
 module _ (x : Edge) (l : List Edge) (r : ℕ) where
-  too-long : (k : ℕ) → leb (bytes x) r ≡ false → misfit (suc k) r (x ∷ l) ≡ some (refuse 10 (x .from))
+  too-long : (k : ℕ) → leb (bytes x) r ≡ false → misfit (suc k) r (x ∷ l) ≡ some (refuse refused-room (x .from))
   unfolding misfit
-  too-long k h = ap (λ (b : Bool). elim b as (λ _. Option Refusal) [ true ↦ misfit k (r - bytes x) l | false ↦ some (refuse 10 (x .from)) ]) h
+  too-long k h = ap (λ (b : Bool). elim b as (λ _. Option Refusal) [ true ↦ misfit k (r - bytes x) l | false ↦ some (refuse refused-room (x .from)) ]) h
 
 -- edges for which there are slots and bytes fit
 all-fit : (es : List Edge) (k r : ℕ) → length es ≤ k → all-bytes es ≤ r → misfit k r es ≡ none
@@ -32,7 +33,7 @@ unfolding misfit all-bytes
 all-fit [] k r h g = refl
 all-fit (x ∷ es) zero r h g = absurd (omega arith)
 all-fit (x ∷ es) (suc k) r h g =
-    ap (λ (b : Bool). elim b as (λ _. Option Refusal) [ true ↦ misfit k (r - bytes x) es | false ↦ some (refuse 10 (x .from)) ])
+    ap (λ (b : Bool). elim b as (λ _. Option Refusal) [ true ↦ misfit k (r - bytes x) es | false ↦ some (refuse refused-room (x .from)) ])
     (le-leb (bytes x) r (omega arith))
     ∙ all-fit es k (r - bytes x) (omega arith) (omega arith)
 
@@ -68,7 +69,7 @@ module _ (slots room : List ℕ) (count used : ℕ) (e : Numbers) (text : List �
   is-new e = rw e
 
   unslotted : slot-left (length slots) count ≡ false → (l : List Edge)
-      → misfit (length slots / slot-bytes) (length room) (es ++ x ∷ l) ≡ some (refuse 9 (e .from))
+      → misfit (length slots / slot-bytes) (length room) (es ++ x ∷ l) ≡ some (refuse refused-slots (e .from))
   unfolding misfit slot-left edge-by
   unslotted h l =
       let k = leb-false slot-bytes (length slots - count * slot-bytes) h in
@@ -76,7 +77,7 @@ module _ (slots room : List ℕ) (count used : ℕ) (e : Numbers) (text : List �
       left l ∙ ap (λ n. misfit n (length room - used) (x ∷ l)) z
 
   roomless : slot-left (length slots) count ≡ true → room-left (length room) used (length text) ≡ false → (l : List Edge)
-      → misfit (length slots / slot-bytes) (length room) (es ++ x ∷ l) ≡ some (refuse 10 (e .from))
+      → misfit (length slots / slot-bytes) (length room) (es ++ x ∷ l) ≡ some (refuse refused-room (e .from))
   unfolding slot-left room-left edge-by
   roomless h k l =
       let j = leb-true slot-bytes (length slots - count * slot-bytes) h in

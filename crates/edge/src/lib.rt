@@ -7,7 +7,7 @@ ghost use lib.ListN.{length, drop};
 ghost use Rattle.definition.specs.Limits.{slot-bytes};
 ghost use Rattle.definition.specs.Edges.{alike};
 ghost use Rattle.utf8.specs.Encodings.{TextBytes};
-ghost use Rattle.room.specs.Puts.{put-at};
+ghost use Rattle.lent_bytes.specs.Puts.{put-at};
 ghost use Rattle.edge.specs.Slots.{two-bytes, length-of, bytes-of, edge-by, numbers-of, edge-of, edges-of, slot-of};
 ghost use Rattle.edge.specs.Stored.{Slot};
 ghost use Rattle.edge.specs.Adding.{there, Adds, Addable};
@@ -42,7 +42,7 @@ pub const ALT: u8 = 12;
 
 pub const ALT3: u8 = 14;
 
-// Nothing yet.
+// No annotation, while nothing has been expanded.
 pub const UNTOUCHED: u8 = 0;
 
 // A slot's bytes, and where in it an edge's start, end, offset of the text, length of the text, annotation and core
@@ -103,20 +103,20 @@ pub fn numbers_at(slots: &[u8], slot: usize) -> Numbers
     }
 }
 
-// How many bytes its text has.
+// How many bytes the text of the edge in a slot has.
 pub fn text_len(slots: &[u8], slot: usize) -> usize
     ensures { λ r. ⌜ (r ≡ length-of (drop slot (now (slots .entry)))) × (r < two-bytes) ⌝ }
 {
     base::two(slots, slot, LEN) as usize
 }
 
-// Its text, as it stands in the text room.
+// The text of the edge in a slot, as it stands in the text room.
 pub fn edge_text<'a>(slots: &[u8], room: &'a [u8], slot: usize) -> &'a [u8]
     requires { ⌜ Slot (now room) (length (now room)) (drop slot (now slots)) ⌝ }
     ensures { λ r. ⌜ now r ≡ bytes-of (now (room .entry)) (drop slot (now (slots .entry))) ⌝ }
 {
     let offset = base::four(slots, slot, OFFSET) as usize;
-    room::part(room, offset, text_len(slots, slot))
+    lent_bytes::part(room, offset, text_len(slots, slot))
 }
 
 // Is the edge in a slot equal to one with these numbers and this text?
@@ -135,10 +135,10 @@ fn is_alike(slots: &[u8], room: &[u8], slot: usize, e: Numbers, text: &[u8]) -> 
     if e.note != other.note {
         return false;
     }
-    room::same(text, edge_text(slots, room, slot))
+    lent_bytes::same(text, edge_text(slots, room, slot))
 }
 
-// Is one of the edges equal to it? Those before number `since` are not.
+// Is one of the edges equal to one with these numbers and this text? Those before number `since` are not.
 pub fn is_there(slots: &[u8], room: &[u8], filled: Filled, e: Numbers, text: &[u8]) -> bool
     requires { ⌜ Readable (now slots) (now room) (filled .count) × TextBytes (now text) × (filled .since ≤ filled .count)
         × (there (edges-of (now room) (filled .since) (now slots)) (edge-by e (now text)) ≡ false) ⌝ }
@@ -177,7 +177,7 @@ fn put_slot(slots: &mut [u8], at: usize, e: Numbers, offset: usize, len: usize)
         e.note,
         e.core,
     ];
-    room::put_at(slots, at, &slot);
+    lent_bytes::put_at(slots, at, &slot);
 }
 
 // `add_edge`: one more edge, unless one equal to it is there. Its text goes into the room from the first free byte on.
@@ -200,7 +200,7 @@ pub fn add_edge(slots: &mut [u8], room: &mut [u8], filled: Filled, e: Numbers, t
         return Added::NoRoom(e.from);
     }
     put_slot(slots, at, e, used, len);
-    room::put_at(room, used, text);
+    lent_bytes::put_at(room, used, text);
     Added::Fits {
         count: count + 1,
         used: used + len,

@@ -11,7 +11,7 @@ use Rattle.base.specs.Lists.{all, same, starts}
 use Rattle.base.specs.ListLaws.{starts-append, same-some}
 use Rattle.definition.specs.Texts.{Text, vowels}
 use Rattle.definition.specs.Building.{grown}
-use Rattle.ends.specs.Shown.{Within, shown, chosen}
+use Rattle.ends.specs.Shown.{Within, shown, form-means}
 use Rattle.ends.specs.declared.Forms.{Forms}
 use Rattle.ends.specs.declared.Which.{Which}
 
@@ -50,8 +50,8 @@ module _ (s vowel : Text) (f : Forms) (h : Within (length s) f) where
       let z = h .4 e in
       ap (λ (i : ℕ). slice i (f .end) s) (z .0) ∙ ap (λ (i : ℕ). take i s) (z .1) ∙ take-length s
 
-  pub grown-as : 0 < length vowel → (w : Which) → grown s (chosen w (shown s vowel f)) ≡ grew w f vowel
-  unfolding chosen shown grew pick
+  pub grown-as : 0 < length vowel → (w : Which) → grown s (form-means w (shown s vowel f)) ≡ grew w f vowel
+  unfolding form-means shown grew pick
   grown-as k Which.Rom = grown-short s (take (f .rom) s) (omega (arith, length-take-le (f .rom) s (h .0), h .0))
   grown-as k Which.Base = grown-short s (slice (f .from) (f .to) s) (part-length (f .from) (f .to) (omega (arith, h .2, h .3)))
   grown-as k Which.Plus = go (f .add) refl
@@ -60,8 +60,8 @@ module _ (s vowel : Text) (f : Forms) (h : Within (length s) f) where
       go true e = ap (λ (x : Text). grown s (x ++ vowel)) (whole e) ∙ grown-added s vowel k
       go false e = ap (grown s) (append-nil plus) ∙ grown-short s plus (part-length (f .from) (f .end) (h .3))
 
-  pub chosen-length : (w : Which) → length (chosen w (shown s vowel f)) ≤ length s + length vowel
-  unfolding chosen shown pick
+  pub chosen-length : (w : Which) → length (form-means w (shown s vowel f)) ≤ length s + length vowel
+  unfolding form-means shown pick
   chosen-length Which.Rom = omega (arith, length-take-le (f .rom) s (h .0), h .0)
   chosen-length Which.Base = omega (arith, part-length (f .from) (f .to) (omega (arith, h .2, h .3)))
   chosen-length Which.Plus = go (f .add)

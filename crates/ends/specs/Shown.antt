@@ -25,7 +25,7 @@ unfoldable pub shown : Text → Text → Forms → Text × Text × Text
 shown s vowel f =
     (take (f .rom) s, slice (f .from) (f .to) s, slice (f .from) (f .end) s ++ pick (f .add) vowel [])
 
-unfoldable pub chosen : Which → Text × Text × Text → Text
-chosen Which.Rom u = u .0
-chosen Which.Base u = u .1
-chosen Which.Plus u = u .2
+unfoldable pub form-means : Which → Text × Text × Text → Text
+form-means Which.Rom u = u .0
+form-means Which.Base u = u .1
+form-means Which.Plus u = u .2

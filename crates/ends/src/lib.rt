@@ -13,7 +13,7 @@ ghost use Rattle.definition.specs.Vowels.{bases, consonant-only, before-yo};
 ghost use Rattle.rom.specs.Rom.{text, rom, Clean};
 ghost use Rattle.ends.specs.Back.{run};
 ghost use Rattle.ends.specs.Ends.{inherent, y-from, stem, kept};
-ghost use Rattle.ends.specs.Shown.{Within, unmatched, shown, chosen};
+ghost use Rattle.ends.specs.Shown.{Within, unmatched, shown, form-means};
 
 // The three forms as positions: the romanization is the first `rom` bytes, the base stands from `from` to `to`, the
 // base with its vowel from `from` to `end`; where `add`, the script's vowel comes behind it.
@@ -25,14 +25,14 @@ pub struct Forms {
     pub add: bool,
 }
 
-// One of the three.
+// One of the three forms of a romanization.
 pub enum Which {
     Rom,
     Base,
     Plus,
 }
 
-// a, and under type AO also o.
+// The vowels that a script's own vowel may be: a, and under type AO also o.
 fn is_inherent(ao: bool, c: u32) -> bool
     ensures { λ r. ⌜ r ≡ inherent ao c ⌝ }
 {
@@ -118,7 +118,7 @@ fn kept(s: &[u8], one: bool, end: usize) -> usize
     let n = s.len();
     if end < n {
         if one {
-            if blocks::latin(base::byte(s, 0)) {
+            if table_blocks::latin(base::byte(s, 0)) {
                 return end;
             }
         }
@@ -197,7 +197,7 @@ pub fn any_vowel(s: &[u8], n: usize) -> bool
     rom::any_in(&s[..n], rom::VOWELS)
 }
 
-// One of b, c, d, z.
+// One of b, c, d, z, which stay bare before the Khmer yo.
 fn is_bcdz(c: u32) -> bool
     ensures { λ r. ⌜ r ≡ before-yo (c ∷ []) ⌝ }
 {
@@ -226,10 +226,10 @@ fn part(r: Rom, from: usize, to: usize) -> Rom
     rom::bytes_of(&b[from..to])
 }
 
-// The chosen form.
+// The romanization in the form that was chosen.
 pub fn shaped(r: Rom, f: Forms, w: Which, vowel: &[u8]) -> Rom
     requires { ⌜ Clean r × Within (r .len) f × (r .len + length (now vowel) ≤ most-bytes) ⌝ }
-    ensures { λ q. ⌜ q ≡ rom (chosen w (shown (text r) (now (vowel .entry)) f)) ⌝ }
+    ensures { λ q. ⌜ q ≡ rom (form-means w (shown (text r) (now (vowel .entry)) f)) ⌝ }
 {
     match w {
         Which::Rom => part(r, 0, f.rom),

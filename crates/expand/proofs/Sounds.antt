@@ -15,7 +15,7 @@ use Rattle.rom.specs.declared.Rom.{Rom}
 use Rattle.rom.specs.Rom.{text, Clean, bytes-length}
 use Rattle.rom.specs.Sets.{member, o-ang-side-set, in-o-ang-side, all-as}
 use Rattle.rom.proofs.Backwards.{back-cons}
-use Rattle.rules.specs.Chosen.{or-nothing}
+use Rattle.rule_choice.specs.Chosen.{or-nothing}
 use Rattle.expand.specs.Sides.{beside}
 
 -- one or more of them

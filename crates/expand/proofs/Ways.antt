@@ -19,7 +19,7 @@ use Rattle.definition.specs.Rules.{first-rule}
 use Rattle.definition.specs.Within.{inner}
 use Rattle.definition.specs.ExpandBounds.{space-not-small}
 use Rattle.definition.specs.Expansion.{Work, o-ang-side, between, silent, small-ya, small-target}
-use Rattle.rules.specs.Chosen.{or-nothing}
+use Rattle.rule_choice.specs.Chosen.{or-nothing}
 use Rattle.expand.specs.Tests.{has-grave}
 use Rattle.expand.specs.Sides.{beside, small-here}
 use Rattle.expand.proofs.Sounds.{after-consonant}
@@ -104,11 +104,11 @@ module _ (rs : List Rule) (ks : List Class) (t : Text) (w : Work) where
     not-in-thai e = sym (rw e)
 
     module _ (e : (eqb (script ks (prev t (w .from))) script-thai && eqb (script ks (at t (w .to))) script-thai) ≡ true) where
-      pub not-behind : last-is o-ang-side (v .behind (w .from)) ≡ false → false ≡ between rs ks t v w
+      pub not-behind : last-is o-ang-side (v .behind 0 (w .from)) ≡ false → false ≡ between rs ks t v w
       unfolding between
       not-behind f = sym (rw (e, f))
 
-      pub by-next : last-is o-ang-side (v .behind (w .from)) ≡ true → is beside (first-rule rs (at t (w .to) ∷ [])) ≡ between rs ks t v w
+      pub by-next : last-is o-ang-side (v .behind 0 (w .from)) ≡ true → is beside (first-rule rs (at t (w .to) ∷ [])) ≡ between rs ks t v w
       unfolding between beside
       by-next f = sym (rw (e, f))
 

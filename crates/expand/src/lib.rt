@@ -15,14 +15,14 @@ ghost use Rattle.definition.specs.Rules.{first-rule};
 ghost use Rattle.definition.specs.Expansion.{work, between, silent, small-ya, small-target, grave, small-y, rest, o-ang-step, thai, by-script, expand};
 ghost use Rattle.rom.specs.Rom.{text, Clean};
 ghost use Rattle.words.specs.Given.{World, kinds, seen, size-in, Prepared, Lined, Lent};
-ghost use Rattle.rules.specs.Lent.{Answers};
-ghost use Rattle.rules.specs.Chosen.{said, Said, or-nothing};
+ghost use Rattle.rule_choice.specs.Lent.{Answers};
+ghost use Rattle.rule_choice.specs.Chosen.{chosen-means, Said, or-nothing};
 ghost use Rattle.steps.specs.Works.{work-of};
 ghost use Rattle.expand.specs.Tests.{has-grave};
 ghost use Rattle.expand.specs.Sides.{beside, small-here};
 ghost use Rattle.expand.specs.Steps.{Workable};
 use rom::Rom;
-use rules::Chosen;
+use rule_choice::Chosen;
 use steps::Work;
 use words::Span;
 
@@ -53,7 +53,7 @@ fn has_grave(line: &[u32], w: Work) -> bool
 {
     if w.to < words::text_len(line) {
         if words::number_at(line, w.to + 1) == GRAVE {
-            return classes::script(words::kind_at(line, w.to)) == classes::COPTIC;
+            return table_classes::script(words::kind_at(line, w.to)) == table_classes::COPTIC;
         }
         return false;
     }
@@ -93,7 +93,7 @@ fn grave(
 {
     if has_grave(line, w) {
         let to = w.to + 1;
-        let ruled = rules::simple_top_romanization_candidate_for_span(
+        let ruled = rule_choice::simple_top_romanization_candidate_for_span(
             rules,
             ready,
             code,
@@ -101,7 +101,7 @@ fn grave(
             places,
             Span { from: o, to },
         );
-        if rules::is_told(ruled) {
+        if rule_choice::is_told(ruled) {
             return w;
         }
         return put_grave(w, to);
@@ -131,7 +131,7 @@ fn is_small_ya(c: u32) -> bool
     c == KATAKANA_YO
 }
 
-// Does one follow the span, of the script of its last character? None does past the text.
+// Does a small ya, yu or yo follow the span, of the script of its last character? None does past the text.
 fn is_small_next(line: &[u32], w: Work) -> bool
     requires { ⌜ (0 < w .to) × (w .to ≤ size-in (now line)) ⌝ }
     ensures { λ r. ⌜ ((x : World) → Lined x (now (line .entry)) → r ≡ small-here (kinds x) (x .text) (w .to))
@@ -139,8 +139,8 @@ fn is_small_next(line: &[u32], w: Work) -> bool
 {
     if w.to < words::text_len(line) {
         if is_small_ya(words::number_at(line, w.to + 1)) {
-            let script = classes::script(words::kind_at(line, w.to));
-            return script == classes::script(words::kind_at(line, w.to + 1));
+            let script = table_classes::script(words::kind_at(line, w.to));
+            return script == table_classes::script(words::kind_at(line, w.to + 1));
         }
         return false;
     }
@@ -167,13 +167,13 @@ fn ends_in_i(r: Rom) -> bool
 fn small_target(rules: &[u8], ready: &[u32], line: &[u32], w: Work) -> Chosen
     requires { ⌜ Prepared (now rules) (now ready) × Clean (w .rom) × (0 < w .to) × (w .to ≤ size-in (now line)) ⌝ }
     ensures { λ r. ⌜ ((x : World) → Lined x (now (line .entry))
-        → said (now (rules .entry)) r ≡ small-target (rules-of (now (rules .entry))) (kinds x) (x .text) (work-of w))
-        × Said (now (rules .entry)) r × (has (said (now (rules .entry)) r) ≡ true → (w .to < size-in (now (line .entry))) × (0 < w .rom .len)) ⌝ }
+        → chosen-means (now (rules .entry)) r ≡ small-target (rules-of (now (rules .entry))) (kinds x) (x .text) (work-of w))
+        × Said (now (rules .entry)) r × (has (chosen-means (now (rules .entry)) r) ≡ true → (w .to < size-in (now (line .entry))) × (0 < w .rom .len)) ⌝ }
 {
     if is_small_next(line, w) {
         if ends_in_i(w.rom) {
             let small = words::number_at(line, w.to + 1);
-            return rules::romanization_by_first_rule(rules, ready, &[small]);
+            return rule_choice::romanization_by_first_rule(rules, ready, &[small]);
         }
         return Chosen::Untold;
     }
@@ -183,12 +183,12 @@ fn small_target(rules: &[u8], ready: &[u32], line: &[u32], w: Work) -> Chosen
 // A target in the place of the last letter, over the character after the span, up to `to`.
 fn put_small(rules: &[u8], target: Chosen, w: Work, to: usize) -> Work
     requires { ⌜ Said (now rules) target × Clean (w .rom) × (0 < w .rom .len) × (w .rom .len + most-target ≤ most-bytes) ⌝ }
-    ensures { λ r. ⌜ (work-of r ≡ work (without-last (text (w .rom)) ++ or-nothing (said (now (rules .entry)) target)) (w .from) to note-exp)
+    ensures { λ r. ⌜ (work-of r ≡ work (without-last (text (w .rom)) ++ or-nothing (chosen-means (now (rules .entry)) target)) (w .from) to note-exp)
         × Clean (r .rom) × (r .rom .len < most-bytes) × (r .from ≡ w .from) × (r .to ≡ to) ⌝ }
 {
     let old = w.rom;
     let short = rom::without_last(old);
-    let made = rom::append(short, rules::chosen_text(rules, target));
+    let made = rom::append(short, rule_choice::chosen_text(rules, target));
     Work {
         rom: made,
         from: w.from,
@@ -213,10 +213,10 @@ fn small_y(
         × Clean (r .rom) × (r .rom .len < most-bytes) × (r .from ≡ w .from) × (w .to ≤ r .to) × (r .to ≤ size-in (now (line .entry))) ⌝ }
 {
     let target = small_target(rules, ready, line, w);
-    if rules::is_told(target) {
+    if rule_choice::is_told(target) {
         let from = w.from;
         let to = w.to + 1;
-        let ruled = rules::simple_top_romanization_candidate_for_span(
+        let ruled = rule_choice::simple_top_romanization_candidate_for_span(
             rules,
             ready,
             code,
@@ -224,10 +224,10 @@ fn small_y(
             places,
             Span { from: o, to },
         );
-        if rules::is_told(ruled) {
+        if rule_choice::is_told(ruled) {
             return w;
         }
-        let here = rules::simple_top_romanization_candidate_for_span(
+        let here = rule_choice::simple_top_romanization_candidate_for_span(
             rules,
             ready,
             code,
@@ -235,7 +235,7 @@ fn small_y(
             places,
             Span { from, to },
         );
-        if rules::is_told(here) {
+        if rule_choice::is_told(here) {
             return w;
         }
         return put_small(rules, target, w, to);
@@ -272,13 +272,13 @@ fn is_beside(text: &[u8]) -> bool
     rom::all_in(text, rom::O_ANG_SIDE)
 }
 
-// Is what the first rule of a character says?
+// Is what the first rule of a character says one or more of the consonants beside which O ang is spoken?
 fn starts_beside(rules: &[u8], ready: &[u32], c: u32) -> bool
     requires { ⌜ Prepared (now rules) (now ready) ⌝ }
     ensures { λ r. ⌜ r ≡ is beside (first-rule (rules-of (now (rules .entry))) (c ∷ [])) ⌝ }
 {
-    let target = rules::romanization_by_first_rule(rules, ready, &[c]);
-    is_beside(rules::chosen_text(rules, target))
+    let target = rule_choice::romanization_by_first_rule(rules, ready, &[c]);
+    is_beside(rule_choice::chosen_text(rules, target))
 }
 
 // Are both neighbours of the span Thai?
@@ -287,8 +287,8 @@ fn is_in_thai(line: &[u32], w: Work) -> bool
     ensures { λ r. ⌜ ((x : World) → Lined x (now (line .entry))
         → r ≡ (eqb (script (kinds x) (prev (x .text) (w .from))) script-thai && eqb (script (kinds x) (at (x .text) (w .to))) script-thai)) ⌝ }
 {
-    if classes::script(words::kind_at(line, w.from)) == classes::THAI {
-        return classes::script(words::kind_at(line, w.to + 1)) == classes::THAI;
+    if table_classes::script(words::kind_at(line, w.from)) == table_classes::THAI {
+        return table_classes::script(words::kind_at(line, w.to + 1)) == table_classes::THAI;
     }
     false
 }
@@ -300,7 +300,7 @@ fn is_between(rules: &[u8], ready: &[u32], line: &[u32], places: &[u32], w: Work
         → r ≡ between (rules-of (now (rules .entry))) (kinds x) (x .text) (seen x) (work-of w)) ⌝ }
 {
     if is_in_thai(line, w) {
-        if places::is_after_side(places, w.from) {
+        if edge_places::is_after_side(places, 0, w.from) {
             return starts_beside(rules, ready, words::number_at(line, w.to + 1));
         }
         return false;
@@ -308,7 +308,7 @@ fn is_between(rules: &[u8], ready: &[u32], line: &[u32], places: &[u32], w: Work
     false
 }
 
-// O ang alone is silent unless it stands so.
+// O ang alone is silent unless it stands between Thai consonants.
 fn is_silent(rules: &[u8], ready: &[u32], line: &[u32], places: &[u32], o: usize, w: Work) -> bool
     requires { ⌜ Prepared (now rules) (now ready) × (w .from ≤ w .to) × (w .to ≤ size-in (now line)) × (1 ≤ w .to) × (o ≤ size-in (now line)) ⌝ }
     ensures { λ r. ⌜ ((x : World) → Lent x (now (line .entry)) (now (places .entry))
@@ -387,7 +387,7 @@ fn by_script(
     ensures { λ r. ⌜ Answers (now (rules .entry)) (now (ready .entry)) (now (code .entry)) (now (line .entry)) (now (places .entry)) (now (places .exit))
         (λ L t v. by-script L t v o (work-of w)) (work-of r) × Clean (r .rom) ⌝ }
 {
-    if classes::script(words::kind_at(line, o + 1)) == classes::THAI {
+    if table_classes::script(words::kind_at(line, o + 1)) == table_classes::THAI {
         return thai(rules, ready, code, line, places, o, w);
     }
     rest(rules, ready, code, line, places, o, w)

@@ -18,15 +18,15 @@ use Rattle.definition.specs.Bounds.{Bounded, Sound}
 use Rattle.definition.specs.Near.{Near}
 use Rattle.definition.specs.Promises.{tables-bounded}
 use Rattle.definition.specs.Call.{tables-of}
-use Rattle.vowelrows.specs.Told.{FineVowels}
+use Rattle.table_vowels.specs.Told.{FineVowels}
 use Rattle.rom.specs.Rom.{text}
 use Rattle.edge.specs.declared.Filled.{Filled}
 use Rattle.edge.specs.declared.Added.{Added as Answer}
 use Rattle.edge.specs.declared.Added.the-variants.{Fits}
 use Rattle.edge.specs.Slots.{edge-by, edges-of}
 use Rattle.edge.specs.Adding.{there, added, slots-after, room-after, Writable}
-use Rattle.places.specs.declared.Ending.{Ending}
-use Rattle.places.specs.Shows.{Ends, memory}
+use Rattle.edge_places.specs.declared.Ending.{Ending}
+use Rattle.edge_places.specs.Shows.{Ends, memory}
 use Rattle.noting.specs.Noting.{places-after}
 use Rattle.noting.specs.Keeps.{Keeps, keeps-asked}
 use Rattle.words.specs.declared.Look.{Look}

@@ -7,7 +7,7 @@ use Rattle.definition.specs.Limits.{most-source, most-bytes}
 use Rattle.definition.specs.Building.{each, build}
 use Rattle.edge.specs.declared.Filled.{Filled}
 use Rattle.edge.specs.declared.Added.{Added as Answer}
-use Rattle.vowelrows.specs.Told.{FineVowels}
+use Rattle.table_vowels.specs.Told.{FineVowels}
 use Rattle.words.specs.declared.Look.{Look}
 use Rattle.words.specs.Given.{size-in, Prepared}
 use Rattle.words.specs.Looks.{Looked}

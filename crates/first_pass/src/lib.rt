@@ -16,8 +16,8 @@ use edge::Filled;
 use words::Look;
 use words::Span;
 
-// No source is longer.
-const MOST_SOURCE: usize = rulerow::MOST_SOURCE as usize;
+// Ends of a start, at most: no source is longer.
+const MOST_SOURCE: usize = rule_row::MOST_SOURCE as usize;
 
 // Is the span a source, or the start of one?
 fn is_known(look: Look) -> bool

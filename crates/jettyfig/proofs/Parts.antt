@@ -10,9 +10,9 @@ use Rattle.base.specs.Loans.{lent-end, back-end}
 use Rattle.definition.specs.Limits.{most-characters}
 use Rattle.definition.specs.Texts.{Text}
 use Rattle.utf8.specs.Lines.{spaced}
-use Rattle.classes.specs.Told.{kinds-of, alphas-of}
-use Rattle.classes.specs.Packing.{alphas-length, kinds-length}
-use Rattle.memo.specs.Kept.{all-places, Kept}
+use Rattle.table_classes.specs.Told.{kinds-of, alphas-of}
+use Rattle.table_classes.specs.Packing.{alphas-length, kinds-length}
+use Rattle.rule_memo.specs.Kept.{all-places, Kept}
 use Rattle.words.specs.Given.{letters-in, index-in}
 use Rattle.jettyfig.specs.Steps.{with-kinds}
 

@@ -11,7 +11,7 @@ use Rattle.definition.specs.Call.{Inputs, characters, refusal}
 use Rattle.definition.specs.Accepted.{Accepted, accepted-of}
 use Rattle.definition.specs.Parts.{scalars}
 use Rattle.definition.specs.Rewritten.{encoded-decoded}
-use Rattle.memo.specs.Kept.{Kept}
+use Rattle.rule_memo.specs.Kept.{Kept}
 use Rattle.words.specs.Given.{World, index-in, Prepared, Lined}
 use Rattle.second_pass.specs.Fallback.{Own, chars-in, chars-are}
 use Rattle.jettyfig.specs.Steps.{with-kinds}

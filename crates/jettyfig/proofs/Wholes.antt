@@ -18,10 +18,10 @@ use Rattle.definition.specs.Growth.{lattice-few}
 use Rattle.definition.specs.Promises.{tables-bounded}
 use Rattle.definition.specs.Listing.{shown}
 use Rattle.definition.specs.Call.{Called, tables-of, written, accepted}
-use Rattle.vowelrows.specs.Told.{FineVowels}
+use Rattle.table_vowels.specs.Told.{FineVowels}
 use Rattle.edge.specs.declared.Added.the-variants.{Fits}
 use Rattle.edge.specs.Stored.{none-stored}
-use Rattle.places.specs.Shows.{memory}
+use Rattle.edge_places.specs.Shows.{memory}
 use Rattle.standing.specs.Stands.{Stands}
 use Rattle.words.specs.Given.{World, kinds, size, size-in, Prepared, Told, Lined, Lent, line-size, lent-none}
 use Rattle.passes.specs.Reached.{nothing, Over, with-edges, Reached}

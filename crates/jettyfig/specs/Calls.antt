@@ -16,10 +16,11 @@ use Rattle.definition.specs.Edges.{State}
 use Rattle.definition.specs.Building.{lattice}
 use Rattle.definition.specs.Bounds.{Sound}
 use Rattle.definition.specs.Listing.{shown}
-use Rattle.definition.specs.Capacity.{Refusal, refuse, misfit}
-use Rattle.definition.specs.Call.{Inputs, Called, tables, characters, refusal, refused, written, within-room, with-lattice, accepted, unless-refused, called}
-use Rattle.utf8.specs.Read.{text-refusal}
-use Rattle.room.specs.Puts.{put-at}
+use Rattle.definition.specs.Refusals.{Refusal, refuse, refused-output}
+use Rattle.definition.specs.Capacity.{misfit}
+use Rattle.definition.specs.Call.{Inputs, Called, tables, characters, before-text, refusal, refused, written, within-room, with-lattice, accepted, unless-refused, called}
+use Rattle.definition.specs.Call.{text-refusal}
+use Rattle.lent_bytes.specs.Puts.{put-at}
 use Rattle.edge.specs.declared.Added.the-variants.{Fits}
 use Rattle.edge.specs.Slots.{edges-of}
 use Rattle.edge.specs.Stored.{edge-count}
@@ -27,7 +28,7 @@ use Rattle.edge.specs.Fitting.{stored-fits}
 use Rattle.passes.specs.Reached.{Reached}
 use Rattle.output.specs.Shows.{Shows}
 use Rattle.jettyfig.specs.declared.Answer.{Answer}
-use Rattle.jettyfig.specs.Verdicts.{returned, before-text, all-refusals}
+use Rattle.jettyfig.specs.Verdicts.{returned}
 
 -- answers: done, and a refusal
 abbrev pub done : ℕ → ℕ → Answer
@@ -62,13 +63,13 @@ module _ (w out out′ : List ℕ) (r : ℕ) (s : Shows w out out′ r) (h : out
   shown-fits n k = rw (le-ltb (i .out) (length w) (omega (arith, k, l, s .needed, s .kept)))
       (ap (λ (m : ℕ). returned (done m n) out′) (s .needed) ∙ ap (returned (done (length w) n)) (over-zeros (omega (arith, k, s .needed, s .kept))))
 
-  pub shown-misses : (n : ℕ) (z : List ℕ) → z ≡ replicate (length out′) 0 → length out′ < r → returned (refusing 11 r) z ≡ written i n w
+  pub shown-misses : (n : ℕ) (z : List ℕ) → z ≡ replicate (length out′) 0 → length out′ < r → returned (refusing refused-output r) z ≡ written i n w
   unfolding written pick refused
   shown-misses n z e k = rw (lt-ltb (i .out) (length w) (omega (arith, k, l, s .needed, s .kept)))
-      (ap (λ (m : ℕ). returned (refusing 11 m) z) (s .needed)
-      ∙ ap (returned (refusing 11 (length w))) (e ∙ ap (λ (m : ℕ). replicate {A = ℕ} m 0) (s .kept ∙ sym l)))
+      (ap (λ (m : ℕ). returned (refusing refused-output m) z) (s .needed)
+      ∙ ap (returned (refusing refused-output (length w))) (e ∙ ap (λ (m : ℕ). replicate {A = ℕ} m 0) (s .kept ∙ sym l)))
 
--- What is built: 9 or 10, or the lattice
+-- What is built: a refusal of slots or room, or the lattice
 module _ (i : Inputs) (D : Tables) (t : Text) where
   abbrev built : Option Refusal
   built = misfit (i .slots / slot-bytes) (i .room) (lattice D t .0)
@@ -110,16 +111,12 @@ module _ (i : Inputs) where
   read-right e = sym (ap (unless-refused i) e)
 
   pub check-refused : (x : Refusal) → first ≡ some x → refused i x ≡ called i
-  unfolding called unless-refused
-  check-refused x e = sym (ap (unless-refused i) (all-refusals i ∙ ap (λ o. or-else o (text-refusal (i .text))) e))
+  unfolding called unless-refused refusal
+  check-refused x e = sym (ap (unless-refused i) (ap (λ o. or-else o (text-refusal (i .text))) e))
 
   pub check-right : first ≡ none → unless-refused i (text-refusal (i .text)) ≡ called i
-  unfolding called
-  check-right e = sym (ap (unless-refused i) (all-refusals i ∙ ap (λ o. or-else o (text-refusal (i .text))) e))
-
-  -- nothing refused of either is nothing refused
-  pub nothing-refused : first ≡ none → text-refusal (i .text) ≡ none → refusal i ≡ none
-  nothing-refused e f = all-refusals i ∙ ap (λ o. or-else o (text-refusal (i .text))) e ∙ f
+  unfolding called refusal
+  check-right e = sym (ap (unless-refused i) (ap (λ o. or-else o (text-refusal (i .text))) e))
 
 -- Any two results that the call's contract admits coincide
 abbrev answer-of : Called → Answer

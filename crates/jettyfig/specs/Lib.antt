@@ -1,4 +1,3 @@
 pub mod Verdicts
 pub mod Steps
 pub mod Calls
-pub mod Endings

@@ -6,11 +6,11 @@ use Rattle.definition.specs.Texts.{Text}
 use Rattle.definition.specs.Listing.{shown}
 use Rattle.definition.specs.Utf8.{decoded}
 use Rattle.definition.specs.Call.{Inputs, Called, tables-of, written, accepted, unless-refused}
-use Rattle.utf8.specs.Read.{text-refusal}
+use Rattle.definition.specs.Call.{text-refusal}
 use Rattle.utf8.specs.Lines.{spaced}
-use Rattle.classes.specs.Told.{kinds-of}
+use Rattle.table_classes.specs.Told.{kinds-of}
 use Rattle.edge.specs.Slots.{edges-of}
-use Rattle.places.specs.Shows.{memory}
+use Rattle.edge_places.specs.Shows.{memory}
 use Rattle.words.specs.Given.{World, size, Told, Lined, Lent}
 use Rattle.output.specs.declared.Built.{Built}
 use Rattle.jettyfig.specs.Verdicts.{given}

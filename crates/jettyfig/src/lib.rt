@@ -5,22 +5,24 @@ ghost use mathlib.Core.Path.{_≡_};
 ghost use Prim.Native.Nat.{ℕ, _+_, _*_, _≤_};
 ghost use lib.ListN.{length, take, replicate};
 ghost use Rattle.definition.specs.Limits.{most-characters};
+ghost use Rattle.definition.specs.Refusals.{placed};
 ghost use Rattle.definition.specs.Utf8.{decoded};
 ghost use Rattle.definition.specs.ClassRows.{class-fault};
 ghost use Rattle.definition.specs.RuleRows.{rule-fault};
-ghost use Rattle.definition.specs.Call.{Inputs, refusal, called};
-ghost use Rattle.utf8.specs.Read.{refused as refused-text, text-refusal};
-ghost use Rattle.classes.specs.Told.{alphas-of};
-ghost use Rattle.vowelrows.specs.Told.{FineVowels};
-ghost use Rattle.memo.specs.Kept.{all-places, Kept};
+ghost use Rattle.definition.specs.Call.{Inputs, before-text, text-refusal, refusal, called};
+ghost use Rattle.table_blocks.specs.Faults.{table-means};
+ghost use Rattle.utf8.specs.Read.{text-means};
+ghost use Rattle.table_classes.specs.Told.{alphas-of};
+ghost use Rattle.table_vowels.specs.Told.{FineVowels};
+ghost use Rattle.rule_memo.specs.Kept.{all-places, Kept};
 ghost use Rattle.words.specs.Given.{letters-in, index-in, Prepared};
 ghost use Rattle.second_pass.specs.Fallback.{Own, chars-in};
 ghost use Rattle.output.specs.Whole.{Whole};
-ghost use Rattle.jettyfig.specs.Verdicts.{refusal-of, given, returned, by-code, by-vowels, by-classes, by-tables, before-text};
+ghost use Rattle.jettyfig.specs.Verdicts.{verdict-means, given, returned, by-code};
 ghost use Rattle.jettyfig.specs.Steps.{with-kinds, Readied, Writes, Romanizes, Prepares, Reads};
-use blocks::TableRead;
 use edge::Added;
 use output::Built;
+use table_blocks::TableRead;
 use utf8::TextRead;
 
 // What is prepared for a text of the most characters: the text between spaces and the classes of its characters; and an
@@ -32,7 +34,35 @@ const MOST_PLACES: usize = utf8::MOST_CHARACTERS + 1;
 // What is prepared of the tables: the ASCII letters, and what a look-up goes by.
 const ASCII: usize = 128;
 
-const READY: usize = ASCII + memo::PLACES;
+const READY: usize = ASCII + rule_memo::PLACES;
+
+// The highest mode, and the letters of a language code.
+const MOST_MODE: u8 = 3;
+
+const CODE_LETTERS: usize = 3;
+
+// The numbers of refusals, as the definition names them.
+const REFUSED_MODE: u64 = 1;
+
+const REFUSED_RULES: u64 = 2;
+
+const REFUSED_CLASSES: u64 = 3;
+
+const REFUSED_VOWELS: u64 = 4;
+
+const REFUSED_CODE: u64 = 5;
+
+const REFUSED_UTF8: u64 = 6;
+
+const REFUSED_TOO_LONG: u64 = 7;
+
+const REFUSED_LEFT_OUT: u64 = 8;
+
+const REFUSED_SLOTS: u64 = 9;
+
+const REFUSED_ROOM: u64 = 10;
+
+const REFUSED_OUTPUT: u64 = 11;
 
 // What a call returns: 0, the output's length and the number of edges; or a refusal's number and its place.
 #[repr(C)]
@@ -49,7 +79,7 @@ pub enum Verdict {
     Refused(u64, u64),
 }
 
-// A refusal.
+// The answer of a refusal.
 fn refuse(number: u64, place: u64) -> Answer
     ensures { λ r. ⌜ r ≡ record { number = number; place = place; length = 0; edges = 0 } ⌝ }
 {
@@ -61,63 +91,55 @@ fn refuse(number: u64, place: u64) -> Answer
     }
 }
 
-// 5: the code is empty, or three letters a to z.
+// A table is accepted, or refused by its number at its fault's place.
+fn of_table(number: u64, read: TableRead) -> Verdict
+    ensures { λ r. ⌜ verdict-means r ≡ placed number (table-means read) ⌝ }
+{
+    match read {
+        TableRead::Fault(at) => Verdict::Refused(number, at as u64),
+        TableRead::Valid => Verdict::Accepted,
+    }
+}
+
+// A language code is empty, or three letters a to z.
 fn check_code(code: &[u8]) -> Verdict
-    ensures { λ r. ⌜ refusal-of r ≡ by-code (now (code .entry)) ⌝ }
+    ensures { λ r. ⌜ verdict-means r ≡ by-code (now (code .entry)) ⌝ }
 {
     if code.len() == 0 {
         return Verdict::Accepted;
     }
-    if code.len() == 3 {
-        if blocks::all_small(code, 0, 3) {
+    if code.len() == CODE_LETTERS {
+        if table_blocks::all_small(code, 0, CODE_LETTERS) {
             return Verdict::Accepted;
         }
-        return Verdict::Refused(5, 0);
+        return Verdict::Refused(REFUSED_CODE, 0);
     }
-    Verdict::Refused(5, 0)
+    Verdict::Refused(REFUSED_CODE, 0)
 }
 
-// 4, then 5.
-fn check_vowels(vowels: &[u8], code: &[u8]) -> Verdict
-    ensures { λ r. ⌜ refusal-of r ≡ by-vowels (now (vowels .entry)) (now (code .entry)) ⌝ }
-{
-    match vowelrows::check_vowels(vowels) {
-        TableRead::Fault(at) => Verdict::Refused(4, at as u64),
-        TableRead::Valid => check_code(code),
-    }
-}
-
-// 3, then those.
-fn check_classes(classes: &[u8], vowels: &[u8], code: &[u8]) -> Verdict
-    ensures { λ r. ⌜ refusal-of r ≡ by-classes (now (classes .entry)) (now (vowels .entry)) (now (code .entry)) ⌝ }
-{
-    match classes::check_classes(classes) {
-        TableRead::Fault(at) => Verdict::Refused(3, at as u64),
-        TableRead::Valid => check_vowels(vowels, code),
-    }
-}
-
-// 2, then those.
-fn check_tables(rules: &[u8], classes: &[u8], vowels: &[u8], code: &[u8]) -> Verdict
-    ensures { λ r. ⌜ refusal-of r ≡ by-tables (now (rules .entry)) (now (classes .entry)) (now (vowels .entry)) (now (code .entry)) ⌝ }
-{
-    match rulecheck::check_rules(rules) {
-        TableRead::Fault(at) => Verdict::Refused(2, at as u64),
-        TableRead::Valid => check_classes(classes, vowels, code),
-    }
-}
-
-// 1, then those.
+// What is refused before the text is read, in this order.
 fn check(mode: u8, rules: &[u8], classes: &[u8], vowels: &[u8], code: &[u8]) -> Verdict
-    ensures { λ r. ⌜ refusal-of r ≡ before-text mode (now (rules .entry)) (now (classes .entry)) (now (vowels .entry)) (now (code .entry)) ⌝ }
+    ensures { λ r. ⌜ verdict-means r ≡ before-text mode (now (rules .entry)) (now (classes .entry)) (now (vowels .entry)) (now (code .entry)) ⌝ }
 {
-    if 3 < mode {
-        return Verdict::Refused(1, 0);
+    if MOST_MODE < mode {
+        return Verdict::Refused(REFUSED_MODE, 0);
     }
-    check_tables(rules, classes, vowels, code)
+    let of_rules = of_table(REFUSED_RULES, rule_table_check::check_rules(rules));
+    let Verdict::Accepted = of_rules else {
+        return of_rules;
+    };
+    let of_classes = of_table(REFUSED_CLASSES, table_classes::check_classes(classes));
+    let Verdict::Accepted = of_classes else {
+        return of_classes;
+    };
+    let of_vowels = of_table(REFUSED_VOWELS, table_vowels::check_vowels(vowels));
+    let Verdict::Accepted = of_vowels else {
+        return of_vowels;
+    };
+    check_code(code)
 }
 
-// 11, or done: what the mode shows.
+// What the mode shows, or a refusal of an output that is too short for it.
 fn show(
     rules: &[u8],
     ready: &[u32],
@@ -148,8 +170,8 @@ fn show(
         out,
     );
     if out.len() < needed {
-        room::clear(out);
-        return refuse(11, needed as u64);
+        lent_bytes::clear(out);
+        return refuse(REFUSED_OUTPUT, needed as u64);
     }
     Answer {
         number: 0,
@@ -166,7 +188,7 @@ fn no_entries() -> [u32; MOST_PLACES]
     [0u32; MOST_PLACES]
 }
 
-// 9 and 10, or what is shown of the lattice. What is kept by position and by start while it is built begins as zeros.
+// What is shown of the lattice, or the refusal of slots or text room that are too short. What is kept by position and by start while it is built begins as zeros.
 fn romanize<'a>(
     mode: u8,
     rules: &'a [u8],
@@ -211,8 +233,8 @@ fn romanize<'a>(
             Built { mode, count, used },
             out,
         ),
-        Added::NoSlot(p) => refuse(9, p as u64),
-        Added::NoRoom(p) => refuse(10, p as u64),
+        Added::NoSlot(p) => refuse(REFUSED_SLOTS, p as u64),
+        Added::NoRoom(p) => refuse(REFUSED_ROOM, p as u64),
     }
 }
 
@@ -222,12 +244,12 @@ fn make_ready(rules: &[u8], classes: &[u8], line: &[u32], ready: &mut [u32])
     requires { ⌜ (rule-fault (now rules) ≡ none) × (class-fault (now classes) ≡ none) × (now ready ≡ replicate (128 + all-places) 0) ⌝ }
     ensures { λ _. ⌜ (letters-in (now (ready .exit)) ≡ alphas-of (now (classes .entry))) × Kept (now (rules .entry)) (index-in (now (ready .exit))) ⌝ }
 {
-    classes::classify_ascii(classes, &mut ready[..ASCII]);
+    table_classes::classify_ascii(classes, &mut ready[..ASCII]);
     let half = line.len() / 2;
-    memo::fill(rules, &line[..half], &mut ready[ASCII..]);
+    rule_memo::fill(rules, &line[..half], &mut ready[ASCII..]);
 }
 
-// The same, with what the engine is lent made ready.
+// What is shown of a text, with what the engine is lent made ready first.
 fn prepare<'a>(
     mode: u8,
     rules: &'a [u8],
@@ -264,14 +286,14 @@ fn prepare<'a>(
 // The text between spaces, and behind it the class of each of its characters.
 fn lay_out(classes: &[u8], text: &[u8], line: &mut [u32]) -> TextRead
     requires { ⌜ (class-fault (now classes) ≡ none) × (length (now line) ≡ 2 * (most-characters + 3)) ⌝ }
-    ensures refusal { λ r. ⌜ refused-text r ≡ text-refusal (now (text .entry)) ⌝ }
+    ensures refusal { λ r. ⌜ text-means r ≡ text-refusal (now (text .entry)) ⌝ }
     ensures line { λ r. ⌜ ((n : ℕ) → r ≡ TextRead.Characters n → (n ≡ length (decoded (now (text .entry)))) × (n ≤ most-characters)
         × (take (2 * (n + 3)) (now (line .exit)) ≡ with-kinds (now (classes .entry)) (decoded (now (text .entry))))) ⌝ }
 {
     let read = utf8::read_line(text, line);
     match read {
         TextRead::Characters(n) => {
-            classes::classify(classes, &mut line[..2 * (n + 3)]);
+            table_classes::classify(classes, &mut line[..2 * (n + 3)]);
             read
         }
         TextRead::NotUtf8(_) => read,
@@ -280,7 +302,7 @@ fn lay_out(classes: &[u8], text: &[u8], line: &mut [u32]) -> TextRead
     }
 }
 
-// 6, 7 and 8, or the text romanized.
+// The text read and romanized, or its refusal.
 fn read<'a>(
     mode: u8,
     rules: &'a [u8],
@@ -310,9 +332,9 @@ fn read<'a>(
             room,
             out,
         ),
-        TextRead::NotUtf8(at) => refuse(6, at as u64),
-        TextRead::TooLong => refuse(7, utf8::MOST_CHARACTERS as u64),
-        TextRead::LeftOut(p) => refuse(8, p as u64),
+        TextRead::NotUtf8(at) => refuse(REFUSED_UTF8, at as u64),
+        TextRead::TooLong => refuse(REFUSED_TOO_LONG, utf8::MOST_CHARACTERS as u64),
+        TextRead::LeftOut(p) => refuse(REFUSED_LEFT_OUT, p as u64),
     }
 }
 
@@ -331,7 +353,7 @@ fn respond<'a>(
     ensures { λ r. ⌜ returned r (now (out .exit)) ≡ called (given mode (now (rules .entry)) (now (classes .entry)) (now (vowels .entry))
         (now (code .entry)) (now (text .entry)) (length (now (slots .entry))) (length (now (room .entry))) (length (now (out .entry)))) ⌝ }
 {
-    room::clear(out);
+    lent_bytes::clear(out);
     match check(mode, rules, classes, vowels, code) {
         Verdict::Refused(number, place) => refuse(number, place),
         Verdict::Accepted => read(mode, rules, classes, vowels, code, text, slots, room, out),
@@ -357,7 +379,7 @@ pub extern "C" fn jettyfig_romanize<'a>(
     ensures room { λ _. ⌜ now (room .exit) ≡ replicate (length (now (room .entry))) 0 ⌝ }
 {
     let answered = respond(mode, rules, classes, vowels, code, text, slots, room, out);
-    room::clear(slots);
-    room::clear(room);
+    lent_bytes::clear(slots);
+    lent_bytes::clear(room);
     answered
 }

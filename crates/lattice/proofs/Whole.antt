@@ -8,7 +8,7 @@ use Rattle.definition.specs.Texts.{Text}
 use Rattle.definition.specs.Tables.{Tables}
 use Rattle.definition.specs.Edges.{Edge, Mem}
 use Rattle.definition.specs.Building.{each, build, fall, lattice}
-use Rattle.places.specs.Shows.{memory, memory-none}
+use Rattle.edge_places.specs.Shows.{memory, memory-none}
 use Rattle.words.specs.Given.{World, size}
 use Rattle.passes.specs.Reached.{nothing, Over, state-of}
 

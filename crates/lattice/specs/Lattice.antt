@@ -7,7 +7,7 @@ use Rattle.definition.specs.Limits.{most-bytes, most-edges, most-characters}
 use Rattle.definition.specs.Building.{lattice}
 use Rattle.definition.specs.Call.{tables-of}
 use Rattle.edge.specs.declared.Added.{Added as Answer}
-use Rattle.vowelrows.specs.Told.{FineVowels}
+use Rattle.table_vowels.specs.Told.{FineVowels}
 use Rattle.words.specs.Given.{World, kinds, size, size-in, Prepared}
 use Rattle.passes.specs.Reached.{nothing, Over, Somewhere, Rooms, Reached}
 use Rattle.second_pass.specs.Fallback.{chars-in, Own}

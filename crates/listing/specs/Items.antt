@@ -12,8 +12,8 @@ use Rattle.definition.specs.Utf8.{encoded}
 use Rattle.definition.specs.Edges.{Edge}
 use Rattle.definition.specs.Paths.{joined}
 use Rattle.definition.specs.Listing.{edge-rows}
-use Rattle.utf8.specs.Encodings.{encoded-append}
-use Rattle.room.specs.Puts.{put-at, put-length, put-none, put-put}
+use Rattle.definition.specs.Roundtrip.{encoded-append}
+use Rattle.lent_bytes.specs.Puts.{put-at, put-length, put-none, put-put}
 use Rattle.listing.specs.Rows.{row-of}
 
 -- an edge as it is written: its row, or in a string its text alone

@@ -10,24 +10,24 @@ use Rattle.definition.specs.Edges.{Edge}
 use Rattle.definition.specs.Capacity.{bytes}
 use Rattle.definition.specs.Listing.{edge-row, edge-rows, block, listing}
 use Rattle.utf8.specs.Encodings.{TextBytes}
-use Rattle.room.specs.Puts.{put-at, put-next}
+use Rattle.lent_bytes.specs.Puts.{put-at, put-next}
 use Rattle.edge.specs.declared.Numbers.{Numbers}
 use Rattle.edge.specs.Slots.{length-of, bytes-of, edge-by, numbers-of, edge-of}
 use Rattle.edge.specs.Stored.{Slot, slot-length}
-use Rattle.listing.specs.Sizes.{head-bytes}
+use Rattle.definition.specs.Listing.{row-head-bytes}
 
 -- An edge's row as it stands in a listing, and how many bytes it takes
 abbrev pub row-of : Edge → List ℕ
 row-of x = edge-row x (encoded (x .text))
 
 unfoldable pub row-size : Edge → ℕ
-row-size x = head-bytes + bytes x
+row-size x = row-head-bytes + bytes x
 
 -- the first eight of them, before a text of `len` bytes
 unfoldable pub row-head : Numbers → ℕ → List ℕ
 row-head e len = two (6 + len) ++ (two (e .from) ++ (two (e .to) ++ (e .note ∷ e .core ∷ [])))
 
-pub head-length : (e : Numbers) (len : ℕ) → length (row-head e len) ≡ head-bytes
+pub head-length : (e : Numbers) (len : ℕ) → length (row-head e len) ≡ row-head-bytes
 unfolding row-head two
 head-length e len = refl
 
@@ -41,9 +41,9 @@ pub row-by : (e : Numbers) (w : List ℕ) → TextBytes w → row-of (edge-by e 
 unfolding edge-by
 row-by e w h = ap (edge-row (edge-by e w)) (h .whole)
 
-pub size-by : (e : Numbers) (w : List ℕ) → TextBytes w → row-size (edge-by e w) ≡ head-bytes + length w
+pub size-by : (e : Numbers) (w : List ℕ) → TextBytes w → row-size (edge-by e w) ≡ row-head-bytes + length w
 unfolding row-size bytes edge-by
-size-by e w h = ap (λ b. head-bytes + length b) (h .whole)
+size-by e w h = ap (λ b. row-head-bytes + length b) (h .whole)
 
 pub row-length : (x : Edge) → length (row-of x) ≡ row-size x
 unfolding edge-row row-size bytes two
@@ -51,12 +51,12 @@ row-length x = omega arith
 
 -- the row of the edge in a slot
 module _ (room s : List ℕ) (h : Slot room (length room) s) where
-  pub slot-row-size : row-size (edge-of room s) ≡ head-bytes + length-of s
+  pub slot-row-size : row-size (edge-of room s) ≡ row-head-bytes + length-of s
   slot-row-size =
       size-by (numbers-of s) (bytes-of room s) (h .text)
-      ∙ ap (λ n. head-bytes + n) (slot-length room s (length room) h (omega arith))
+      ∙ ap (λ n. row-head-bytes + n) (slot-length room s (length room) h (omega arith))
 
-  pub slot-row-length : length (row-of (edge-of room s)) ≡ head-bytes + length-of s
+  pub slot-row-length : length (row-of (edge-of room s)) ≡ row-head-bytes + length-of s
   slot-row-length = row-length (edge-of room s) ∙ slot-row-size
 
 -- Some rows

@@ -1,16 +1,13 @@
 -- How many bytes of an output a row takes at most, and some rows; and up to where an output can be counted. All of this
 -- only keeps a sum of lengths within a machine's number.
 use Prim.Native.Nat.{ℕ, _+_, _-_, _*_, _<_}
+use Rattle.definition.specs.Listing.{row-head-bytes}
 use Rattle.definition.specs.Limits.{most-characters, most-edges}
 use Rattle.edge.specs.Slots.{two-bytes}
 
--- bytes of a row before its text
-abbrev pub head-bytes : ℕ
-head-bytes = 8
-
 -- of a row: a text's length has two bytes
 abbrev pub row-most : ℕ
-row-most = head-bytes + (two-bytes - 1)
+row-most = row-head-bytes + (two-bytes - 1)
 
 -- of a row for each edge of a lattice; of these for each end that an edge can have; and of a start's, whose fallback is
 -- a row more

@@ -7,8 +7,8 @@ use lib.ListN.{length}
 use Rattle.definition.specs.Utf8.{encoded}
 use Rattle.definition.specs.Edges.{Edge}
 use Rattle.definition.specs.Paths.{joined}
-use Rattle.utf8.specs.Encodings.{encoded-append}
-use Rattle.room.specs.Puts.{put-at, put-next}
+use Rattle.definition.specs.Roundtrip.{encoded-append}
+use Rattle.lent_bytes.specs.Puts.{put-at, put-next}
 
 -- one edge's text more
 joined-next : (l : List Edge) (x : Edge) → joined (l ++ x ∷ []) ≡ joined l ++ x .text

@@ -8,10 +8,11 @@ ghost use Rattle.definition.specs.Utf8.{encoded};
 ghost use Rattle.definition.specs.Capacity.{bytes};
 ghost use Rattle.definition.specs.Listing.{edge-row};
 ghost use Rattle.utf8.specs.Encodings.{TextBytes};
-ghost use Rattle.room.specs.Puts.{put-at};
+ghost use Rattle.lent_bytes.specs.Puts.{put-at};
 ghost use Rattle.edge.specs.Slots.{length-of, edge-by, edge-of};
 ghost use Rattle.edge.specs.Stored.{Slot};
-ghost use Rattle.listing.specs.Sizes.{head-bytes, row-most, Countable};
+ghost use Rattle.definition.specs.Listing.{row-head-bytes};
+ghost use Rattle.listing.specs.Sizes.{row-most, Countable};
 ghost use Rattle.listing.specs.Rows.{row-head, row-of, row-size};
 ghost use Rattle.listing.specs.Items.{item, put-bytes};
 
@@ -30,12 +31,12 @@ pub fn put_header(out: &mut [u8], rows: usize)
         (rows / 256 % 256) as u8,
         (rows % 256) as u8,
     ];
-    room::put_at(out, 0, &header);
+    lent_bytes::put_at(out, 0, &header);
 }
 
 // A row's bytes before a text of `len` bytes.
 fn put_row_head(out: &mut [u8], at: usize, e: edge::Numbers, len: usize)
-    requires { ⌜ at + head-bytes + len ≤ length (now out) ⌝ }
+    requires { ⌜ at + row-head-bytes + len ≤ length (now out) ⌝ }
     ensures { λ _. ⌜ now (out .exit) ≡ put-at at (row-head e len) (now (out .entry)) ⌝ }
 {
     let rest = 6 + len;
@@ -49,24 +50,24 @@ fn put_row_head(out: &mut [u8], at: usize, e: edge::Numbers, len: usize)
         e.note,
         e.core,
     ];
-    room::put_at(out, at, &head);
+    lent_bytes::put_at(out, at, &head);
 }
 
 // A row with the text `text`.
 fn put_row(out: &mut [u8], at: usize, e: edge::Numbers, text: &[u8]) -> usize
-    requires { ⌜ at + head-bytes + length (now text) ≤ length (now out) ⌝ }
-    ensures end { λ r. ⌜ r ≡ at + head-bytes + length (now (text .entry)) ⌝ }
+    requires { ⌜ at + row-head-bytes + length (now text) ≤ length (now out) ⌝ }
+    ensures end { λ r. ⌜ r ≡ at + row-head-bytes + length (now (text .entry)) ⌝ }
     ensures row { λ _. ⌜ now (out .exit) ≡ put-at at (edge-row (edge-by e (now (text .entry))) (now (text .entry))) (now (out .entry)) ⌝ }
 {
     let start = at + HEAD_BYTES;
     put_row_head(out, at, e, text.len());
-    room::put_at(out, start, text);
+    lent_bytes::put_at(out, start, text);
     start + text.len()
 }
 
 // How many bytes the row of the edge in a slot takes.
 pub fn edge_row_len(slots: &[u8], slot: usize) -> usize
-    ensures { λ r. ⌜ (r ≡ head-bytes + length-of (drop slot (now (slots .entry)))) × (r ≤ row-most) ⌝ }
+    ensures { λ r. ⌜ (r ≡ row-head-bytes + length-of (drop slot (now (slots .entry)))) × (r ≤ row-most) ⌝ }
 {
     HEAD_BYTES + edge::text_len(slots, slot)
 }
@@ -79,11 +80,11 @@ pub fn put_edge_text(out: &mut [u8], at: usize, slots: &[u8], room: &[u8], slot:
     ensures text { λ _. ⌜ now (out .exit) ≡ put-at at (encoded (edge-of (now (room .entry)) (drop slot (now (slots .entry))) .text)) (now (out .entry)) ⌝ }
 {
     let text = edge::edge_text(slots, room, slot);
-    room::put_at(out, at, text);
+    lent_bytes::put_at(out, at, text);
     at + text.len()
 }
 
-// Its row.
+// The row of the edge in a slot.
 pub fn put_edge_row(out: &mut [u8], at: usize, slots: &[u8], room: &[u8], slot: usize) -> usize
     requires { ⌜ Slot (now room) (length (now room)) (drop slot (now slots))
         × (at + row-size (edge-of (now room) (drop slot (now slots))) ≤ length (now out)) ⌝ }
@@ -127,9 +128,9 @@ pub fn put_item(
     put_edge_text(out, at, slots, room, slot)
 }
 
-// A row with the text `text`, likewise.
+// A row with the text `text`. Where it does not fit nothing is written, but it is counted.
 pub fn put_other(out: &mut [u8], at: usize, e: edge::Numbers, text: &[u8]) -> usize
-    requires { ⌜ Countable at (head-bytes + length (now text)) × TextBytes (now text) ⌝ }
+    requires { ⌜ Countable at (row-head-bytes + length (now text)) × TextBytes (now text) ⌝ }
     ensures { λ r. ⌜ (r, now (out .exit)) ≡ put-bytes (row-of (edge-by e (now (text .entry)))) (at, now (out .entry)) ⌝ }
 {
     let end = at + HEAD_BYTES + text.len();

@@ -22,7 +22,7 @@ const SECOND: u64 = 7;
 
 const THIRD: u64 = 61;
 
-// One byte more.
+// The hash of a text with one byte more.
 fn turn(h: u64, b: u8) -> u64
     requires { ⌜ h < hash-limit ⌝ }
     ensures { λ r. ⌜ (r ≡ hash-turn h b) × (r < hash-limit) ⌝ }
@@ -56,7 +56,7 @@ fn is_set(cells: &[u8], h: u64, by: u64) -> bool
     cells[i] == 1
 }
 
-// Sets it.
+// Sets the cell to 1 that a hash divided by `by` has.
 fn set_cell(cells: &mut [u8], h: u64, by: u64)
     requires { ⌜ 0 < by ⌝ }
     ensures { λ _. ⌜ now (cells .exit) ≡ set (now (cells .entry)) (h / by % length (now (cells .entry))) 1 ⌝ }

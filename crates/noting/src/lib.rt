@@ -10,12 +10,12 @@ ghost use Rattle.definition.specs.Classes.{alpha};
 ghost use Rattle.definition.specs.Edges.{Edge};
 ghost use Rattle.utf8.specs.Encodings.{TextBytes};
 ghost use Rattle.edge.specs.Adding.{Adds, Addable};
-ghost use Rattle.places.specs.Shows.{Ends};
+ghost use Rattle.edge_places.specs.Shows.{Ends};
 ghost use Rattle.noting.specs.Noting.{places-after};
 use edge::Added;
 use edge::Filled;
 use edge::Numbers;
-use places::Ending;
+use edge_places::Ending;
 
 // How a text ends, asked once, when its edge is added; whether in a letter or mark is told.
 pub fn ending_of(text: &[u8], letter: bool) -> Ending
@@ -53,7 +53,7 @@ pub fn add_edge(
             used: _,
         } => {
             if count < more {
-                places::note_edge(places, e.from, e.to, end);
+                edge_places::note_edge(places, e.from, e.to, end);
             }
             done
         }

@@ -24,7 +24,7 @@ use Rattle.definition.specs.ExpandBounds.{Spoken as Worded}
 use Rattle.definition.specs.Alternatives.{edge-vowel}
 use Rattle.definition.specs.Offers.{target-offers, offers}
 use Rattle.utf8.specs.Encodings.{TextBytes, low-bytes, low-decoded, same-decoded}
-use Rattle.rulerow.specs.Others.{others}
+use Rattle.rule_row.specs.Others.{others}
 use Rattle.edge.specs.declared.Numbers.{Numbers}
 use Rattle.edge.specs.Slots.{edge-by}
 use Rattle.offers.specs.declared.Offers.{Offers}

@@ -49,15 +49,15 @@ fn is_core(e: Numbers, text: &[u8], w: &[u8]) -> bool
     if e.note != edge::CORE {
         return false;
     }
-    room::same(w, room::part(text, 0, e.core as usize))
+    lent_bytes::same(w, lent_bytes::part(text, 0, e.core as usize))
 }
 
-// Does it give its alternatives: is it the edge's text, or its core?
+// Does a target give its alternatives: is it the edge's text, or its core?
 fn is_taken(e: Numbers, text: &[u8], w: &[u8]) -> bool
     requires { ⌜ Spoken e (now text) × All Low (now w) ⌝ }
     ensures { λ r. ⌜ r ≡ (same (now (w .entry)) (edge-by e (now (text .entry)) .text) || cored (edge-by e (now (text .entry))) (now (w .entry))) ⌝ }
 {
-    if room::same(w, text) {
+    if lent_bytes::same(w, text) {
         return true;
     }
     is_core(e, text, w)
@@ -68,8 +68,8 @@ fn is_at_end(rules: &[u8], row: usize, text: &[u8]) -> bool
     requires { ⌜ Row (drop row (now rules)) × TextBytes (now text) ⌝ }
     ensures { λ r. ⌜ r ≡ is (λ u. same u (decoded (now (text .entry)))) (rule-of (drop row (now (rules .entry))) .end-target) ⌝ }
 {
-    if rulerow::flag(rules, row, rulerow::END_TARGET_BIT) {
-        return room::same(rulerow::end_target_text(rules, row), text);
+    if rule_row::flag(rules, row, rule_row::END_TARGET_BIT) {
+        return lent_bytes::same(rule_row::end_target_text(rules, row), text);
     }
     false
 }
@@ -79,13 +79,13 @@ pub fn offers_of(rules: &[u8], row: usize, e: Numbers, text: &[u8]) -> Offers
     requires { ⌜ Row (drop row (now rules)) × Spoken e (now text) ⌝ }
     ensures { λ r. ⌜ Tells (edge-by e (now (text .entry))) (rule-of (drop row (now (rules .entry)))) r × (r .others ≤ most-others) ⌝ }
 {
-    if rulerow::flag(rules, row, rulerow::TARGET_BIT) {
-        let w = rulerow::target_text(rules, row);
+    if rule_row::flag(rules, row, rule_row::TARGET_BIT) {
+        let w = rule_row::target_text(rules, row);
         let target = is_at_end(rules, row, text);
         let cored = is_core(e, text, w);
         if is_taken(e, text, w) {
             return Offers {
-                others: rulerow::others_count(rules, row),
+                others: rule_row::others_count(rules, row),
                 cored,
                 target,
             };
@@ -103,7 +103,7 @@ pub fn offers_of(rules: &[u8], row: usize, e: Numbers, text: &[u8]) -> Offers
     }
 }
 
-// How many texts that are.
+// How many texts a row offers.
 pub fn offers_count(o: Offers) -> usize
     requires { ⌜ o .others ≤ most-others ⌝ }
     ensures { λ r. ⌜ r ≡ count-of o ⌝ }
@@ -114,21 +114,21 @@ pub fn offers_count(o: Offers) -> usize
     o.others
 }
 
-// The text of number `k` of them: an alternative, with the edge's vowel where the target is its core, or the target.
+// Text number `k` of what a row offers: an alternative, with the edge's vowel where the target is its core, or the target.
 pub fn offer_text(rules: &[u8], row: usize, o: Offers, e: Numbers, text: &[u8], k: usize) -> Rom
     requires { ⌜ Row (drop row (now rules)) × Spoken e (now text) × Tells (edge-by e (now text)) (rule-of (drop row (now rules))) o × (k < count-of o) ⌝ }
     ensures { λ r. ⌜ (r ≡ rom (getD (texts (offers (edge-by e (now (text .entry))) (rule-of (drop row (now (rules .entry)))))) k []))
         × (r .len ≤ most-alternative) ⌝ }
 {
     if k < o.others {
-        let w = rom::bytes_of(rulerow::other_text(rules, row, k));
+        let w = rom::bytes_of(rule_row::other_text(rules, row, k));
         if o.cored {
             let core = e.core as usize;
-            return rom::append(w, room::part(text, core, text.len() - core));
+            return rom::append(w, lent_bytes::part(text, core, text.len() - core));
         }
         return w;
     }
-    rom::bytes_of(rulerow::target_text(rules, row))
+    rom::bytes_of(rule_row::target_text(rules, row))
 }
 
 // Is a text among the first `most` that a row offers?
@@ -146,7 +146,7 @@ pub fn row_offers(rules: &[u8], row: usize, e: Numbers, text: &[u8], most: usize
         }
         let u = offer_text(rules, row, o, e, text, k);
         let b = u.bytes;
-        if room::same(w, &b[..u.len]) {
+        if lent_bytes::same(w, &b[..u.len]) {
             return true;
         }
         k += 1;
@@ -154,7 +154,7 @@ pub fn row_offers(rules: &[u8], row: usize, e: Numbers, text: &[u8], most: usize
     false
 }
 
-// Does a row offer it, and does its rule hold?
+// Does a row offer a text, and does its rule hold?
 fn holding_row_offers(
     rules: &[u8],
     code: &[u8],
@@ -168,13 +168,13 @@ fn holding_row_offers(
     ensures { λ r. ⌜ r ≡ (holds-at (now (code .entry)) (asked .start) (asked .end) (rule-of (drop row (now (rules .entry))))
         && any (same (now (w .entry))) (texts (offers (edge-by e (now (text .entry))) (rule-of (drop row (now (rules .entry))))))) ⌝ }
 {
-    if rules::holds(rules, code, row, asked.start, asked.end) {
+    if rule_choice::holds(rules, code, row, asked.start, asked.end) {
         return row_offers(rules, row, e, text, MOST_OFFERS, w);
     }
     false
 }
 
-// Is it among all that some rows offer whose rules hold?
+// Is a text among all that some rows offer whose rules hold?
 pub fn rows_offer(
     rules: &[u8],
     code: &[u8],
@@ -194,7 +194,7 @@ pub fn rows_offer(
         if holding_row_offers(rules, code, asked, row, e, text, w) {
             return true;
         }
-        row += rulerow::size(rules, row);
+        row += rule_row::size(rules, row);
         left -= 1;
     }
     false

@@ -18,7 +18,7 @@ use Rattle.definition.specs.Paths.{joined, path-from, sorted, path-of, with-alt
 use Rattle.definition.specs.Offers.{found-all, alternatives-are}
 use Rattle.definition.specs.Bounds.{Sound}
 use Rattle.definition.specs.Listing.{edge-rows, block, listing, shown}
-use Rattle.room.specs.Puts.{put-at, put-from, put-length}
+use Rattle.lent_bytes.specs.Puts.{put-at, put-from, put-length}
 use Rattle.listing.specs.Items.{items-rows, items-texts, put-items, put-items-end, put-items-length, put-items-all}
 
 -- some bytes that need so much, written where they fit

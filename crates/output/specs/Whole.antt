@@ -16,7 +16,7 @@ use Rattle.definition.specs.Call.{tables-of}
 use Rattle.edge.specs.Slots.{edges-of}
 use Rattle.edge.specs.Stored.{Stored}
 use Rattle.edge.specs.Asked.{stored-readable}
-use Rattle.places.specs.Shows.{memory}
+use Rattle.edge_places.specs.Shows.{memory}
 use Rattle.standing.specs.Stands.{Stands}
 use Rattle.paths.specs.Laid.{Laid}
 use Rattle.words.specs.Given.{World, size, size-in, Prepared, Told, Lent}

@@ -7,7 +7,7 @@ ghost use lib.Dec.{leb};
 ghost use lib.ListN.{length};
 ghost use Rattle.base.specs.Pick.{pick};
 ghost use Rattle.base.specs.Big.{four};
-ghost use Rattle.room.specs.Puts.{put-at};
+ghost use Rattle.lent_bytes.specs.Puts.{put-at};
 ghost use Rattle.output.specs.Whole.{Whole, RowsPut, ShownPut};
 use alternatives::Listed;
 

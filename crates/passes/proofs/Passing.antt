@@ -14,7 +14,7 @@ use Rattle.edge.specs.declared.Added.{Added as Answer}
 use Rattle.edge.specs.declared.Added.the-variants.{Fits}
 use Rattle.edge.specs.Slots.{edges-of}
 use Rattle.edge.specs.Stored.{edge-count}
-use Rattle.places.specs.Shows.{memory}
+use Rattle.edge_places.specs.Shows.{memory}
 use Rattle.noting.specs.Keeps.{Keeps}
 use Rattle.words.specs.Given.{World, kinds, size}
 use Rattle.passes.specs.Reached.{Over, state-of, over-keeps, keeps-state, with-edges, over-now, Reached, Refused}

@@ -10,12 +10,13 @@ use lib.Seq.{getD-take}
 use Rattle.base.specs.Lists.{head, is}
 use Rattle.base.specs.Alls.{All-head, Opt}
 use Rattle.base.specs.Bits.{is-set}
+use Rattle.definition.specs.Limits.{ascii-characters}
 use Rattle.definition.specs.Texts.{Text, last-is}
 use Rattle.definition.specs.Utf8.{decoded}
 use Rattle.definition.specs.Classes.{alpha}
 use Rattle.definition.specs.Shorts.{Low, Short, short-reverse}
 use Rattle.utf8.specs.Encodings.{low-decoded}
-use Rattle.classes.specs.Packing.{alphas-at}
+use Rattle.table_classes.specs.Packing.{alphas-at}
 use Rattle.words.specs.Given.{World, kinds, Told}
 use Rattle.words.specs.Goes.{letter-byte}
 
@@ -27,7 +28,7 @@ module _ (w : World) (ready : List ℕ) (e : Told w ready) where
   byte-told : (c : ℕ) → Low c → letter-byte ready c ≡ alpha (kinds w) c
   unfolding letter-byte
   byte-told c l =
-      ap (λ n. eqb n 1) (sym (getD-take 128 ready c 0 l)) ∙ ap (λ (a : List ℕ). eqb (getD a c 0) 1) e ∙ ap (λ n. eqb n 1) (alphas-at (w .classes) c l)
+      ap (λ n. eqb n 1) (sym (getD-take ascii-characters ready c 0 l)) ∙ ap (λ (a : List ℕ). eqb (getD a c 0) 1) e ∙ ap (λ n. eqb n 1) (alphas-at (w .classes) c l)
       ∙ is-set (alpha (kinds w) c)
 
   pub letter-told : {k : ℕ} (text : Text) → Short k text → last-letter ready text ≡ last-is (alpha (kinds w)) (decoded text)

@@ -10,7 +10,8 @@ use Rattle.definition.specs.Limits.{slot-bytes}
 use Rattle.definition.specs.Texts.{Text}
 use Rattle.definition.specs.Tables.{Class, Tables}
 use Rattle.definition.specs.Edges.{Edge, Mem, State, add}
-use Rattle.definition.specs.Capacity.{Refusal, refuse, misfit}
+use Rattle.definition.specs.Refusals.{Refusal, refuse, refused-slots, refused-room}
+use Rattle.definition.specs.Capacity.{misfit}
 use Rattle.definition.specs.Growth.{Added, misfit-grown}
 use Rattle.definition.specs.Call.{tables-of}
 use Rattle.edge.specs.declared.Numbers.{Numbers}
@@ -21,8 +22,8 @@ use Rattle.edge.specs.Slots.{four-bytes, edge-by, edges-of}
 use Rattle.edge.specs.Stored.{Stored}
 use Rattle.edge.specs.Adding.{added, slots-after, room-after, Writable, slots-after-length, room-after-length, added-used}
 use Rattle.edge.specs.Fitting.{Told as Fitted, stopped}
-use Rattle.places.specs.declared.Ending.{Ending}
-use Rattle.places.specs.Shows.{Ends, memory}
+use Rattle.edge_places.specs.declared.Ending.{Ending}
+use Rattle.edge_places.specs.Shows.{Ends, memory}
 use Rattle.noting.specs.Noting.{places-after}
 use Rattle.noting.specs.Keeps.{Keeps, keeps-added}
 use Rattle.words.specs.Given.{World, kinds, size, Told, Lined, Lent}
@@ -78,8 +79,8 @@ over-now t g slots room places filled st k = record {
 module _ (ks : List Class) (n : ℕ) (S R S′ R′ P′ : List ℕ) (most : ℕ) (st : State) where
   abbrev Came : Answer → Type 0
   Came (Fits c u) = Keeps ks n S′ R′ P′ c u st × (u ≤ most)
-  Came (NoSlot p) = misfit (length S / slot-bytes) (length R) (st .0) ≡ some (refuse 9 p)
-  Came (NoRoom p) = misfit (length S / slot-bytes) (length R) (st .0) ≡ some (refuse 10 p)
+  Came (NoSlot p) = misfit (length S / slot-bytes) (length R) (st .0) ≡ some (refuse refused-slots p)
+  Came (NoRoom p) = misfit (length S / slot-bytes) (length R) (st .0) ≡ some (refuse refused-room p)
 
   pub record Reached (r : Answer) : Type 0 where
     pub slots : length S′ ≡ length S
@@ -120,8 +121,8 @@ module _ {ks : List Class} {n : ℕ} {S R S′ R′ P′ : List ℕ} {most : ℕ
 
       go : (r : Answer) → Refused r → Came ks n S R S′ R′ P′ most st r → Reached ks n S R S′ R′ P′ more st′ r
       go (Fits c u) h t = absurd h
-      go (NoSlot p) h t = record { slots = a .slots; room = a .room; came = stays (refuse 9 p) t }
-      go (NoRoom p) h t = record { slots = a .slots; room = a .room; came = stays (refuse 10 p) t }
+      go (NoSlot p) h t = record { slots = a .slots; room = a .room; came = stays (refuse refused-slots p) t }
+      go (NoRoom p) h t = record { slots = a .slots; room = a .room; came = stays (refuse refused-room p) t }
 
   -- a state that is equal
   pub reached-as : (st′ : State) → st ≡ st′ → (r : Answer) → Reached ks n S R S′ R′ P′ most st r → Reached ks n S R S′ R′ P′ most st′ r
@@ -137,8 +138,8 @@ module _ {ks : List Class} {n : ℕ} {S R S′ R′ P′ : List ℕ} {most : ℕ
 
       go : (r : Answer) → Came ks n S R S′ R′ P′ most st r → Reached ks n S₀ R₀ S′ R′ P′ most st r
       go (Fits c u) t = record { slots = x .slots ∙ a; room = x .room ∙ b; came = t }
-      go (NoSlot p) t = record { slots = x .slots ∙ a; room = x .room ∙ b; came = fitted (refuse 9 p) t }
-      go (NoRoom p) t = record { slots = x .slots ∙ a; room = x .room ∙ b; came = fitted (refuse 10 p) t }
+      go (NoSlot p) t = record { slots = x .slots ∙ a; room = x .room ∙ b; came = fitted (refuse refused-slots p) t }
+      go (NoRoom p) t = record { slots = x .slots ∙ a; room = x .room ∙ b; came = fitted (refuse refused-room p) t }
 
 -- what is there
 pub reached-here : {ks : List Class} {n : ℕ} {S R P : List ℕ} {c u : ℕ} {st : State} (most : ℕ) → Keeps ks n S R P c u st → u ≤ most
@@ -173,10 +174,10 @@ module _ {ks : List Class} {n : ℕ} {S R P : List ℕ} {count used : ℕ} {st :
           made (Fits c u) (keeps-added k e w ok end ends h l c u (sym q), added-used S R count used e w (k .stored) ok c u (sym q))
       go (NoSlot p) q =
           let s = subst (Fitted S R count used e w (k .stored) ok) (sym q) (stopped S R count used e w (k .stored) ok) in
-          made (NoSlot p) (sym (as-kept []) ∙ ap (misfit (length S / slot-bytes) (length R)) (s .1 .new) ∙ s .1 .scan [] ∙ ap (λ k. some (refuse 9 k)) (sym (s .0)))
+          made (NoSlot p) (sym (as-kept []) ∙ ap (misfit (length S / slot-bytes) (length R)) (s .1 .new) ∙ s .1 .scan [] ∙ ap (λ k. some (refuse refused-slots k)) (sym (s .0)))
       go (NoRoom p) q =
           let s = subst (Fitted S R count used e w (k .stored) ok) (sym q) (stopped S R count used e w (k .stored) ok) in
-          made (NoRoom p) (sym (as-kept []) ∙ ap (misfit (length S / slot-bytes) (length R)) (s .1 .new) ∙ s .1 .scan [] ∙ ap (λ k. some (refuse 10 k)) (sym (s .0)))
+          made (NoRoom p) (sym (as-kept []) ∙ ap (misfit (length S / slot-bytes) (length R)) (s .1 .new) ∙ s .1 .scan [] ∙ ap (λ k. some (refuse refused-room k)) (sym (s .0)))
 
   pub reached-add : (S′ R′ P′ : List ℕ) (r : Answer) → r ≡ added S R count used e w → S′ ≡ slots′ → R′ ≡ room′ → P′ ≡ places-after r count e end P
       → Reached ks n S R S′ R′ P′ (used + length w) after r

@@ -1,14 +1,14 @@
 -- The edges of a start, longest first: those of its stretch, and behind them its fallback.
 use Prim.Native.Nat.{ℕ, zero, suc, _+_, _-_, _*_, _<_, _≤_}
 use mathlib.Core.Bool.{Bool, true}
-use mathlib.Core.List.{List, [], _∷_, _++_, append-nil, append-assoc}
-use mathlib.Core.Path.{_≡_, refl, sym, ap, _∙_, subst}
+use mathlib.Core.List.{List, _++_, append-nil, append-assoc}
+use mathlib.Core.Path.{_≡_, sym, ap, _∙_, subst}
 use native.Mathlib.Omega.{arith}
 use lib.Dec.{eqb}
 use lib.ListN.{length, drop}
 use borrow.Author.Tests.{eq-eqb, ne-eqb}
-use Rattle.base.specs.Lists.{put, keep}
-use Rattle.base.specs.ListLaws.{keep-append, keep-none}
+use Rattle.base.specs.Lists.{keep}
+use Rattle.base.specs.ListLaws.{keep-append, keep-none, keep-every}
 use Rattle.base.specs.Alls.{All, All-map}
 use Rattle.definition.specs.Limits.{slot-bytes}
 use Rattle.definition.specs.Edges.{Edge, starting}
@@ -19,11 +19,6 @@ use Rattle.edge.specs.Stored.{Slot}
 use Rattle.edge.specs.Asked.{Readable}
 use Rattle.standing.specs.Starts.{stretch-of}
 use Rattle.standing.specs.Stands.{Stands, edges-between, stretch-within, fallen-of, by-stretch, fallen-over}
-
-keep-every : (q : Edge → Bool) (l : List Edge) → All (λ x. q x ≡ true) l → keep q l ≡ l
-unfolding keep
-keep-every q [] h = refl
-keep-every q (x ∷ l) h = ap (λ (b : Bool). put b x (keep q l)) (h .0) ∙ ap (λ (r : List Edge). x ∷ r) (keep-every q l (h .1))
 
 module _ (es near single : List Edge) (p : ℕ) (s : starting es p ≡ starting near p ++ single) (o : All (λ x. (x .from ≡ p) × (x .to ≡ p + 1)) single) where
   -- some width: over one character there are the stretch's and the fallback, over more the stretch's alone

@@ -7,12 +7,12 @@ use mathlib.Core.Path.{_≡_, refl, sym, ap, _∙_}
 use Rattle.definition.specs.Edges.{Edge, right-best}
 use Rattle.definition.specs.Paths.{join, next, path-from}
 use Rattle.edge.specs.declared.BestEdge.{BestEdge}
-use Rattle.edge.specs.Best.{edge-at}
+use Rattle.edge.specs.Best.{best-means}
 use Rattle.listing.specs.Items.{Written, put-items, put-items-append}
 
 -- the edge that was answered, if any, as a list
 abbrev pub best-list : List ℕ → List ℕ → BestEdge → List Edge
-best-list room slots b = join (edge-at room slots b) []
+best-list room slots b = join (best-means room slots b) []
 
 join-append : (o : Option Edge) (l : List Edge) → join o l ≡ join o [] ++ l
 join-append none l = refl

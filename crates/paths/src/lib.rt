@@ -10,7 +10,7 @@ ghost use Rattle.definition.specs.Paths.{next, path-from, longer, sorted};
 ghost use Rattle.edge.specs.Slots.{two-bytes, edge-of, edges-of};
 ghost use Rattle.edge.specs.Stored.{Slot};
 ghost use Rattle.edge.specs.Asked.{Readable};
-ghost use Rattle.edge.specs.Best.{edge-at, Found};
+ghost use Rattle.edge.specs.Best.{best-means, Found};
 ghost use Rattle.listing.specs.Sizes.{row-most, rows-most, ends-most, start-most, path-most, starts-most, countable, Countable};
 ghost use Rattle.listing.specs.Items.{put-items, Puts};
 ghost use Rattle.standing.specs.Starts.{end-of};
@@ -19,7 +19,7 @@ ghost use Rattle.paths.specs.Steps.{best-list};
 ghost use Rattle.paths.specs.Orders.{farther, last-end, over};
 use edge::BestEdge;
 
-// The edge that was answered, if any.
+// The row or the text of the edge that was found, if any.
 fn put_best(
     out: &mut [u8],
     at: usize,
@@ -38,10 +38,10 @@ fn put_best(
     }
 }
 
-// Where the path goes on: at its end, a number of two bytes, or one character on where there is none.
+// Where the path goes on: at the edge's end, a number of two bytes, or one character on where there is none.
 pub fn next_from(slots: &[u8], best: BestEdge, p: usize) -> usize
     requires { ⌜ p < countable ⌝ }
-    ensures { λ r. ⌜ ((room : List ℕ) → r ≡ next (edge-at room (now (slots .entry)) best) p) × (r ≤ p + two-bytes) ⌝ }
+    ensures { λ r. ⌜ ((room : List ℕ) → r ≡ next (best-means room (now (slots .entry)) best) p) × (r ≤ p + two-bytes) ⌝ }
 {
     match best {
         BestEdge::At(slot) => base::two(slots, slot, edge::TO) as usize,

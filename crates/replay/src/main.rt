@@ -1,7 +1,9 @@
 // Runs calls of standard input, as tests/calls/callfile.py writes them, through the call, and counts those whose answer,
 // output or rooms are other than given. Slots, text room and output are full of rubbish before each call.
+ghost use mathlib.Core.Path.{_≡_};
 ghost use Prim.Native.Nat.{_+_, _<_, _≤_};
-ghost use lib.ListN.{length};
+ghost use lib.ListN.{length, drop};
+ghost use Rattle.replay.specs.Given.{number-at, zeros, are-numbers, is-right};
 use jettyfig::Answer;
 
 // What stands in the rooms before a call.
@@ -13,7 +15,7 @@ struct Ran {
     right: bool,
 }
 
-// How many were run, and how many were not right.
+// How many calls were run, and how many were not right.
 struct Tally {
     calls: u64,
     differ: u64,
@@ -21,7 +23,7 @@ struct Tally {
 
 // Four bytes as a number; past the end they are 0.
 fn number(input: &[u8], at: usize) -> usize
-    ensures { λ r. ⌜ r < 4294967296 ⌝ }
+    ensures { λ r. ⌜ (r ≡ number-at (now (input .entry)) at) × (r < 4294967296) ⌝ }
 {
     base::four(input, at, 0) as usize
 }
@@ -30,7 +32,7 @@ fn number(input: &[u8], at: usize) -> usize
 fn field<'a>(input: &'a [u8], at: usize) -> &'a [u8]
     requires { ⌜ at < 1000000000000 ⌝ }
 {
-    room::part_or_none(input, at + 4, number(input, at))
+    lent_bytes::part_or_none(input, at + 4, number(input, at))
 }
 
 // All of some bytes set to one value.
@@ -43,7 +45,9 @@ fn fill(s: &mut [u8], value: u8) {
 }
 
 // Are all bytes from a place on zero?
-fn are_zero(s: &[u8], from: usize) -> bool {
+fn are_zero(s: &[u8], from: usize) -> bool
+    ensures { λ r. ⌜ r ≡ zeros (drop from (now (s .entry))) ⌝ }
+{
     let mut i = from;
     while i < s.len() {
         if s[i] != 0 {
@@ -57,29 +61,29 @@ fn are_zero(s: &[u8], from: usize) -> bool {
 // Are the numbers of an answer as given at `at`: number, place, length and edges?
 fn are_numbers(input: &[u8], at: usize, answer: Answer) -> bool
     requires { ⌜ at < 1000000000000 ⌝ }
+    ensures { λ r. ⌜ r ≡ are-numbers (now (input .entry)) at answer ⌝ }
 {
     answer.number == base::byte(input, at) as u64
-        && answer.place == number(input, at + 1) as u64
-        && answer.length == number(input, at + 5) as u64
-        && answer.edges == number(input, at + 9) as u64
+        && (answer.place == number(input, at + 1) as u64
+            && (answer.length == number(input, at + 5) as u64
+                && answer.edges == number(input, at + 9) as u64))
 }
 
 // Is all as given at `at`: the numbers, and behind them the bytes of the output? All else of output, slots and room is zero.
 fn is_right(input: &[u8], at: usize, answer: Answer, slots: &[u8], room: &[u8], out: &[u8]) -> bool
     requires { ⌜ at < 1000000000000 ⌝ }
+    ensures { λ r. ⌜ r ≡ is-right (now (input .entry)) at answer (now (slots .entry)) (now (room .entry)) (now (out .entry)) ⌝ }
 {
     let len = number(input, at + 5);
     if out.len() < len {
         return false;
     }
     are_numbers(input, at, answer)
-        && room::same(
-            room::part_or_none(input, at + 13, len),
-            room::part_or_none(out, 0, len),
+        && (lent_bytes::same(
+            lent_bytes::part_or_none(input, at + 13, len),
+            lent_bytes::part(out, 0, len),
         )
-        && are_zero(out, len)
-        && are_zero(slots, 0)
-        && are_zero(room, 0)
+            && (are_zero(out, len) && (are_zero(slots, 0) && are_zero(room, 0))))
 }
 
 // Where a field ends.
@@ -154,7 +158,7 @@ fn run_in(input: &[u8], at: usize, slots: &mut [u8], room: &mut [u8], out: &mut 
     }
 }
 
-// The same, where there is enough for it; else it is not right.
+// The call at `at` where its bytes are all there; else it is not right.
 fn run_one(input: &[u8], at: usize, slots: &mut [u8], room: &mut [u8], out: &mut [u8]) -> Ran
     requires { ⌜ at < 16777216 ⌝ }
     ensures { λ r. ⌜ at < r .next ⌝ }

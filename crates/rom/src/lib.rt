@@ -15,7 +15,7 @@ pub const VOWELS: u32 = 0x104111;
 // b c d f g h j k l m n p q r s t v w x y z
 pub const CONSONANTS: u32 = 0x3efbeee;
 
-// Those without w and y.
+// The consonants without w and y.
 pub const CLOSING: u32 = 0x2afbeee;
 
 // c f g h k m n q r s t x y
@@ -49,7 +49,7 @@ pub fn new() -> Rom
     }
 }
 
-// A byte put behind.
+// A romanization with a byte put behind it.
 pub fn push(mut r: Rom, b: u8) -> Rom
     requires { ⌜ Clean r × (r .len < most-bytes) ⌝ }
     ensures { λ q. ⌜ q ≡ rom (text r ++ b ∷ []) ⌝ }
@@ -60,7 +60,7 @@ pub fn push(mut r: Rom, b: u8) -> Rom
     r
 }
 
-// A text put behind.
+// A romanization with a text put behind it.
 pub fn append(mut r: Rom, s: &[u8]) -> Rom
     requires { ⌜ Clean r × (r .len + length (now s) ≤ most-bytes) ⌝ }
     ensures { λ q. ⌜ q ≡ rom (text r ++ now (s .entry)) ⌝ }
@@ -83,7 +83,7 @@ pub fn bytes_of(s: &[u8]) -> Rom
     append(new(), s)
 }
 
-// A text put in front.
+// A romanization with a text put in front of it.
 pub fn insert_front(r: Rom, s: &[u8]) -> Rom
     requires { ⌜ Clean r × (r .len + length (now s) ≤ most-bytes) ⌝ }
     ensures { λ q. ⌜ q ≡ rom (now (s .entry) ++ text r) ⌝ }
@@ -93,7 +93,7 @@ pub fn insert_front(r: Rom, s: &[u8]) -> Rom
     append(bytes_of(s), &b[..n])
 }
 
-// Without the first byte, if there is one.
+// A romanization without its first byte, if there is one.
 pub fn without_first(r: Rom) -> Rom
     requires { ⌜ Clean r ⌝ }
     ensures { λ q. ⌜ q ≡ rom (tail (text r)) ⌝ }
@@ -106,7 +106,7 @@ pub fn without_first(r: Rom) -> Rom
     bytes_of(&b[1..n])
 }
 
-// Without the last byte, if there is one.
+// A romanization without its last byte, if there is one.
 pub fn without_last(mut r: Rom) -> Rom
     requires { ⌜ Clean r ⌝ }
     ensures { λ q. ⌜ q ≡ rom (without-last (text r)) ⌝ }

@@ -3,9 +3,11 @@
 // CODE is a language code, or - for none. MODE is 0 for the string, 1 for the path, 2 for the path and its alternatives, 3 for
 // all edges; these are written a line for each edge: start, end, annotation, core length and text. One line end behind the text
 // is no part of it. A refusal is one line on standard error, and nothing is written.
+ghost use mathlib.Core.Path.{_≡_};
 ghost use Prim.Native.Nat.{_+_, _<_, _≤_};
 ghost use lib.ListN.{length};
 ghost use Rattle.io.specs.Counts.{Counts};
+ghost use Rattle.romanize.specs.Arguments.{mode-of, is-dash, code-of, without-line-end};
 use jettyfig::Answer;
 use libc::STDERR_FILENO;
 use libc::STDIN_FILENO;
@@ -88,7 +90,9 @@ fn read_table(i: usize, buf: &mut [u8]) -> usize
 }
 
 // The mode of the last argument: one digit. Anything else is no mode, which the call refuses.
-fn mode_of(arg: &[u8]) -> u8 {
+fn mode_of(arg: &[u8]) -> u8
+    ensures { λ r. ⌜ r ≡ mode-of (now (arg .entry)) ⌝ }
+{
     if arg.len() != 1 {
         return NO_MODE;
     }
@@ -102,7 +106,9 @@ fn mode_of(arg: &[u8]) -> u8 {
     digit - b'0'
 }
 
-fn is_dash(arg: &[u8]) -> bool {
+fn is_dash(arg: &[u8]) -> bool
+    ensures { λ r. ⌜ r ≡ is-dash (now (arg .entry)) ⌝ }
+{
     if arg.len() != 1 {
         return false;
     }
@@ -110,7 +116,9 @@ fn is_dash(arg: &[u8]) -> bool {
 }
 
 // The language code: none for a dash.
-fn code_of<'a>(arg: &'a [u8]) -> &'a [u8] {
+fn code_of<'a>(arg: &'a [u8]) -> &'a [u8]
+    ensures { λ r. ⌜ now r ≡ code-of (now (arg .entry)) ⌝ }
+{
     if is_dash(arg) {
         return &arg[..0];
     }
@@ -118,7 +126,9 @@ fn code_of<'a>(arg: &'a [u8]) -> &'a [u8] {
 }
 
 // The text without the line end behind it.
-fn without_line_end<'a>(text: &'a [u8]) -> &'a [u8] {
+fn without_line_end<'a>(text: &'a [u8]) -> &'a [u8]
+    ensures { λ r. ⌜ now r ≡ without-line-end (now (text .entry)) ⌝ }
+{
     let n = text.len();
     if n == 0 {
         return text;
@@ -143,12 +153,15 @@ fn print_edge(rows: &[u8], at: usize, len: usize)
     print_number(base::two(rows, at, 4));
     io::write_all(
         STDOUT_FILENO,
-        room::part_or_none(&NAMES, base::at(rows, at, 6) as usize * 8, 8),
+        lent_bytes::part_or_none(&NAMES, base::at(rows, at, 6) as usize * 8, 8),
     );
     io::write_all(STDOUT_FILENO, b" ");
     print_number(base::at(rows, at, 7));
     if 6 < len {
-        io::write_all(STDOUT_FILENO, room::part_or_none(rows, at + 8, len - 6));
+        io::write_all(
+            STDOUT_FILENO,
+            lent_bytes::part_or_none(rows, at + 8, len - 6),
+        );
     }
     io::write_all(STDOUT_FILENO, b"\n");
 }
@@ -298,7 +311,10 @@ fn romanize<'a>(
         return;
     }
     if answer.length < 16777216 {
-        print_output(mode, room::part_or_none(&out, 0, answer.length as usize));
+        print_output(
+            mode,
+            lent_bytes::part_or_none(&out, 0, answer.length as usize),
+        );
     }
 }
 

@@ -1,6 +1,8 @@
 // Document 01's sample program: all of standard input is the text, mode 1, the sample tables and no code; the output in
 // lower-case hex and a line end. A refusal goes to standard error with its number and place.
+ghost use mathlib.Core.Path.{_≡_};
 ghost use Prim.Native.Nat.{_<_};
+ghost use Rattle.sample.specs.Hex.{hex-digit};
 
 // The sample tables, as tests/generate/sample.py makes them.
 // Rules.
@@ -485,6 +487,7 @@ const VOWELS: [u8; 13] = [1, 0, 0, 0, 8, 5, 0, 1, 97, 6, 0, 1, 97];
 // A digit in lower-case hex.
 fn digit(x: u8) -> u8
     requires { ⌜ x < 16 ⌝ }
+    ensures { λ r. ⌜ r ≡ hex-digit x ⌝ }
 {
     if x < 10 {
         return 48 + x;

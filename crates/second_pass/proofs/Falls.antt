@@ -35,14 +35,14 @@ use Rattle.edge.specs.declared.Added.{Added as Answer}
 use Rattle.edge.specs.Slots.{edge-by}
 use Rattle.edge.specs.Stored.{Stored}
 use Rattle.edge.specs.Adding.{added, slots-after, room-after, Writable, Addable}
-use Rattle.places.specs.declared.Ending.{Ending}
-use Rattle.places.specs.Entry.{over-in}
-use Rattle.places.specs.Shows.{Ends, memory, told, over-shown}
+use Rattle.edge_places.specs.declared.Ending.{Ending}
+use Rattle.edge_places.specs.Entry.{over-in}
+use Rattle.edge_places.specs.Shows.{Ends, memory, told, over-shown}
 use Rattle.noting.specs.Noting.{places-after}
 use Rattle.noting.specs.Keeps.{keeps-asked}
 use Rattle.words.specs.Did.{Did, Asked}
 use Rattle.words.specs.Given.{World, kinds, seen, size, Prepared, Lined, kind-in, alpha-kind, char-at, kind-at, alpha-at, line-size, lent-after}
-use Rattle.rules.specs.Lent.{lexicon-of}
+use Rattle.rule_choice.specs.Lent.{lexicon-of}
 use Rattle.spans.specs.Spans.{fallback-bytes, plus-dropped, category-note}
 use Rattle.passes.specs.Reached.{addressable, Over, state-of, over-keeps, Reached, reached-add, reached-wide, reached-as}
 use Rattle.passes.specs.Turns.{put-in-did}

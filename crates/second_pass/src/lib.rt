@@ -8,7 +8,7 @@ ghost use Rattle.base.specs.Lists.{has};
 ghost use Rattle.definition.specs.Building.{fall};
 ghost use Rattle.edge.specs.Slots.{two-bytes};
 ghost use Rattle.words.specs.Given.{size-in, kind-in, alpha-kind, Prepared};
-ghost use Rattle.rules.specs.Chosen.{said};
+ghost use Rattle.rule_choice.specs.Chosen.{chosen-means};
 ghost use Rattle.passes.specs.Reached.{addressable, Somewhere};
 ghost use Rattle.passes.specs.Endings.{last-letter};
 ghost use Rattle.second_pass.specs.Falls.{put-fallback};
@@ -18,7 +18,7 @@ ghost use Rattle.second_pass.specs.SecondPass.{FallReady, FallsBack, Sec
 use edge::Added;
 use edge::Filled;
 use edge::Numbers;
-use rules::Chosen;
+use rule_choice::Chosen;
 use words::Span;
 
 // A position of the text, and where its bytes begin.
@@ -29,9 +29,9 @@ pub struct Here {
 
 // The annotation of what simple search answered, and of the character itself.
 fn search_note(chosen: Chosen) -> u8
-    ensures { λ r. ⌜ ((rules : List ℕ) → r ≡ search-note (said rules chosen)) ⌝ }
+    ensures { λ r. ⌜ ((rules : List ℕ) → r ≡ search-note (chosen-means rules chosen)) ⌝ }
 {
-    if rules::is_told(chosen) {
+    if rule_choice::is_told(chosen) {
         return edge::SINGLE;
     }
     edge::ORIG
@@ -53,10 +53,10 @@ fn single(p: usize, note: u8) -> Numbers
 // Does the text of a fallback end in a letter: a target, which is ASCII, or else the character itself?
 fn falls_on_letter(ready: &[u32], line: &[u32], chosen: Chosen, text: &[u8], p: usize) -> bool
     requires { ⌜ p < size-in (now line) ⌝ }
-    ensures { λ r. ⌜ ((rules : List ℕ) → r ≡ pick (has (said rules chosen)) (last-letter (now (ready .entry)) (now (text .entry)))
+    ensures { λ r. ⌜ ((rules : List ℕ) → r ≡ pick (has (chosen-means rules chosen)) (last-letter (now (ready .entry)) (now (text .entry)))
         (alpha-kind (kind-in (now (line .entry)) (p + 1)))) ⌝ }
 {
-    if rules::is_told(chosen) {
+    if rule_choice::is_told(chosen) {
         return passes::ends_in_letter(ready, text);
     }
     words::is_alpha_at(line, p + 1)
@@ -81,7 +81,7 @@ fn add_fallback<'a>(
     ensures { λ r. ⌜ FallsBack (now (rules .entry)) (now (ready .entry)) (now (code .entry)) (now (line .entry)) filled (λ D t. put-fallback D t (here .p))
         (now (slots .entry), now (room .entry), now (places .entry)) (now (slots .exit), now (room .exit), now (places .exit)) r ⌝ }
 {
-    let note = spans::category_note(classes::category(words::kind_at(line, here.p + 1)));
+    let note = spans::category_note(table_classes::category(words::kind_at(line, here.p + 1)));
     let numbers = single(here.p, note);
     if note == edge::ZS {
         return noting::add_edge(
@@ -109,7 +109,7 @@ fn add_fallback<'a>(
         from: here.p,
         to: here.p + 1,
     };
-    let chosen = rules::simple_top_romanization_candidate_for_span(
+    let chosen = rule_choice::simple_top_romanization_candidate_for_span(
         rules,
         ready,
         code,
@@ -149,7 +149,7 @@ fn fall_back_at<'a>(
     ensures { λ r. ⌜ FallsBack (now (rules .entry)) (now (ready .entry)) (now (code .entry)) (now (line .entry)) filled (λ D t. fall D t (here .p))
         (now (slots .entry), now (room .entry), now (places .entry)) (now (slots .exit), now (room .exit), now (places .exit)) r ⌝ }
 {
-    if places::is_covered(places, here.p) {
+    if edge_places::is_covered(places, here.p) {
         return Added::Fits {
             count: filled.count,
             used: filled.used,

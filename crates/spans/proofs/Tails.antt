@@ -14,7 +14,7 @@ use Rattle.base.specs.Lists.{head, tail, has, is, maybe}
 use Rattle.definition.specs.Texts.{Text, plus-sign, letter-n}
 use Rattle.definition.specs.Building.{is-tail, fallback-plus}
 use Rattle.rom.specs.Sets.{member, member-before, plus-before-set, in-plus-before}
-use Rattle.rules.specs.Chosen.{or-nothing}
+use Rattle.rule_choice.specs.Chosen.{or-nothing}
 use Rattle.spans.specs.Spans.{plus-dropped, fallback-bytes}
 
 -- Does a text start with a plus? Past its end a byte is 0

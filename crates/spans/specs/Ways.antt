@@ -19,7 +19,7 @@ use Rattle.definition.specs.Expansion.{Work, work, expand}
 use Rattle.definition.specs.Building.{is-tail, without-plus, grown, as-edge, edge-of, span-edge}
 use Rattle.rom.specs.Rom.{text}
 use Rattle.words.specs.Did.{Did, did, did-by, outcome}
-use Rattle.rules.specs.Chosen.{or-nothing}
+use Rattle.rule_choice.specs.Chosen.{or-nothing}
 use Rattle.spans.specs.Spans.{edge-with, found}
 use Rattle.spans.specs.declared.Spanned.{Spanned}
 

@@ -7,15 +7,15 @@ ghost use Rattle.definition.specs.Limits.{most-target};
 ghost use Rattle.definition.specs.Texts.{Text};
 ghost use Rattle.definition.specs.Expansion.{work};
 ghost use Rattle.definition.specs.Building.{is-tail, without-plus, grown, as-edge, edge-of, span-edge, fallback-plus};
-ghost use Rattle.vowelrows.specs.Told.{FineVowels};
+ghost use Rattle.table_vowels.specs.Told.{FineVowels};
 ghost use Rattle.rom.specs.Rom.{text, Clean};
 ghost use Rattle.words.specs.Given.{size-in, Prepared};
 ghost use Rattle.words.specs.Looks.{Looked};
-ghost use Rattle.rules.specs.Chosen.{said, Said};
+ghost use Rattle.rule_choice.specs.Chosen.{chosen-means, Said};
 ghost use Rattle.spans.specs.Spans.{Finds, edge-with, FindsEdge, found, plus-dropped, fallback-bytes, category-note};
 use edge::Numbers;
 use rom::Rom;
-use rules::Chosen;
+use rule_choice::Chosen;
 use words::Look;
 use words::Span;
 
@@ -123,7 +123,7 @@ fn edge_of(
 {
     let core = w.len();
     let rom = rom::bytes_of(w);
-    let v = vowels::add_default_abugida_vowel(
+    let v = vowel_step::add_default_abugida_vowel(
         rules,
         ready,
         vowels,
@@ -170,8 +170,8 @@ pub fn span_edge(
         places,
         look,
     );
-    if rules::is_told(chosen) {
-        let w = rules::chosen_text(rules, chosen);
+    if rule_choice::is_told(chosen) {
+        let w = rule_choice::chosen_text(rules, chosen);
         return edge_of(
             rules,
             ready,
@@ -224,28 +224,28 @@ pub fn fallback_text<'a>(
     len: usize,
 ) -> &'a [u8]
     requires { ⌜ Said (now rules) chosen × (at + len ≤ length (now text)) ⌝ }
-    ensures { λ r. ⌜ now r ≡ fallback-bytes (said (now (rules .entry)) chosen) (take len (drop at (now (text .entry)))) ⌝ }
+    ensures { λ r. ⌜ now r ≡ fallback-bytes (chosen-means (now (rules .entry)) chosen) (take len (drop at (now (text .entry)))) ⌝ }
 {
-    if rules::is_told(chosen) {
-        return plus_dropped(rules::chosen_text(rules, chosen));
+    if rule_choice::is_told(chosen) {
+        return plus_dropped(rule_choice::chosen_text(rules, chosen));
     }
-    room::part(text, at, len)
+    lent_bytes::part(text, at, len)
 }
 
 // The annotation of a category whose characters have no letters.
 pub fn category_note(category: u32) -> u8
     ensures { λ r. ⌜ r ≡ category-note category ⌝ }
 {
-    if category == classes::NONSPACING {
+    if category == table_classes::NONSPACING {
         return edge::MN;
     }
-    if category == classes::FORMAT {
+    if category == table_classes::FORMAT {
         return edge::CF;
     }
-    if category == classes::PRIVATE {
+    if category == table_classes::PRIVATE {
         return edge::CO;
     }
-    if category == classes::SEPARATOR {
+    if category == table_classes::SEPARATOR {
         return edge::ZS;
     }
     edge::UNTOUCHED

@@ -21,7 +21,7 @@ use Rattle.edge.specs.declared.BestEdge.the-variants.{At, Nothing}
 use Rattle.edge.specs.Slots.{edge-of, edges-of}
 use Rattle.edge.specs.Stored.{edge-count}
 use Rattle.edge.specs.Asked.{better, best-after, best-here, best-next}
-use Rattle.edge.specs.Best.{edge-at, Found}
+use Rattle.edge.specs.Best.{best-means, Found}
 use Rattle.standing.specs.Starts.{begun, fall-of, end-of, stretch-of, fallback-of}
 use Rattle.standing.specs.Fallen.{numbered, only-within}
 use Rattle.standing.specs.Stands.{Stands, Ahead, fallbacks, between, edges-from, edges-between, stretch-within, fallen-of, by-stretch, fallen-over, fallen-few}
@@ -34,7 +34,7 @@ here p x = eqb (x .from) p
 
 -- the best of the first `count` edges that starts at `p`
 abbrev pub RightBest : List ℕ → ℕ → ℕ → BestEdge → Type 0
-RightBest slots count p b = ((room : List ℕ) → edge-at room slots b ≡ right-best (edges-of room count slots) p) × Found count b
+RightBest slots count p b = ((room : List ℕ) → best-means room slots b ≡ right-best (edges-of room count slots) p) × Found count b
 
 -- A turn of the search through a stretch
 module _ (p : ℕ) (room slots : List ℕ) where
@@ -42,7 +42,7 @@ module _ (p : ℕ) (room slots : List ℕ) where
   unfoldable pub improved : ℕ → BestEdge → BestEdge
   improved o b =
       let x = edge-of room (drop o slots) in
-      pick (here p x && better longer (edge-at room slots b) x) (At o) b
+      pick (here p x && better longer (best-means room slots b) x) (At o) b
 
   module _ (o : ℕ) (b : BestEdge) where
     abbrev x : Edge
@@ -66,20 +66,20 @@ module _ (p : ℕ) (room slots : List ℕ) where
       shorter-one g = sym (rw (e, f, g))
 
     pub best-turn : (n : ℕ) → 0 < n
-        → best-after longer (edge-at room slots (improved o b)) (starting (edges-of room (n - 1) (drop (o + slot-bytes) slots)) p)
-        ≡ best-after longer (edge-at room slots b) (starting (edges-of room n (drop o slots)) p)
+        → best-after longer (best-means room slots (improved o b)) (starting (edges-of room (n - 1) (drop (o + slot-bytes) slots)) p)
+        ≡ best-after longer (best-means room slots b) (starting (edges-of room n (drop o slots)) p)
     unfolding improved pick starting
-    best-turn n h = go (here p x && better longer (edge-at room slots b) x) refl
+    best-turn n h = go (here p x && better longer (best-means room slots b) x) refl
       where
-        go : (t : Bool) → (here p x && better longer (edge-at room slots b) x) ≡ t
-            → best-after longer (edge-at room slots (pick t (At o) b)) (keep (here p) (edges-of room (n - 1) (drop (o + slot-bytes) slots)))
-            ≡ best-after longer (edge-at room slots b) (keep (here p) (edges-of room n (drop o slots)))
-        go true e = best-here (edge-of room) slot-bytes slots n o (here p) longer (edge-at room slots b) h e
-        go false e = best-next (edge-of room) slot-bytes slots n o (here p) longer (edge-at room slots b) h e
+        go : (t : Bool) → (here p x && better longer (best-means room slots b) x) ≡ t
+            → best-after longer (best-means room slots (pick t (At o) b)) (keep (here p) (edges-of room (n - 1) (drop (o + slot-bytes) slots)))
+            ≡ best-after longer (best-means room slots b) (keep (here p) (edges-of room n (drop o slots)))
+        go true e = best-here (edge-of room) slot-bytes slots n o (here p) longer (best-means room slots b) h e
+        go false e = best-next (edge-of room) slot-bytes slots n o (here p) longer (best-means room slots b) h e
 
     pub improved-found : (count i : ℕ) → i < count → o ≡ i * slot-bytes → Found count b → Found count (improved o b)
     unfolding improved pick
-    improved-found count i h e f = go (here p x && better longer (edge-at room slots b) x)
+    improved-found count i h e f = go (here p x && better longer (best-means room slots b) x)
       where
         go : (t : Bool) → Found count (pick t (At o) b)
         go true = (i, h, e)
@@ -143,37 +143,37 @@ module _ (slots starts : List ℕ) (count : ℕ) (s : Stands slots starts count)
     es = edges-of room count slots
 
     -- the fallback's slot has the definition's fallback
-    fallback-edge : edge-at room slots (fallback-of starts p) ≡ best longer (fallen-of slots starts count s p l room)
+    fallback-edge : best-means room slots (fallback-of starts p) ≡ best longer (fallen-of slots starts count s p l room)
     unfolding fallback-of fallen-of pick numbered best best-of
     fallback-edge = go (fall-of starts p) (inside room)
       where
         go : (k : ℕ) → k ≤ count - made
-            → edge-at room slots (pick (eqb k 0) Nothing (At ((made + (k - 1)) * slot-bytes))) ≡ best longer (numbered (fallbacks starts es) k)
+            → best-means room slots (pick (eqb k 0) Nothing (At ((made + (k - 1)) * slot-bytes))) ≡ best longer (numbered (fallbacks starts es) k)
         go zero h = refl
         go (suc i) h =
-            ap (λ (t : Bool). edge-at room slots (pick t Nothing (At ((made + (suc i - 1)) * slot-bytes)))) (ne-eqb (suc i) 0 (λ z. omega arith))
+            ap (λ (t : Bool). best-means room slots (pick t Nothing (At ((made + (suc i - 1)) * slot-bytes)))) (ne-eqb (suc i) 0 (λ z. omega arith))
             ∙ ap (λ (j : ℕ). some (edge-of room (drop (j * slot-bytes) slots))) {x = made + (suc i - 1)} {y = made + i} (omega arith)
             ∙ sym (ap (best longer) (ap (take 1) (drop-drop i made es) ∙ numbered-edge room slots (made + i) count (omega arith)))
 
     -- and for readers that write it, as a list
-    pub fallback-list : join (edge-at room slots (fallback-of starts p)) [] ≡ fallen-of slots starts count s p l room
+    pub fallback-list : join (best-means room slots (fallback-of starts p)) [] ≡ fallen-of slots starts count s p l room
     unfolding best best-of
     fallback-list = go (fallen-of slots starts count s p l room) (fallen-few slots starts count s p l room) fallback-edge
       where
-        go : (k : List Edge) → length k ≤ 1 → edge-at room slots (fallback-of starts p) ≡ best longer k
-            → join (edge-at room slots (fallback-of starts p)) [] ≡ k
+        go : (k : List Edge) → length k ≤ 1 → best-means room slots (fallback-of starts p) ≡ best longer k
+            → join (best-means room slots (fallback-of starts p)) [] ≡ k
         go [] h e = ap (λ (o : Option Edge). join o []) e
         go (x ∷ []) h e = ap (λ (o : Option Edge). join o []) e
         go (x ∷ y ∷ k) h e = absurd (omega arith)
 
     -- what was found in the stretch, as what starts there
     module _ (b : BestEdge)
-        (e : edge-at room slots b ≡ best longer (starting (edges-of room (stretch-of starts p .end - stretch-of starts p .first)
+        (e : best-means room slots b ≡ best longer (starting (edges-of room (stretch-of starts p .end - stretch-of starts p .first)
         (drop (stretch-of starts p .first * slot-bytes) slots)) p)) where
       abbrev near : List Edge
       near = starting (between es (stretch-of starts p .first) (stretch-of starts p .end)) p
 
-      found : edge-at room slots b ≡ best longer near
+      found : best-means room slots b ≡ best longer near
       found =
           let w = stretch-within slots starts count s p l in
           e ∙ ap (λ (k : List Edge). best longer (starting k p))
@@ -184,9 +184,9 @@ module _ (slots starts : List ℕ) (count : ℕ) (s : Stands slots starts count)
       all-of = ap (best longer) (by-stretch slots starts count s p l room)
 
       -- none
-      pub right-single : b ≡ Nothing → edge-at room slots (fallback-of starts p) ≡ right-best es p
+      pub right-single : b ≡ Nothing → best-means room slots (fallback-of starts p) ≡ right-best es p
       right-single q =
-          let n : near ≡ [] = best-none near (sym found ∙ ap (edge-at room slots) q) in
+          let n : near ≡ [] = best-none near (sym found ∙ ap (best-means room slots) q) in
           fallback-edge ∙ sym (all-of ∙ ap (λ (k : List Edge). best longer (k ++ fallen-of slots starts count s p l room)) n)
 
       -- one: it goes forward, and so is as long as a fallback at least
@@ -199,9 +199,9 @@ module _ (slots starts : List ℕ) (count : ℕ) (s : Stands slots starts count)
           (λ z j. let q = eqb-true (z .from) p (j .1) in omega (arith, j .0 .0, q)) (starting es p)
           (All-kept (λ z. Ahead (end-of starts) (z .from) (z .to)) (here p) es (s .ahead room))))
 
-      pub right-near : (o : ℕ) → b ≡ At o → edge-at room slots b ≡ right-best es p
+      pub right-near : (o : ℕ) → b ≡ At o → best-means room slots b ≡ right-best es p
       right-near o q =
           let x = edge-of room (drop o slots) in
-          let f : edge-at room slots b ≡ some x = ap (edge-at room slots) q in
+          let f : best-means room slots b ≡ some x = ap (best-means room slots) q in
           f ∙ sym (all-of ∙ best-last p near (fallen-of slots starts count s p l room) near-forward
           (fallen-over slots starts count s p l room) (fallen-few slots starts count s p l room) x (sym found ∙ f))

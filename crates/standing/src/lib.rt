@@ -11,7 +11,7 @@ ghost use Rattle.base.specs.Lists.{best};
 ghost use Rattle.definition.specs.Limits.{slot-bytes};
 ghost use Rattle.definition.specs.Edges.{starting};
 ghost use Rattle.edge.specs.Slots.{edge-of, edges-of};
-ghost use Rattle.edge.specs.Best.{edge-at, Found};
+ghost use Rattle.edge.specs.Best.{best-means, Found};
 ghost use Rattle.standing.specs.Starts.{begun-limit, fall-limit, begun, fall-of, since-in, stretch-of, fallback-of, fell};
 ghost use Rattle.standing.specs.Stands.{Stands, Arranged};
 ghost use Rattle.standing.specs.Right.{longer, improved, RightBest};
@@ -139,7 +139,7 @@ fn better(slots: &[u8], slot: usize, p: usize, best: BestEdge) -> BestEdge
 // Of the edges of a stretch that start at `p` the first added of the longest.
 fn best_within(slots: &[u8], within: Stretch, p: usize) -> BestEdge
     requires { ⌜ within .end * slot-bytes ≤ length (now slots) ⌝ }
-    ensures { λ r. ⌜ ((room : List ℕ) → edge-at room (now (slots .entry)) r
+    ensures { λ r. ⌜ ((room : List ℕ) → best-means room (now (slots .entry)) r
         ≡ best longer (starting (edges-of room (within .end - within .first) (drop (within .first * slot-bytes) (now (slots .entry)))) p))
         × Found (within .end) r ⌝ }
 {

@@ -24,19 +24,19 @@ use Rattle.definition.specs.Rules.{first-rule}
 use Rattle.definition.specs.Shorts.{Short}
 use Rattle.definition.specs.Expansion.{work, widen, around-by, around, pre-vowel, before}
 use Rattle.definition.specs.Expansion as expansion
-use Rattle.classes.specs.Told.{Fine}
+use Rattle.table_classes.specs.Told.{Fine}
 use Rattle.rom.specs.Rom.{text}
 use Rattle.rom.specs.Sets.{member, consonants-set, in-consonants, all-as}
-use Rattle.rules.specs.Chosen.{said, Said, or-nothing}
-use Rattle.rules.specs.declared.Chosen.{Chosen}
-use Rattle.rules.specs.declared.Chosen.the-variants.{Target, EndTarget, Untold}
+use Rattle.rule_choice.specs.Chosen.{chosen-means, Said, or-nothing}
+use Rattle.rule_choice.specs.declared.Chosen.{Chosen}
+use Rattle.rule_choice.specs.declared.Chosen.the-variants.{Target, EndTarget, Untold}
 use Rattle.steps.specs.declared.Work.{Work}
 use Rattle.steps.specs.declared.Tried.{Tried}
 use Rattle.steps.specs.Works.{work-of, Tries, first-of, framed-by, before-by}
 use Rattle.steps.proofs.Letters.{first-passes, no-consonant}
 
 -- a target has 64 bytes at most
-pub said-short : (rules : List ℕ) (x : Chosen) → Said rules x → length (or-nothing (said rules x)) ≤ most-target
+pub said-short : (rules : List ℕ) (x : Chosen) → Said rules x → length (or-nothing (chosen-means rules x)) ≤ most-target
 unfolding rule-of text-where pick
 said-short rules (Target row) h =
     let s = drop row rules in

@@ -13,10 +13,10 @@ ghost use Rattle.definition.specs.RuleRows.{rules-of};
 ghost use Rattle.definition.specs.Expansion.{work, small-tsu, doubled, double, widen, around-by, around, before, trim, finish};
 ghost use Rattle.rom.specs.Rom.{text, rom, Clean};
 ghost use Rattle.words.specs.Given.{World, kinds, size-in, Prepared, Lined};
-ghost use Rattle.rules.specs.Chosen.{said, Said};
+ghost use Rattle.rule_choice.specs.Chosen.{chosen-means, Said};
 ghost use Rattle.steps.specs.Works.{work-of, Tries, first-of, last-of, letter-of, framed-by, before-by, kana, long-by, front-of, back-of};
 use rom::Rom;
-use rules::Chosen;
+use rule_choice::Chosen;
 
 // U+3063 and U+30C3, small tsu of the two, and U+0A71, addak, which double a consonant.
 const HIRAGANA_TSU: u32 = 0x3063;
@@ -131,8 +131,8 @@ pub fn double(line: &[u32], o: usize, w: Work) -> Work
     }
     let c = words::number_at(line, o);
     if is_small_tsu(c) {
-        let script = classes::script(words::kind_at(line, o));
-        if script == classes::script(words::kind_at(line, o + 1)) {
+        let script = table_classes::script(words::kind_at(line, o));
+        if script == table_classes::script(words::kind_at(line, o + 1)) {
             let old = w.rom;
             let letter = doubling_letter(c, old);
             if letter == 0 {
@@ -148,12 +148,12 @@ pub fn double(line: &[u32], o: usize, w: Work) -> Work
 // A target put behind, if there is one, over the character before the span and those after it up to `to`.
 fn put_behind(rules: &[u8], target: Chosen, w: Work, to: usize) -> Tried
     requires { ⌜ Said (now rules) target × Clean (w .rom) × (w .rom .len + most-target ≤ most-bytes) × (0 < w .from) ⌝ }
-    ensures { λ r. ⌜ ((k : ℕ) → to ≡ w .to + k → Tries w (widen k (work-of w) (said (now (rules .entry)) target)) r)
+    ensures { λ r. ⌜ ((k : ℕ) → to ≡ w .to + k → Tries w (widen k (work-of w) (chosen-means (now (rules .entry)) target)) r)
         × Clean (r .work .rom) × (r .work .rom .len ≤ w .rom .len + most-target) ⌝ }
 {
-    if rules::is_told(target) {
+    if rule_choice::is_told(target) {
         let old = w.rom;
-        let made = rom::append(old, rules::chosen_text(rules, target));
+        let made = rom::append(old, rule_choice::chosen_text(rules, target));
         let work = Work {
             rom: made,
             from: w.from - 1,
@@ -178,7 +178,7 @@ fn is_framed(kind: u32, w: Work) -> bool
     let bytes = old.bytes;
     if w.from + 1 == w.to {
         if rom::all_in(&bytes[..len], rom::CONSONANTS) {
-            return classes::class_flag(kind, classes::PRE);
+            return table_classes::class_flag(kind, table_classes::PRE);
         }
         return false;
     }
@@ -206,7 +206,7 @@ fn around_by(rules: &[u8], ready: &[u32], line: &[u32], w: Work, k: usize) -> Tr
     let three = words::number_at(line, to + 3);
     let source = [vowel, EN_DASH, one, two, three];
     let len = k + 2;
-    let target = rules::romanization_by_first_rule(rules, ready, &source[..len]);
+    let target = rule_choice::romanization_by_first_rule(rules, ready, &source[..len]);
     put_behind(rules, target, w, end)
 }
 
@@ -246,8 +246,8 @@ fn is_before(kind: u32, r: Rom) -> bool
     requires { ⌜ Clean r ⌝ }
     ensures { λ b. ⌜ b ≡ before-by (kind / 8 % 128) (flagged (kind / 1024) 6) (text r) ⌝ }
 {
-    if classes::script(kind) == classes::THAI {
-        if classes::class_flag(kind, classes::PRE) {
+    if table_classes::script(kind) == table_classes::THAI {
+        if table_classes::class_flag(kind, table_classes::PRE) {
             return rom::is_in(rom::CONSONANTS, first(r) as u32);
         }
         return false;
@@ -269,7 +269,7 @@ pub fn before(rules: &[u8], ready: &[u32], line: &[u32], w: Work) -> Work
     let old = w.rom;
     if is_before(words::kind_at(line, from), old) {
         let vowel = words::number_at(line, from);
-        let target = rules::romanization_by_first_rule(rules, ready, &[vowel]);
+        let target = rule_choice::romanization_by_first_rule(rules, ready, &[vowel]);
         let tried = put_behind(rules, target, w, w.to);
         return tried.work;
     }
@@ -280,10 +280,10 @@ pub fn before(rules: &[u8], ready: &[u32], line: &[u32], w: Work) -> Work
 fn is_kana(script: u32) -> bool
     ensures { λ r. ⌜ r ≡ kana script ⌝ }
 {
-    if script == classes::HIRAGANA {
+    if script == table_classes::HIRAGANA {
         return true;
     }
-    script == classes::KATAKANA
+    script == table_classes::KATAKANA
 }
 
 // Does the character `c` lengthen a romanization: the long mark, after a kana and a vowel?
@@ -300,7 +300,7 @@ fn lengthens(c: u32, script: u32, r: Rom) -> bool
     false
 }
 
-// Without the space in front, where the character `c` before the span is one.
+// A romanization without the space in front, where the character `c` before the span is one.
 fn trim_front(r: Rom, c: u32) -> Rom
     requires { ⌜ Clean r ⌝ }
     ensures { λ q. ⌜ q ≡ rom (front-of c (text r)) ⌝ }
@@ -314,7 +314,7 @@ fn trim_front(r: Rom, c: u32) -> Rom
     r
 }
 
-// Without the one behind, where `there` is one after the span.
+// A romanization without the space behind, where `there` is one after the span.
 fn trim_back(r: Rom, there: bool) -> Rom
     requires { ⌜ Clean r ⌝ }
     ensures { λ q. ⌜ q ≡ rom (back-of there (text r)) ⌝ }
@@ -380,11 +380,11 @@ pub fn finish(line: &[u32], w: Work) -> Work
     let to = w.to;
     let at = to + 1;
     let old = w.rom;
-    let script = classes::script(words::kind_at(line, to));
+    let script = table_classes::script(words::kind_at(line, to));
     if lengthens(words::number_at(line, at), script, old) {
         return lengthen(w, at);
     }
-    if classes::class_flag(words::kind_at(line, at), classes::VIRAMA) {
+    if table_classes::class_flag(words::kind_at(line, at), table_classes::VIRAMA) {
         return Work {
             rom: old,
             from: w.from,

@@ -10,7 +10,7 @@ use native.Mathlib.Omega.{arith}
 use native.Mathlib.Decide.{decLt, ℕ-discrete}
 use lib.ListN.{length, drop, length-take, length-drop}
 use Rattle.base.specs.Pick.{pick}
-use Rattle.base.specs.Lists.{put, keep, is, maybe, same}
+use Rattle.base.specs.Lists.{put, keep, maybe, same}
 use Rattle.base.specs.Alls.{All-each, All}
 use Rattle.base.specs.Bools.{eqb-alike}
 use Rattle.base.specs.ListLaws.{map-uncons}

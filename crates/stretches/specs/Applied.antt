@@ -11,7 +11,7 @@ use lib.ListN.{length}
 use borrow.Author.Tests.{eq-eqb}
 use Rattle.base.specs.Lists.{keep, all, tail}
 use Rattle.base.specs.Alls.{All-getD, all-all}
-use Rattle.definition.specs.Notes.{note-rom, note-core, note-exp, note-single}
+use Rattle.definition.specs.Notes.{note-rom, note-core, note-exp, note-single, note-Zs}
 use Rattle.definition.specs.Texts.{Text, chars, the-space, o-ang, at}
 use Rattle.definition.specs.Edges.{Edge}
 use Rattle.definition.specs.Building.{single}
@@ -20,7 +20,7 @@ use Rattle.definition.specs.Call.{Inputs, tables, characters}
 use Rattle.definition.specs.Compute.{compute}
 use Rattle.definition.specs.Sample.{sample}
 use Rattle.definition.specs.Parts.{Accepts}
-use Rattle.stretches.specs.Demand.{spaceless, spaceless-if, spaceless-rule, Taken, over, Before, start, After, end, First, within, shift, Alone}
+use Rattle.stretches.specs.Demand.{spaceless, spaceless-if, spaceless-rule, Taken, has-row, space-edge, over, Before, start, After, end, First, within, shift, Alone}
 use Rattle.stretches.specs.Proved.{demand}
 
 -- U+0E2D only first, by computation
@@ -56,8 +56,8 @@ second-word = demand line line-taken .stretches (chars "कत ") (chars "क्
     (first-by (chars "क्त") refl)
 
 -- the space between them
-pub line-space : (n : ℕ) × (keep (over 2) (edges (tables line) (characters line)) ≡ single 2 n (chars " ") ∷ [])
-unfolding compute
+pub line-space : keep (over 2) (edges (tables line) (characters line)) ≡ single 2 note-Zs (chars " ") ∷ []
+unfolding compute has-row space-edge
 line-space = demand line line-taken .spaces 2 (omega arith) refl
 
 -- The edges of the second word in the line are those of the word alone, moved by 3

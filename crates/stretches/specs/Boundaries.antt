@@ -21,19 +21,19 @@ use Rattle.stretches.specs.Texts.{fits-inside}
 pub record See (st : Text) (a : ℕ) (W v : View) : Type 0 where
   pub letter : (P p : ℕ) → P ≡ a + p → p < length st → W .letter P ≡ v .letter p
   pub closed : (P p : ℕ) → P ≡ a + p → 0 < p → p ≤ length st → W .closed P ≡ v .closed p
-  pub behind : ((p : ℕ) → W .behind (a + p) ≡ v .behind p) ⊎ First st
+  pub behind : ((p : ℕ) → p ≤ length st → W .behind 0 (a + p) ≡ v .behind 0 p) ⊎ First st
 
 -- a view from the stretch's start, of what is seen on the whole
 unfoldable pub moved-view : ℕ → View → View
 moved-view a W = record {
   letter = λ p. W .letter (a + p);
   closed = λ p. W .closed (a + p);
-  behind = λ p. W .behind (a + p);
+  behind = λ s p. W .behind s (a + p);
 }
 
 pub see-moved : (st : Text) (a : ℕ) (W : View) → See st a W (moved-view a W)
 unfolding moved-view
-see-moved st a W = record { letter = λ P p i l. rw i; closed = λ P p i z l. rw i; behind = inl (λ p. refl) }
+see-moved st a W = record { letter = λ P p i l. rw i; closed = λ P p i z l. rw i; behind = inl (λ p l. refl) }
 
 module _ {L : Lexicon} (fair : Fair L) {T st : Text} {a : ℕ} (h : Stretch T st a) where
   pub word-end-inside : (P p : ℕ) → P ≡ a + p → p ≤ length st

@@ -5,14 +5,16 @@
 -- stretch as a whole text, same tables and language code, moved by its start."
 use mathlib.Core.Bool.{Bool, true, not, _&&_}
 use mathlib.Core.Path.{_≡_}
-use mathlib.Core.List.{[], _∷_, _++_, map}
+use mathlib.Core.List.{List, [], _∷_, _++_, map}
 use mathlib.Core.Option.{Option, none, some}
 use Prim.Native.Nat.{ℕ, _+_, _<_}
 use lib.Dec.{eqb, leb, ltb}
 use lib.ListN.{length}
-use Rattle.base.specs.Lists.{keep, all}
+use Rattle.base.specs.Pick.{pick}
+use Rattle.base.specs.Lists.{keep, any, all}
+use Rattle.definition.specs.Notes.{note-Zs, note-orig}
 use Rattle.definition.specs.Texts.{Text, the-space, o-ang, at}
-use Rattle.definition.specs.Tables.{Rule, Tables}
+use Rattle.definition.specs.Tables.{Rule, Class, Tables}
 use Rattle.definition.specs.Edges.{Edge}
 use Rattle.definition.specs.Building.{single}
 use Rattle.definition.specs.Paths.{edges, path, with-alternatives, alternatives, all-edges}
@@ -39,10 +41,18 @@ pub record Taken (i : Inputs) : Type 0 where
 unfoldable pub over : ℕ → Edge → Bool
 over q x = leb (x .from) q && ltb q (x .to)
 
+-- A space's own edge: over that character alone, its text one space. It is annotated 10, "Zs", where the class table has
+-- a row for U+0020, and 11, "orig", where it has none
+unfoldable pub has-row : List Class → ℕ → Bool
+has-row ks c = any (λ k. eqb (k .char) c) ks
+
+unfoldable pub space-edge : List Class → ℕ → Edge
+space-edge ks q = single q (pick (has-row ks the-space) note-Zs note-orig) (the-space ∷ [])
+
 -- Each space has its own single edge, and no other reaches over it
 abbrev pub Spaces : Inputs → Type 0
 Spaces i = (q : ℕ) → q < length (characters i) → at (characters i) q ≡ the-space
-    → (n : ℕ) × (keep (over q) (edges (tables i) (characters i)) ≡ single q n (the-space ∷ []) ∷ [])
+    → keep (over q) (edges (tables i) (characters i)) ≡ space-edge (tables i .classes) q ∷ []
 
 -- between spaces or text ends: what is before a stretch is nothing or ends in a space,
 -- what is after it is nothing or starts with one

@@ -3,7 +3,6 @@
 use mathlib.Core.Bool.{Bool, true, false}
 use mathlib.Core.Path.{_≡_, refl, sym, _∙_, subst}
 use mathlib.Core.List.{List, [], _∷_}
-use mathlib.Core.Logic.{_⊎_, inl, inr}
 use mathlib.Core.Option.{Option, none, some, Option·map}
 use Prim.Native.Nat.{ℕ, zero, suc, _+_, _≤_, _<_}
 use native.Mathlib.Omega.{arith}
@@ -21,7 +20,7 @@ use Rattle.definition.specs.Rules.{is-prefix}
 use Rattle.definition.specs.Building.{single, fallback-by, put-in, fallback-edge, span-edge, rise, build, fall}
 use Rattle.definition.specs.Growth.{Added, added-not, added-twice, added-new}
 use Rattle.definition.specs.Within.{prefix-bound}
-use Rattle.stretches.specs.Demand.{shift}
+use Rattle.stretches.specs.Demand.{has-row, space-edge, shift}
 use Rattle.stretches.specs.Given.{FairTables, Stretch, Span}
 use Rattle.stretches.specs.Windows.{window, Apart}
 use Rattle.stretches.specs.Boundaries.{see-moved}
@@ -104,15 +103,11 @@ module _ {D : Tables} (fair : FairTables D) (T : Text) (P : ℕ) (sp : at T P �
   unfolding build rise
   build-space S = rw (no-prefix (fair .lexicon) T P sp)
 
-  pub fallback-space : (v : View)
-      → (n : ℕ) × (fallback-edge (lexicon D) T v P ≡ ret (some (single P n (the-space ∷ []))))
-  unfolding fallback-edge fallback-by pick _>>=_ ret maybe
-  fallback-space v = go (fair .lexicon .blank .category)
+  pub fallback-space : (v : View) → fallback-edge (lexicon D) T v P ≡ ret (some (space-edge (D .classes) P))
+  unfolding fallback-edge fallback-by space-edge pick _>>=_ ret maybe
+  fallback-space v = go (has-row (D .classes) the-space) (fair .lexicon .row)
     where
-      c : ℕ
-      c = class (D .classes) the-space .category
-
-      go : (c ≡ category-Zs) ⊎ (c ≡ category-other)
-          → (n : ℕ) × (fallback-edge (lexicon D) T v P ≡ ret (some (single P n (the-space ∷ []))))
-      go (inl e) = (note-Zs, rw (sp, e))
-      go (inr e) = (note-orig, rw (sp, e, simple-space (fair .lexicon) T v P sp))
+      go : (b : Bool) → class (D .classes) the-space .category ≡ pick b category-Zs category-other
+          → fallback-edge (lexicon D) T v P ≡ ret (some (single P (pick b note-Zs note-orig) (the-space ∷ [])))
+      go true e = rw (sp, e)
+      go false e = rw (sp, e, simple-space (fair .lexicon) T v P sp)

@@ -1,5 +1,5 @@
 -- What the premises of demand 3 give, in the form that the proof takes.
-use mathlib.Core.Bool.{Bool, true, not, _&&_, true≢false}
+use mathlib.Core.Bool.{Bool, true, false, not, _&&_, _||_, true≢false}
 use mathlib.Core.Path.{_≡_, refl, sym, _∙_, ap}
 use mathlib.Core.List.{List, [], _∷_, _++_, append-assoc}
 use mathlib.Core.Option.{Option, none, some}
@@ -9,20 +9,22 @@ use native.Mathlib.Decide.{decLt}
 use lib.Dec.{eqb}
 use lib.ListN.{length, getD, length-append, List·getD-append, List·getD-eq-default}
 use lib.Seq.{getD-append-add, getD-append-seam}
-use borrow.Author.Tests.{leb-true, eq-eqb}
+use borrow.Author.Tests.{leb-true, eq-eqb, eqb-true}
+use Rattle.base.specs.Pick.{pick}
 use Rattle.base.specs.Bools.{and-left, and-right}
 use Rattle.base.specs.Lists.{keep, any}
 use Rattle.base.specs.Alls.{All, All-map, any-cong, keep-cong, Opt, all-all}
-use Rattle.definition.specs.Texts.{Text, the-space, at, prev}
-use Rattle.definition.specs.Tables.{Rule, Lexicon, Tables, lexicon}
+use Rattle.definition.specs.Texts.{Text, the-space, at, prev, latin}
+use Rattle.definition.specs.Tables.{Rule, Class, Lexicon, Tables, lexicon, category-other, category-Zs}
 use Rattle.definition.specs.Blocks.{small}
 use Rattle.definition.specs.VowelRows.{vowel-letters, vowel-of, vowel-right}
-use Rattle.definition.specs.Classes.{class}
+use Rattle.definition.specs.ClassRows.{class-right, class-by, class-of, classes-of}
+use Rattle.definition.specs.Classes.{plain, class}
 use Rattle.definition.specs.Call.{Inputs, tables-of, tables}
-use Rattle.definition.specs.Checked.{vowel-checked}
-use Rattle.definition.specs.Accepted.{vowels-all, accepted-of}
+use Rattle.definition.specs.Checked.{class-checked, vowel-checked}
+use Rattle.definition.specs.Accepted.{classes-all, vowels-all, accepted-of}
 use Rattle.definition.specs.Blank.{Blank, blank}
-use Rattle.stretches.specs.Demand.{spaceless, spaceless-if, spaceless-rule, Taken, Before, start, After, end}
+use Rattle.stretches.specs.Demand.{spaceless, spaceless-if, spaceless-rule, Taken, has-row, Before, start, After, end}
 
 -- No space in a text; in a rule's source and targets
 abbrev pub Ink : ℕ → Type 0
@@ -39,6 +41,7 @@ pub record SolidRule (r : Rule) : Type 0 where
 -- What is asked of rules and classes: the space is plain, no rule has one
 pub record Fair (L : Lexicon) : Type 0 where
   pub blank : Blank (class (L .classes) the-space)
+  pub row : class (L .classes) the-space .category ≡ pick (has-row (L .classes) the-space) category-Zs category-other
   pub rules : All SolidRule (L .rules)
 
 -- and of all tables: no vowel has one
@@ -86,6 +89,27 @@ solid-rule r e =
       end-target = solid-if (r .end-target) (t .2);
     }
 
+-- a row for U+0020 says that it is a space, and without a row it is of no category
+abbrev SpaceRow : Class → Type 0
+SpaceRow k = k .char ≡ the-space → k .category ≡ category-Zs
+
+space-checked : (low : ℕ) (s : List ℕ) → class-right low s ≡ true → SpaceRow (class-of s)
+unfolding class-of class-by
+space-checked low s e q = class-checked low s e .space q .0
+
+space-row : (ks : List Class) → All SpaceRow ks
+    → class ks the-space .category ≡ pick (has-row ks the-space) category-Zs category-other
+unfolding class plain latin pick has-row any
+space-row [] h = refl
+space-row (k ∷ ks) h = go (eqb (k .char) the-space) refl (space-row ks (h .1))
+  where
+    go : (b : Bool) → eqb (k .char) the-space ≡ b
+        → class ks the-space .category ≡ pick (has-row ks the-space) category-Zs category-other
+        → (elim b as (λ x. Class) [ true ↦ k | false ↦ class ks the-space ]) .category
+        ≡ pick (b || has-row ks the-space) category-Zs category-other
+    go true e r = h .0 (eqb-true (k .char) the-space e)
+    go false e r = r
+
 -- a vowel's letters are a to z
 solid-vowel : (low : ℕ) (s : List ℕ) → vowel-right low s ≡ true → Solid (vowel-of s .letters)
 unfolding vowel-of small
@@ -99,6 +123,7 @@ fair-tables i t =
     record {
       lexicon = record {
         blank = blank (i .classes) (a .classes);
+        row = space-row (classes-of (i .classes)) (classes-all SpaceRow space-checked (i .classes) (a .classes));
         rules = all-all SolidRule spaceless-rule solid-rule (tables i .rules) (t .no-space);
       };
       vowels = vowels-all (λ y. Solid (y .letters)) solid-vowel (i .vowels) (a .vowels);

@@ -1,7 +1,7 @@
 -- The lattice of the whole text, cut to the stretch, is the lattice of the stretch, moved.
 use mathlib.Core.Bool.{Bool, true, false}
 use mathlib.Core.Path.{_≡_, refl, sym, _∙_, ap, subst}
-use mathlib.Core.List.{List, [], _∷_}
+use mathlib.Core.List.{List, []}
 use mathlib.Core.Logic.{_⊎_, inl, inr, ⊎-elim}
 use mathlib.Core.Option.{Option, some}
 use Prim.Native.Nat.{ℕ, zero, suc, _+_, _-_, _≤_, _<_}
@@ -19,7 +19,7 @@ use Rattle.definition.specs.Building.{single, put-in, fallback-edge, span-edge,
 use Rattle.definition.specs.Blank.{blank-alpha}
 use Rattle.definition.specs.Growth.{Added, added-new, added-map}
 use Rattle.definition.specs.Within.{prefix-bound}
-use Rattle.stretches.specs.Demand.{First}
+use Rattle.stretches.specs.Demand.{space-edge, First}
 use Rattle.stretches.specs.Given.{FairTables, Stretch, Span, at-outside}
 use Rattle.stretches.specs.Windows.{window, window-zero}
 use Rattle.stretches.specs.Texts.{space-at-end, space-before-start, left-part, right-part}
@@ -83,21 +83,21 @@ module _ {D : Tables} (fair : FairTables D) {T st : Text} {a : ℕ} (h : Stretch
       → Rel a (length st) S s → Rel a (length st) (fall D T P S) s
   unfolding fall put-in ret
   fall-space P S s sp d r = pick-all (λ R. Rel a (length st) R s) (covered (S .0) P) {x = S} {y = put-in F S} r
-      (rel-outside (subst (λ f. Added (Outside a (length st)) (S .0) (add (S .0) ((f (S .1)) .0))) (sym (one .1)) own)
-      (ap (λ f. window a (length st) ((f (S .1)) .1)) (one .1)) r)
+      (rel-outside (subst (λ f. Added (Outside a (length st)) (S .0) (add (S .0) ((f (S .1)) .0))) (sym one) own)
+      (ap (λ f. window a (length st) ((f (S .1)) .1)) one) r)
     where
       F : List Edge → M (Option Edge)
       F es = fallback-edge (lexicon D) T (view (D .classes) es) P
 
-      one : (n : ℕ) × (F (S .0) ≡ ret (some (single P n (the-space ∷ []))))
+      one : F (S .0) ≡ ret (some (space-edge (D .classes) P))
       one = fallback-space fair T P sp (view (D .classes) (S .0))
 
-      far : (P + 1 ≤ a) ⊎ (a + length st ≤ P) → Outside a (length st) (single P (one .0) (the-space ∷ []))
-      far (inl q) = unfold single in left (omega arith) q (λ e. refl)
-      far (inr q) = unfold single in right (omega arith) q
+      far : (P + 1 ≤ a) ⊎ (a + length st ≤ P) → Outside a (length st) (space-edge (D .classes) P)
+      far (inl q) = unfold space-edge single in left (omega arith) q (λ e. refl)
+      far (inr q) = unfold space-edge single in right (omega arith) q
 
-      own : Added (Outside a (length st)) (S .0) (add (S .0) (some (single P (one .0) (the-space ∷ []))))
-      own = unfold add in added-new alike (S .0) (single P (one .0) (the-space ∷ [])) (far d)
+      own : Added (Outside a (length st)) (S .0) (add (S .0) (some (space-edge (D .classes) P)))
+      own = unfold add in added-new alike (S .0) (space-edge (D .classes) P) (far d)
 
   -- so at every position outside
   module _ (F : ℕ → State → State)

@@ -26,3 +26,14 @@ pub mod Spaces
 -- the theorem, and a use of it
 pub mod Proved
 pub mod Applied
+-- What a driver sees, from the line's call to its words' calls: the statement
+pub mod Driver
+-- the path along words and spaces
+pub mod Abutting
+pub mod Strings
+-- bytes cut at spaces; slots and room
+pub mod Cuts
+pub mod Rooms
+-- the theorem, and a use of it
+pub mod Driven
+pub mod Labels

@@ -18,7 +18,7 @@ use Rattle.stretches.specs.Lattice.{lattice-inside}
 use Rattle.stretches.specs.Path.{path-inside}
 use Rattle.stretches.specs.Alternatives.{listed-inside}
 use Rattle.stretches.specs.Order.{all-edges-inside}
-use Rattle.stretches.specs.Spaces.{space-edge}
+use Rattle.stretches.specs.Spaces.{own-edge}
 
 -- of a list in two parts, where the whole and the first part are known
 second-part : (q : Edge → Bool) (s : Edge → Edge) (P A p a : List Edge) {W w : List Edge} → W ≡ P ++ A → w ≡ p ++ a
@@ -61,7 +61,7 @@ module _ (i : Inputs) (taken : Taken i) where
 pub demand : (i : Inputs) → Taken i → Demand i
 unfolding edges
 demand i taken = record {
-  spaces = λ q l e. space-edge (fair-tables i taken) (characters i) q l e;
+  spaces = λ q l e. own-edge (fair-tables i taken) (characters i) q l e;
   stretches = λ x st y e b c first.
       let a = part-accepted i (taken .accepted) x st y e in
       (alone i taken x st y e b c first a, a);

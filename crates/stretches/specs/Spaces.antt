@@ -18,7 +18,7 @@ use Rattle.definition.specs.Texts.{Text, the-space, at}
 use Rattle.definition.specs.Tables.{Tables, lexicon}
 use Rattle.definition.specs.Edges.{Edge, starting, covered, new-in, alike, add, view, M, ret, State}
 use Rattle.definition.specs.Building.{single, put-in, each, fallback-edge, build, fall, lattice}
-use Rattle.stretches.specs.Demand.{over}
+use Rattle.stretches.specs.Demand.{over, space-edge}
 use Rattle.stretches.specs.Given.{FairTables}
 use Rattle.stretches.specs.Texts.{left-part, right-part}
 use Rattle.stretches.specs.Building.{Inside}
@@ -91,14 +91,20 @@ module _ {D : Tables} (fair : FairTables D) (T : Text) (q : ℕ) (l : q < length
 
   -- The step at the space: where no edge reaches over it, the fallback adds its own
   own : (S : State) → keep (over q) (S .0) ≡ []
-      → (n : ℕ) × (keep (over q) (fall D T q S .0) ≡ single q n (the-space ∷ []) ∷ [])
-  unfolding fall put-in add new-in ret pick keep single
-  own S e = (one .0, ap (λ b. keep (over q) (pick b S (put-in F S) .0)) uncovered ∙ added)
+      → keep (over q) (fall D T q S .0) ≡ space-edge (D .classes) q ∷ []
+  unfolding fall put-in add new-in ret pick keep
+  own S e = ap (λ b. keep (over q) (pick b S (put-in F S) .0)) uncovered ∙ added
     where
       F : List Edge → M (Option Edge)
       F es = fallback-edge (lexicon D) T (view (D .classes) es) q
 
-      one : (n : ℕ) × (F (S .0) ≡ ret (some (single q n (the-space ∷ []))))
+      x : Edge
+      x = space-edge (D .classes) q
+
+      here : (x .from ≡ q) × (x .to ≡ q + 1)
+      here = unfold space-edge single in (refl, refl)
+
+      one : F (S .0) ≡ ret (some x)
       one = fallback-space fair T q sp (view (D .classes) (S .0))
 
       -- what starts here does not end at the next position
@@ -112,20 +118,21 @@ module _ {D : Tables} (fair : FairTables D) (T : Text) (q : ℕ) (l : q < length
       uncovered : covered (S .0) q ≡ false
       uncovered = unfold covered in none-here (λ x. eqb (x .to) (q + 1)) (λ x z. ne-eqb (x .to) (q + 1) z)
 
-      unlike : any (alike (single q (one .0) (the-space ∷ []))) (starting (S .0) q) ≡ false
-      unlike = unfold alike single in none-here (alike (single q (one .0) (the-space ∷ [])))
-          (λ x z. rw (ne-eqb (q + 1) (x .to) (λ y. z (sym y))))
+      unlike : any (alike x) (starting (S .0) (x .from)) ≡ false
+      unlike = unfold alike in rw (here .0) (none-here (alike x)
+          (λ y z. rw (here .1, ne-eqb (q + 1) (y .to) (λ w. z (sym w)))))
 
-      added : keep (over q) (add (S .0) ((F (S .0) (S .1)) .0)) ≡ single q (one .0) (the-space ∷ []) ∷ []
-      added = ap (λ f. keep (over q) (add (S .0) ((f (S .1)) .0))) (one .1)
-          ∙ ap (λ b. keep (over q) (pick b (S .0) (S .0 ++ single q (one .0) (the-space ∷ []) ∷ []))) unlike
-          ∙ keep-append (over q) (S .0) (single q (one .0) (the-space ∷ []) ∷ [])
-          ∙ rw (e, over-own q (single q (one .0) (the-space ∷ [])) refl refl)
+      added : keep (over q) (add (S .0) ((F (S .0) (S .1)) .0)) ≡ x ∷ []
+      added = ap (λ f. keep (over q) (add (S .0) ((f (S .1)) .0))) one
+          ∙ ap (λ b. keep (over q) (pick b (S .0) (S .0 ++ x ∷ []))) unlike
+          ∙ keep-append (over q) (S .0) (x ∷ [])
+          ∙ rw (e, over-own q x (here .0) (here .1))
 
   -- Both passes: after the first no edge reaches over the space, and the second comes to its step so
-  pub space-edge : (n : ℕ) × (keep (over q) (lattice D T .0) ≡ single q n (the-space ∷ []) ∷ [])
+  pub own-edge : keep (over q) (lattice D T .0) ≡ space-edge (D .classes) q ∷ []
   unfolding lattice keep
-  space-edge = (here .0, over-all (fall D T) (fall-stays fair T) built ∙ here .1)
+  own-edge = over-all (fall D T) (fall-stays fair T) built
+      ∙ own (each (fall D T) q 0 built) (over-before (fall D T) (fall-stays fair T) built ∙ none-built)
     where
       unbuilt : State
       unbuilt = ([], replicate (length T) 0)
@@ -137,6 +144,3 @@ module _ {D : Tables} (fair : FairTables D) (T : Text) (q : ℕ) (l : q < length
       none-built = over-all (build D T) (build-stays fair T) unbuilt
           ∙ ap (λ R. keep (over q) (R .0)) (build-space fair T q sp (each (build D T) q 0 unbuilt))
           ∙ over-before (build D T) (build-stays fair T) unbuilt
-
-      here : (n : ℕ) × (keep (over q) (fall D T q (each (fall D T) q 0 built) .0) ≡ single q n (the-space ∷ []) ∷ [])
-      here = own (each (fall D T) q 0 built) (over-before (fall D T) (fall-stays fair T) built ∙ none-built)

@@ -144,7 +144,7 @@ module _ {L : Lexicon} (fair : Fair L) {T st : Text} {a : ℕ} (h : Stretch T st
     unfolding between move
     between-inside p w y o =
         rw (h .back (a + w .from) (w .from) refl (omega arith), h .look (a + w .to) (w .to) refl (y .fit))
-        (⊎-elim (λ k. rw (k (w .from))) (λ first. rw (no-thai (first p o))) (g .behind))
+        (⊎-elim (λ k. rw (k (w .from) (omega arith))) (λ first. rw (no-thai (first p o))) (g .behind))
       where
         no-thai : p ≡ 0 → eqb (script (L .classes) (prev st (w .from))) script-thai ≡ false
         no-thai e =

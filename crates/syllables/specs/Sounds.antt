@@ -7,7 +7,7 @@ use Rattle.base.specs.Pick.{pick}
 use Rattle.base.specs.Lists.{head, is}
 use Rattle.definition.specs.Texts.{Text, among, vowels, lower}
 use Rattle.definition.specs.Syllables.{opens}
-use Rattle.rules.specs.Chosen.{or-nothing}
+use Rattle.rule_choice.specs.Chosen.{or-nothing}
 
 -- a byte past the end is 0, which begins no text
 pub first-opens : (w : Text) → vowels (lower (getD w 0 0)) ≡ is (λ c. vowels (lower c)) (head w)

@@ -9,10 +9,10 @@ ghost use Rattle.definition.specs.Texts.{vowels, lower};
 ghost use Rattle.definition.specs.Syllables.{opens, next-rom, o-ang-test, vowel-test, syllable-end, full};
 ghost use Rattle.words.specs.Given.{size-in, kind-in, Prepared};
 ghost use Rattle.words.specs.Looks.{Looked};
-ghost use Rattle.rules.specs.Lent.{Answers};
-ghost use Rattle.rules.specs.Chosen.{said, Said};
-use rules::Choice;
-use rules::Chosen;
+ghost use Rattle.rule_choice.specs.Lent.{Answers};
+ghost use Rattle.rule_choice.specs.Chosen.{chosen-means, Said};
+use rule_choice::Choice;
+use rule_choice::Chosen;
 use words::Look;
 use words::Span;
 
@@ -40,12 +40,12 @@ fn starts_with_vowel(text: &[u8]) -> bool
     rom::is_in(rom::VOWELS, lower(base::byte(text, 0)))
 }
 
-// Does what a search answered?
+// Does the text that a search answered start with a vowel?
 fn opens(rules: &[u8], rom: Chosen) -> bool
     requires { ⌜ Said (now rules) rom ⌝ }
-    ensures { λ r. ⌜ r ≡ opens (said (now (rules .entry)) rom) ⌝ }
+    ensures { λ r. ⌜ r ≡ opens (chosen-means (now (rules .entry)) rom) ⌝ }
 {
-    starts_with_vowel(rules::chosen_text(rules, rom))
+    starts_with_vowel(rule_choice::chosen_text(rules, rom))
 }
 
 // One tone mark is skipped.
@@ -53,7 +53,7 @@ fn past_tone(line: &[u32], p: usize) -> usize
     requires { ⌜ p + 1 ≤ length (now line) / 2 ⌝ }
     ensures { λ r. ⌜ r ≡ pick (flagged (kind-in (now (line .entry)) (p + 1) / 1024) 5) (p + 1) p ⌝ }
 {
-    if classes::class_flag(words::kind_at(line, p + 1), classes::TONE) {
+    if table_classes::class_flag(words::kind_at(line, p + 1), table_classes::TONE) {
         return p + 1;
     }
     p
@@ -70,10 +70,10 @@ fn next_rom(
 ) -> Chosen
     requires { ⌜ Prepared (now rules) (now ready) × (q ≤ size-in (now line) + 1) ⌝ }
     ensures { λ r. ⌜ Answers (now (rules .entry)) (now (ready .entry)) (now (code .entry)) (now (line .entry)) (now (places .entry)) (now (places .exit))
-        (λ L t v. next-rom L t v q) (said (now (rules .entry)) r) × Said (now (rules .entry)) r ⌝ }
+        (λ L t v. next-rom L t v q) (chosen-means (now (rules .entry)) r) × Said (now (rules .entry)) r ⌝ }
 {
     let second = q + 2;
-    let two = rules::simple_top_romanization_candidate_for_span(
+    let two = rule_choice::simple_top_romanization_candidate_for_span(
         rules,
         ready,
         code,
@@ -84,11 +84,11 @@ fn next_rom(
             to: second,
         },
     );
-    if rules::is_told(two) {
+    if rule_choice::is_told(two) {
         return two;
     }
     let first = q + 1;
-    rules::simple_top_romanization_candidate_for_span(
+    rule_choice::simple_top_romanization_candidate_for_span(
         rules,
         ready,
         code,
@@ -114,7 +114,7 @@ fn o_ang_test(
     if words::number_at(line, q + 1) == O_ANG {
         let from = q + 1;
         let to = q + 2;
-        let rom = rules::simple_top_romanization_candidate_for_span(
+        let rom = rule_choice::simple_top_romanization_candidate_for_span(
             rules,
             ready,
             code,
@@ -163,16 +163,16 @@ pub fn is_at_end_of_syllable(
     // the character two back from `p`
     let back = words::kind_at(line, p - 1);
     if words::is_alpha_kind(back) {
-        if classes::class_flag(back, classes::PRE) {
+        if table_classes::class_flag(back, table_classes::PRE) {
             return false;
         }
         let q = past_tone(line, p);
         let next = words::kind_at(line, q + 1);
-        if classes::class_flag(next, classes::PRE) {
+        if table_classes::class_flag(next, table_classes::PRE) {
             return true;
         }
         if words::is_alpha_kind(next) {
-            if places::is_closed(places, p - 1) {
+            if edge_places::is_closed(places, p - 1) {
                 return false;
             }
             return vowel_test(rules, ready, code, line, places, q);
@@ -194,17 +194,17 @@ pub fn top_romanization_candidate_for_span(
 ) -> Chosen
     requires { ⌜ Prepared (now rules) (now ready) × Looked (now rules) (now line) look ⌝ }
     ensures { λ r. ⌜ Answers (now (rules .entry)) (now (ready .entry)) (now (code .entry)) (now (line .entry)) (now (places .entry)) (now (places .exit))
-        (λ L t v. full L t v (look .from) (look .to)) (said (now (rules .entry)) r) × Said (now (rules .entry)) r ⌝ }
+        (λ L t v. full L t v (look .from) (look .to)) (chosen-means (now (rules .entry)) r) × Said (now (rules .entry)) r ⌝ }
 {
-    let best = rules::top_rule(rules, ready, code, line, places, look);
+    let best = rule_choice::top_rule(rules, ready, code, line, places, look);
     let Choice::Matched(row) = best else {
         return Chosen::Untold;
     };
-    if rulerow::flag(rules, row, rulerow::END_TARGET_BIT) {
+    if rule_row::flag(rules, row, rule_row::END_TARGET_BIT) {
         if is_at_end_of_syllable(rules, ready, code, line, places, look.to) {
             return Chosen::EndTarget(row);
         }
-        return rules::target_of(rules, best);
+        return rule_choice::target_of(rules, best);
     }
-    rules::target_of(rules, best)
+    rule_choice::target_of(rules, best)
 }

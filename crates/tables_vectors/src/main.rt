@@ -1,8 +1,12 @@
 // Runs the checks of the three tables on the vectors of standard input, which tests/tables/vectors.py writes, and counts
 // those whose answer is another than the one given.
+ghost use mathlib.Core.Path.{_≡_};
 ghost use Prim.Native.Nat.{_+_, _<_, _≤_};
-ghost use lib.ListN.{length};
-use blocks::TableRead;
+ghost use lib.ListN.{length, getD, drop};
+ghost use Rattle.base.specs.Big.{be3};
+ghost use Rattle.table_blocks.specs.Faults.{table-means};
+ghost use Rattle.tables_vectors.specs.Given.{fault-of, is-given, is-right};
+use table_blocks::TableRead;
 
 // A vector that was run: how many bytes it takes, and whether all was as given.
 struct Ran {
@@ -10,7 +14,7 @@ struct Ran {
     right: bool,
 }
 
-// How many were run, and how many were not right.
+// How many vectors were run, and how many were not right.
 struct Tally {
     vectors: u64,
     differ: u64,
@@ -18,41 +22,35 @@ struct Tally {
 
 // A byte of the vectors, and 0 past their end.
 fn byte(input: &[u8], i: usize) -> usize
-    ensures { λ r. ⌜ r < 256 ⌝ }
+    ensures { λ r. ⌜ (r ≡ getD (now (input .entry)) i 0) × (r < 256) ⌝ }
 {
-    if i < input.len() {
-        return wide(input[i]);
-    }
-    0
-}
-
-fn wide(x: u8) -> usize
-    ensures { λ r. ⌜ r < 256 ⌝ }
-{
-    x as usize
+    base::byte(input, i) as usize
 }
 
 // A length or a place in three bytes.
 fn three(input: &[u8], at: usize) -> usize
-    requires { ⌜ at < 0x100000000 ⌝ }
-    ensures { λ r. ⌜ r < 0x1000000 ⌝ }
+    ensures { λ r. ⌜ (r ≡ be3 (drop at (now (input .entry))) 0) × (r < 0x1000000) ⌝ }
 {
-    byte(input, at) * 65536 + byte(input, at + 1) * 256 + byte(input, at + 2)
+    base::three(input, at, 0) as usize
 }
 
 // What the check says of a table: 0 rules, 1 classes, 2 vowels.
-fn checked(kind: usize, table: &[u8]) -> TableRead {
+fn checked(kind: usize, table: &[u8]) -> TableRead
+    ensures { λ r. ⌜ table-means r ≡ fault-of kind (now (table .entry)) ⌝ }
+{
     if kind == 0 {
-        return rulecheck::check_rules(table);
+        return rule_table_check::check_rules(table);
     }
     if kind == 1 {
-        return classes::check_classes(table);
+        return table_classes::check_classes(table);
     }
-    vowelrows::check_vowels(table)
+    table_vowels::check_vowels(table)
 }
 
 // Is the answer the one given: 0 and no place, or 1 and the place of the fault?
-fn is_answer(read: TableRead, fault: usize, place: usize) -> bool {
+fn is_answer(read: TableRead, fault: usize, place: usize) -> bool
+    ensures { λ r. ⌜ r ≡ is-given (table-means read) fault place ⌝ }
+{
     match read {
         TableRead::Valid => {
             if fault == 0 {
@@ -72,12 +70,13 @@ fn is_answer(read: TableRead, fault: usize, place: usize) -> bool {
 // The answer of the table at `at`, which is `len` bytes long and whose answer stands behind it. A fourth kind has none.
 fn is_right(input: &[u8], kind: usize, at: usize, len: usize) -> bool
     requires { ⌜ (at + len ≤ length (now input)) × (at < 0x10000000) × (len < 0x10000000) ⌝ }
+    ensures { λ r. ⌜ r ≡ is-right (now (input .entry)) kind at len ⌝ }
 {
     if 2 < kind {
         return false;
     }
+    let read = checked(kind, lent_bytes::part(input, at, len));
     let end = at + len;
-    let read = checked(kind, &input[at..end]);
     is_answer(read, byte(input, end), three(input, end + 1))
 }
 

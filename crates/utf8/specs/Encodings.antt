@@ -17,7 +17,7 @@ use Rattle.base.specs.ListLaws.{same-refl, same-true}
 use Rattle.base.specs.Alls.{All, All-map, All-right}
 use Rattle.definition.specs.Texts.{Text, last-is, without-last}
 use Rattle.definition.specs.Utf8.{char, scalar, six, read, decoded, encode, encoded}
-use Rattle.definition.specs.Roundtrip.{read-encode, decoded-encoded}
+use Rattle.definition.specs.Roundtrip.{read-encode, decoded-encoded, encoded-append}
 use Rattle.definition.specs.Shorts.{Low, encoded-low}
 use Rattle.utf8.specs.Sixes.{six-low, six-own, six-high}
 
@@ -68,11 +68,6 @@ ends w = go (eq-nil-or-concat w)
     go (inr k) = inr (k .0, k .1, k .2 ∙ concat-eq-append (k .0) (k .1))
 
 -- and the bytes of that one stand behind those of the others
-pub encoded-append : (u w : Text) → encoded (u ++ w) ≡ encoded u ++ encoded w
-unfolding encoded
-encoded-append [] w = refl
-encoded-append (d ∷ u) w = ap (λ l. encode d ++ l) (encoded-append u w) ∙ sym (append-assoc (encode d) (encoded u) (encoded w))
-
 encoded-end : (u : Text) (c : ℕ) → encoded (u ++ c ∷ []) ≡ encoded u ++ encode c
 unfolding encoded
 encoded-end u c = encoded-append u (c ∷ []) ∙ ap (λ l. encoded u ++ l) (append-nil (encode c))

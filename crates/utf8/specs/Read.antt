@@ -1,5 +1,5 @@
 -- What the answers of this crate's functions say, in the definition's terms.
-use mathlib.Core.Bool.{Bool, true, false, not}
+use mathlib.Core.Bool.{Bool, true, false}
 use mathlib.Core.List.{List}
 use mathlib.Core.Path.{_≡_, refl, sym, ap, _∙_}
 use mathlib.Core.Option.{Option, none, some}
@@ -9,14 +9,11 @@ use lib.ListN.{length}
 use native.Mathlib.Omega.{arith}
 use borrow.Author.Tests.{ltb-false}
 use Rattle.base.specs.Pick.{pick}
-use Rattle.base.specs.Lists.{or-else}
+use Rattle.base.specs.Lists.{or-else, first-of}
 use Rattle.definition.specs.Limits.{most-characters}
 use Rattle.definition.specs.Utf8.{Read, char, bad, bad-sequence, decoded}
-use Rattle.definition.specs.Capacity.{Refusal, refuse}
-use Rattle.definition.specs.RuleRows.{rule-fault}
-use Rattle.definition.specs.ClassRows.{class-fault}
-use Rattle.definition.specs.VowelRows.{vowel-fault}
-use Rattle.definition.specs.Call.{Inputs, characters, code-right, first-left-out, when, placed, refusal}
+use Rattle.definition.specs.Refusals.{Refusal, refuse, when, placed, refused-utf8, refused-too-long, refused-left-out}
+use Rattle.definition.specs.Call.{text-refusal}
 use Rattle.utf8.specs.declared.CharRead.{CharRead}
 use Rattle.utf8.specs.declared.CharRead.the-variants.{Char, Bad}
 use Rattle.utf8.specs.declared.Decoded.{Decoded}
@@ -27,14 +24,14 @@ use Rattle.utf8.specs.declared.TextRead.{TextRead}
 use Rattle.utf8.specs.declared.TextRead.the-variants.{Characters as Text, NotUtf8, TooLong, LeftOut}
 
 -- a sequence
-unfoldable pub told : CharRead → Read
-told (Char c n) = char c n
-told Bad = bad
+unfoldable pub char-means : CharRead → Read
+char-means (Char c n) = char c n
+char-means Bad = bad
 
 -- a place
-unfoldable pub place : Found → Option ℕ
-place (At p) = some p
-place Nothing = none
+unfoldable pub found-means : Found → Option ℕ
+found-means (At p) = some p
+found-means Nothing = none
 
 -- the answer for a text: the offset of its first bad sequence, or how many characters it has
 unfoldable pub answer : Option ℕ → ℕ → Decoded
@@ -64,42 +61,25 @@ pub answered-good : (s : List ℕ) (n : ℕ) → answered s ≡ Characters n
 unfolding answered
 answered-good s n e = good-answer (bad-sequence s) (length (decoded s)) n e
 
--- the refusal of a text: 6, 7 or 8
-unfoldable pub refused : TextRead → Option Refusal
-refused (Text n) = none
-refused (NotUtf8 p) = some (refuse 6 p)
-refused TooLong = some (refuse 7 most-characters)
-refused (LeftOut p) = some (refuse 8 p)
-
--- these three in the definition's order
-unfoldable pub text-refusal : List ℕ → Option Refusal
-text-refusal s =
-    or-else (placed 6 (bad-sequence s))
-    (or-else (when (ltb most-characters (length (decoded s))) 7 most-characters)
-    (placed 8 (first-left-out 0 (decoded s))))
-
--- which are the last of a call's
-pub last-refusals : (i : Inputs)
-    → refusal i ≡ or-else (when (ltb 3 (i .mode)) 1 0)
-    (or-else (placed 2 (rule-fault (i .rules)))
-    (or-else (placed 3 (class-fault (i .classes)))
-    (or-else (placed 4 (vowel-fault (i .vowels)))
-    (or-else (when (not (code-right (i .code))) 5 0) (text-refusal (i .text))))))
-unfolding refusal characters text-refusal
-last-refusals i = refl
+-- the refusal of a text
+unfoldable pub text-means : TextRead → Option Refusal
+text-means (Text n) = none
+text-means (NotUtf8 p) = some (refuse refused-utf8 p)
+text-means TooLong = some (refuse refused-too-long most-characters)
+text-means (LeftOut p) = some (refuse refused-left-out p)
 
 -- a text that is not refused is not too long
-few-by : (o q : Option Refusal) (b : Bool) (k : ℕ) → or-else o (or-else (when b 7 k) q) ≡ none → b ≡ false
+few-by : (o q : Option Refusal) (b : Bool) (n k : ℕ) → or-else o (or-else (when b n k) q) ≡ none → b ≡ false
 unfolding when pick
-few-by none q true k e = absurd (let z : _≡_ {A = ℕ} 0 1 = cc in omega arith)
-few-by none q false k e = refl
-few-by (some x) q b k e = absurd (let z : _≡_ {A = ℕ} 0 1 = cc in omega arith)
+few-by none q true n k e = absurd (let z : _≡_ {A = ℕ} 0 1 = cc in omega arith)
+few-by none q false n k e = refl
+few-by (some x) q b n k e = absurd (let z : _≡_ {A = ℕ} 0 1 = cc in omega arith)
 
 pub few-characters : (s : List ℕ) → text-refusal s ≡ none → length (decoded s) ≤ most-characters
-unfolding text-refusal
+unfolding text-refusal first-of
 few-characters s e =
-    let h = ltb-false most-characters (length (decoded s)) (few-by (placed 6 (bad-sequence s)) _ _ _ e) in omega arith
+    let h = ltb-false most-characters (length (decoded s)) (few-by (placed refused-utf8 (bad-sequence s)) _ _ _ _ e) in omega arith
 
-pub few-read : (s : List ℕ) (r : TextRead) (n : ℕ) → r ≡ Text n → refused r ≡ text-refusal s → length (decoded s) ≤ most-characters
-unfolding refused
-few-read s r n e q = few-characters s (sym q ∙ ap refused e)
+pub few-read : (s : List ℕ) (r : TextRead) (n : ℕ) → r ≡ Text n → text-means r ≡ text-refusal s → length (decoded s) ≤ most-characters
+unfolding text-means
+few-read s r n e q = few-characters s (sym q ∙ ap text-means e)

@@ -4,8 +4,8 @@ ghost use Prim.Native.Nat.{ℕ, _+_, _<_, _≤_};
 ghost use lib.ListN.{length, take, drop, set};
 ghost use Rattle.definition.specs.Limits.{most-characters};
 ghost use Rattle.definition.specs.Utf8.{six, read, decoded, encode, sequence, checked};
-ghost use Rattle.definition.specs.Call.{left-out, first-left-out};
-ghost use Rattle.utf8.specs.Read.{told, place, answered, refused, text-refusal};
+ghost use Rattle.definition.specs.Call.{left-out, first-left-out, text-refusal};
+ghost use Rattle.utf8.specs.Read.{char-means, found-means, answered, text-means};
 ghost use Rattle.utf8.specs.Puts.{puts};
 ghost use Rattle.utf8.specs.Lines.{spaced};
 
@@ -61,7 +61,7 @@ pub fn six(b: u32) -> u32
 
 // A character of `size` bytes: none that fewer could hold, whose lowest is `low`, and a scalar value.
 fn checked(low: u32, size: usize, v: u32) -> CharRead
-    ensures { λ r. ⌜ told r ≡ checked low size v ⌝ }
+    ensures { λ r. ⌜ char-means r ≡ checked low size v ⌝ }
 {
     if v < low {
         return CharRead::Bad;
@@ -81,7 +81,7 @@ fn checked(low: u32, size: usize, v: u32) -> CharRead
 // A sequence by its first byte, and the six bits of the three after it.
 fn sequence(b: u32, x: u32, y: u32, z: u32) -> CharRead
     requires { ⌜ b < 256 ⌝ }
-    ensures { λ r. ⌜ told r ≡ sequence b x y z ⌝ }
+    ensures { λ r. ⌜ char-means r ≡ sequence b x y z ⌝ }
 {
     if b < 128 {
         return CharRead::Char { value: b, size: 1 };
@@ -113,7 +113,7 @@ fn sequence(b: u32, x: u32, y: u32, z: u32) -> CharRead
 // The sequence that starts at `at`.
 pub fn read_char(text: &[u8], at: usize) -> CharRead
     requires { ⌜ at < length (now text) ⌝ }
-    ensures { λ r. ⌜ told r ≡ read (drop at (now (text .entry))) ⌝ }
+    ensures { λ r. ⌜ char-means r ≡ read (drop at (now (text .entry))) ⌝ }
 {
     // past the end a byte is 0, which is no continuation byte, so the length is not asked
     let b = base::byte(text, at);
@@ -187,7 +187,7 @@ pub fn encode(c: u32) -> Encoded
     }
 }
 
-// How many they are.
+// How many bytes a character has.
 pub fn encoded_len(c: u32) -> usize
     ensures { λ r. ⌜ (r ≡ length (encode c)) × (r ≤ 4) ⌝ }
 {
@@ -225,9 +225,9 @@ pub fn left_out(c: u32) -> bool
     c <= 0xD7A3
 }
 
-// The first of them.
+// Where the first character stands that is left out.
 pub fn first_left_out(chars: &[u32]) -> Found
-    ensures { λ r. ⌜ place r ≡ first-left-out 0 (now (chars .entry)) ⌝ }
+    ensures { λ r. ⌜ found-means r ≡ first-left-out 0 (now (chars .entry)) ⌝ }
 {
     let mut i = 0;
     while i < chars.len() {
@@ -239,10 +239,10 @@ pub fn first_left_out(chars: &[u32]) -> Found
     Found::Nothing
 }
 
-// What a call needs of its text: the characters, or the first of the refusals 6, 7 and 8.
+// What a call needs of its text: the characters, or its refusal.
 pub fn read_text(text: &[u8], chars: &mut [u32]) -> TextRead
     requires { ⌜ length (now chars) ≡ most-characters ⌝ }
-    ensures refusal { λ r. ⌜ refused r ≡ text-refusal (now (text .entry)) ⌝ }
+    ensures refusal { λ r. ⌜ text-means r ≡ text-refusal (now (text .entry)) ⌝ }
     ensures count { λ r. ⌜ ((n : ℕ) → r ≡ TextRead.Characters n → n ≡ length (decoded (now (text .entry)))) ⌝ }
     ensures room { λ _. ⌜ now (chars .exit) ≡ puts 0 (decoded (now (text .entry))) (now (chars .entry)) ⌝ }
 {
@@ -266,11 +266,11 @@ pub fn read_text(text: &[u8], chars: &mut [u32]) -> TextRead
     }
 }
 
-// The same, with the text between spaces: one before it and two after it, so that a reader need not ask for its ends. Of
+// What a call needs of its text, with the text between spaces: one before it and two after it, so that a reader need not ask for its ends. Of
 // a text that is refused nothing is said of the line.
 pub fn read_line(text: &[u8], line: &mut [u32]) -> TextRead
     requires { ⌜ most-characters + 3 ≤ length (now line) ⌝ }
-    ensures refusal { λ r. ⌜ refused r ≡ text-refusal (now (text .entry)) ⌝ }
+    ensures refusal { λ r. ⌜ text-means r ≡ text-refusal (now (text .entry)) ⌝ }
     ensures count { λ r. ⌜ ((n : ℕ) → r ≡ TextRead.Characters n → n ≡ length (decoded (now (text .entry)))) ⌝ }
     ensures line { λ r. ⌜ ((n : ℕ) → r ≡ TextRead.Characters n → take (n + 3) (now (line .exit)) ≡ spaced (decoded (now (text .entry)))) ⌝ }
 {

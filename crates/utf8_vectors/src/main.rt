@@ -1,7 +1,10 @@
 // Runs utf8::decode on the vectors of standard input, which tests/utf8/vectors.py writes, and counts those whose answer
 // is another than the one given.
+ghost use mathlib.Core.Path.{_≡_};
 ghost use Prim.Native.Nat.{_+_, _<_, _≤_};
-ghost use lib.ListN.{length};
+ghost use lib.ListN.{length, getD, drop};
+ghost use Rattle.base.specs.Big.{be3};
+ghost use Rattle.utf8_vectors.specs.Given.{is-given, is-place, are-places, is-right};
 use utf8::Decoded;
 
 // What stands in `chars` where no character was put.
@@ -13,7 +16,7 @@ struct Ran {
     right: bool,
 }
 
-// How many were run, and how many were not right.
+// How many vectors were run, and how many were not right.
 struct Tally {
     vectors: u64,
     differ: u64,
@@ -21,29 +24,22 @@ struct Tally {
 
 // A byte of the vectors, and 0 past their end.
 fn byte(input: &[u8], i: usize) -> usize
-    ensures { λ r. ⌜ r < 256 ⌝ }
+    ensures { λ r. ⌜ (r ≡ getD (now (input .entry)) i 0) × (r < 256) ⌝ }
 {
-    if i < input.len() {
-        return wide(input[i]);
-    }
-    0
-}
-
-fn wide(x: u8) -> usize
-    ensures { λ r. ⌜ r < 256 ⌝ }
-{
-    x as usize
+    base::byte(input, i) as usize
 }
 
 // A character in three bytes.
 fn character(input: &[u8], at: usize) -> usize
-    requires { ⌜ at < 0x100000000 ⌝ }
+    ensures { λ r. ⌜ r ≡ be3 (drop at (now (input .entry))) 0 ⌝ }
 {
-    byte(input, at) * 65536 + byte(input, at + 1) * 256 + byte(input, at + 2)
+    base::three(input, at, 0) as usize
 }
 
 // Is the answer the one given: 0 and the number of characters, or 1 and the offset of the bad sequence?
-fn is_answer(d: Decoded, kind: usize, number: usize) -> bool {
+fn is_answer(d: Decoded, kind: usize, number: usize) -> bool
+    ensures { λ r. ⌜ r ≡ is-given d kind number ⌝ }
+{
     match d {
         Decoded::Characters(n) => {
             if kind == 0 {
@@ -63,6 +59,7 @@ fn is_answer(d: Decoded, kind: usize, number: usize) -> bool {
 // Does a place hold the character given for it, or nothing where none is given?
 fn is_place(input: &[u8], at: usize, count: usize, i: usize, c: u32) -> bool
     requires { ⌜ (at < 0x80000000) × (i < 0x10000000) ⌝ }
+    ensures { λ r. ⌜ r ≡ is-place (now (input .entry)) at count i c ⌝ }
 {
     if i < count {
         return c as usize == character(input, at + 3 * i);
@@ -73,13 +70,15 @@ fn is_place(input: &[u8], at: usize, count: usize, i: usize, c: u32) -> bool
 // Are these the characters given, and nothing after them?
 fn are_chars(input: &[u8], at: usize, count: usize, chars: &[u32]) -> bool
     requires { ⌜ (at < 0x80000000) × (length (now chars) < 0x10000000) ⌝ }
+    ensures { λ r. ⌜ r ≡ are-places (now (input .entry)) at count 0 (now (chars .entry)) ⌝ }
 {
     let mut i = 0;
     while i < chars.len() {
-        if !is_place(input, at, count, i, chars[i]) {
+        if is_place(input, at, count, i, chars[i]) {
+            i += 1;
+        } else {
             return false;
         }
-        i += 1;
     }
     true
 }
@@ -87,14 +86,15 @@ fn are_chars(input: &[u8], at: usize, count: usize, chars: &[u32]) -> bool
 // The answer and the characters of the text at `at`, which is `len` bytes long and whose answer stands behind it.
 fn is_right(input: &[u8], at: usize, len: usize) -> bool
     requires { ⌜ (at + len ≤ length (now input)) × (at < 0x10000000) × (len < 256) ⌝ }
+    ensures { λ r. ⌜ r ≡ is-right (now (input .entry)) at len ⌝ }
 {
-    let end = at + len;
     let mut chars = [EMPTY; 16];
-    let d = utf8::decode(&input[at..end], &mut chars);
-    if !is_answer(d, byte(input, end), byte(input, end + 1)) {
-        return false;
+    let d = utf8::decode(lent_bytes::part(input, at, len), &mut chars);
+    let end = at + len;
+    if is_answer(d, byte(input, end), byte(input, end + 1)) {
+        return are_chars(input, end + 3, byte(input, end + 2), &chars);
     }
-    are_chars(input, end + 3, byte(input, end + 2), &chars)
+    false
 }
 
 // One vector. Where it runs past the end it is not right.

@@ -23,8 +23,8 @@ use Rattle.definition.specs.Rules.{spans, is-prefix}
 use Rattle.definition.specs.Boundaries.{goes-on, word-end}
 use Rattle.definition.specs.ExpandBounds.{Spoken}
 use Rattle.definition.specs.Shorts.{Low, Short}
-use Rattle.classes.specs.Packing.{alphas-at}
-use Rattle.classes.specs.Told.{alphas-of}
+use Rattle.table_classes.specs.Packing.{alphas-at}
+use Rattle.table_classes.specs.Told.{alphas-of}
 use Rattle.words.specs.Given.{World, kinds, size, letters-in, Lined}
 use Rattle.words.specs.Looks.{Looked, looked-are, looked-last}
 use Rattle.words.specs.declared.Look.{Look}

@@ -14,8 +14,8 @@ use Rattle.definition.specs.Tables.{Class}
 use Rattle.definition.specs.Classes.{alpha}
 use Rattle.definition.specs.Edges.{View, Mem, M, ret, remember}
 use Rattle.definition.specs.Boundaries.{fresh, recall, word-start}
-use Rattle.places.specs.Entry.{start-in}
-use Rattle.places.specs.Shows.{memory, told, remembered, remembered-told, remembered-memory, recalled}
+use Rattle.edge_places.specs.Entry.{start-in}
+use Rattle.edge_places.specs.Shows.{memory, told, remembered, remembered-told, remembered-memory, recalled}
 use Rattle.words.specs.Did.{Did, Asked, asked-none}
 use Rattle.words.specs.Given.{World, kinds, seen, size, alpha-kind}
 

@@ -8,7 +8,7 @@ use Rattle.base.specs.Bits.{flagged}
 use Rattle.definition.specs.Texts.{Text, at, prev}
 use Rattle.definition.specs.Tables.{Class}
 use Rattle.definition.specs.Classes.{class, alpha, script}
-use Rattle.classes.specs.Packing.{Says, says-script}
+use Rattle.table_classes.specs.Packing.{Says, says-script}
 use Rattle.words.specs.Given.{World, kinds, size, kind-in, Lined, alpha-kind, alpha-before, alpha-at, kind-before, kind-at}
 
 -- A flag by its number and its name

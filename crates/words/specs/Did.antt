@@ -3,7 +3,7 @@ use mathlib.Core.List.{List}
 use mathlib.Core.Path.{_≡_, refl, sym, ap, _∙_}
 use Prim.Native.Nat.{ℕ}
 use Rattle.definition.specs.Edges.{Mem, M}
-use Rattle.places.specs.Shows.{memory, told}
+use Rattle.edge_places.specs.Shows.{memory, told}
 use Rattle.words.specs.Given.{World, size}
 
 pub record Did {A : Type 0} (o : A × Mem) (r : A) (m : Mem) : Type 0 where

@@ -11,17 +11,17 @@ use native.Mathlib.Numerals.{add-one}
 use lib.Dec.{leb}
 use lib.ListN.{length, getD, take, drop, replicate, length-append, length-drop, List·getD-append}
 use lib.Seq.{take-append-le, drop-append-le, getD-append-add}
-use Rattle.definition.specs.Limits.{most-characters}
+use Rattle.definition.specs.Limits.{ascii-characters, most-characters}
 use Rattle.definition.specs.Texts.{Text, the-space, at, prev}
 use Rattle.definition.specs.Tables.{Class}
 use Rattle.definition.specs.ClassRows.{classes-of}
 use Rattle.definition.specs.Classes.{class, alpha}
 use Rattle.definition.specs.Edges.{Edge, View, view}
 use Rattle.utf8.specs.Lines.{spaced}
-use Rattle.classes.specs.Told.{Fine, packed, kinds-of, alphas-of}
-use Rattle.classes.specs.Packing.{Says, says, says-alpha, kinds-at, kinds-length}
-use Rattle.memo.specs.Kept.{Kept}
-use Rattle.places.specs.Shows.{Shows, told, shows-none, shows-told}
+use Rattle.table_classes.specs.Told.{Fine, packed, kinds-of, alphas-of}
+use Rattle.table_classes.specs.Packing.{Says, says, says-alpha, kinds-at, kinds-length}
+use Rattle.rule_memo.specs.Kept.{Kept}
+use Rattle.edge_places.specs.Shows.{Shows, told, shows-none, shows-told}
 
 -- what stands from `s` to `e`
 abbrev pub part : Text → ℕ → ℕ → Text
@@ -40,14 +40,14 @@ kind-in line i = getD line (length line / 2 + i) 0
 
 -- what was made ready: of each ASCII character whether it is a letter, and the index with what is kept
 abbrev pub letters-in : List ℕ → List ℕ
-letters-in ready = take 128 ready
+letters-in ready = take ascii-characters ready
 
 abbrev pub index-in : List ℕ → List ℕ
-index-in ready = drop 128 ready
+index-in ready = drop ascii-characters ready
 
 pub record Prepared (rules ready : List ℕ) : Type 0 where
   pub table : Kept rules (index-in ready)
-  pub long : 128 ≤ length ready
+  pub long : ascii-characters ≤ length ready
 
 -- A world: class table, text and edges
 pub record World : Type 0 where

@@ -16,9 +16,9 @@ use Rattle.definition.specs.Texts.{Text, stands, begins}
 use Rattle.definition.specs.Tables.{Rule}
 use Rattle.definition.specs.RuleRows.{rule-fault, rules-of}
 use Rattle.definition.specs.Rules.{spans, is-prefix}
-use Rattle.dicts.specs.Doors.{with-source, is-start}
-use Rattle.dicts.specs.Seek.{first-at, equal-rows}
-use Rattle.dicts.specs.Longer.{goes-past, has-longer, start-or-longer}
+use Rattle.rule_table.specs.Doors.{with-source, is-start}
+use Rattle.rule_table.specs.Seek.{first-at, equal-rows}
+use Rattle.rule_table.specs.Longer.{goes-past, has-longer, start-or-longer}
 use Rattle.words.specs.Given.{World, part, size-in, Lined, line-size, part-at}
 use Rattle.words.specs.Spans.{begins-is, prefix-is, spanning}
 use Rattle.words.specs.Found.{Rows, rules-in, found-at}

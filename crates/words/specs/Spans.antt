@@ -17,7 +17,7 @@ use Rattle.base.specs.Alls.{All-each, keep-cong, any-cong}
 use Rattle.definition.specs.Texts.{Text, at, stands, fits, begins, the-space}
 use Rattle.definition.specs.Tables.{Rule}
 use Rattle.definition.specs.Rules.{spans, is-prefix}
-use Rattle.dicts.specs.Doors.{with-source, is-start}
+use Rattle.rule_table.specs.Doors.{with-source, is-start}
 use Rattle.words.specs.Given.{part, getD-any}
 
 -- a character that stands within the text

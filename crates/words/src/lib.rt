@@ -9,7 +9,7 @@ ghost use Rattle.base.specs.Lists.{any};
 ghost use Rattle.definition.specs.RuleRows.{rule-of, rules-of};
 ghost use Rattle.definition.specs.ClassRows.{classes-of};
 ghost use Rattle.definition.specs.Boundaries.{fresh, word-start, word-end};
-ghost use Rattle.classes.specs.Told.{alphas-of};
+ghost use Rattle.table_classes.specs.Told.{alphas-of};
 ghost use Rattle.words.specs.Did.{Asked};
 ghost use Rattle.words.specs.Given.{World, kinds, seen, size-in, kind-in, index-in, letters-in, Prepared, Told, Lined, Lent, alpha-kind};
 ghost use Rattle.words.specs.Found.{Row, Rows, rules-in};
@@ -65,11 +65,11 @@ pub fn kind_at(line: &[u32], i: usize) -> u32
 pub fn is_alpha_kind(kind: u32) -> bool
     ensures { λ r. ⌜ r ≡ alpha-kind kind ⌝ }
 {
-    let category = classes::category(kind);
+    let category = table_classes::category(kind);
     1 <= category && category <= 3
 }
 
-// Is the one at a place?
+// Is the character at a place a letter or mark?
 pub fn is_alpha_at(line: &[u32], i: usize) -> bool
     requires { ⌜ i ≤ length (now line) / 2 ⌝ }
     ensures { λ r. ⌜ r ≡ alpha-kind (kind-in (now (line .entry)) i) ⌝ }
@@ -85,7 +85,7 @@ fn is_fresh(line: &[u32], places: &[u32], p: usize) -> bool
     if is_alpha_at(line, p) {
         return false;
     }
-    if places::has_letter(places, p) {
+    if edge_places::has_letter(places, p) {
         return false;
     }
     true
@@ -97,10 +97,10 @@ pub fn is_at_start_of_word(line: &[u32], places: &mut [u32], p: usize) -> bool
     ensures { λ r. ⌜ ((w : World) → Lent w (now (line .entry)) (now (places .entry))
         → Asked w (word-start (kinds w) (w .text) (seen w) p) (now (places .entry)) (now (places .exit)) r) ⌝ }
 {
-    let known = places::start(places, p);
+    let known = edge_places::start(places, p);
     if known == 0 {
         let start = is_fresh(line, places, p);
-        places::remember(places, p, start);
+        edge_places::remember(places, p, start);
         return start;
     }
     known == 1
@@ -134,11 +134,11 @@ fn brings_letter(rules: &[u8], ready: &[u32], row: usize) -> bool
     ensures { λ r. ⌜ ((classes : List ℕ) → letters-in (now (ready .entry)) ≡ alphas-of classes
         → r ≡ brings (classes-of classes) (rule-of (drop row (now (rules .entry))))) ⌝ }
 {
-    if rulerow::flag(rules, row, rulerow::START_ONLY_BIT) {
+    if rule_row::flag(rules, row, rule_row::START_ONLY_BIT) {
         return false;
     }
-    if rulerow::flag(rules, row, rulerow::TARGET_BIT) {
-        return has_letter(ready, rulerow::target_text(rules, row));
+    if rule_row::flag(rules, row, rule_row::TARGET_BIT) {
+        return has_letter(ready, rule_row::target_text(rules, row));
     }
     false
 }
@@ -150,7 +150,7 @@ pub fn look_up(rules: &[u8], ready: &[u32], line: &[u32], span: Span) -> Look
 {
     let from = span.from;
     let to = span.to;
-    let found = memo::look_up(rules, index_in(ready), &line[from + 1..to + 1]);
+    let found = rule_memo::look_up(rules, index_in(ready), &line[from + 1..to + 1]);
     Look {
         from,
         to,
@@ -160,7 +160,7 @@ pub fn look_up(rules: &[u8], ready: &[u32], line: &[u32], span: Span) -> Look
     }
 }
 
-// Does one of the rules in some rows, one after another?
+// Does one of the rules in some rows, one after another, bring a letter without asking a start of word?
 fn rows_bring_letter(rules: &[u8], ready: &[u32], first: usize, count: usize) -> bool
     requires { ⌜ Rows (now rules) first count ⌝ }
     ensures { λ r. ⌜ ((classes : List ℕ) → letters-in (now (ready .entry)) ≡ alphas-of classes
@@ -172,7 +172,7 @@ fn rows_bring_letter(rules: &[u8], ready: &[u32], first: usize, count: usize) ->
         if brings_letter(rules, ready, row) {
             return true;
         }
-        row += rulerow::size(rules, row);
+        row += rule_row::size(rules, row);
         left -= 1;
     }
     false

@@ -14,11 +14,11 @@ use Rattle.definition.specs.Recalled.{Recalls}
 use Rattle.definition.specs.Offers.{found-all}
 use Rattle.edge.specs.declared.BestEdge.{BestEdge}
 use Rattle.edge.specs.Slots.{edges-of}
-use Rattle.edge.specs.Best.{edge-at}
+use Rattle.edge.specs.Best.{best-means}
 use Rattle.listing.specs.Items.{Written, put-items}
-use Rattle.places.specs.Shows.{memory, told}
+use Rattle.edge_places.specs.Shows.{memory, told}
 use Rattle.words.specs.Given.{World, seen, size, size-in, Told, Lent, line-size, lent-after}
-use Rattle.rules.specs.Lent.{lexicon-of}
+use Rattle.rule_choice.specs.Lent.{lexicon-of}
 use Rattle.alternatives.specs.News.{edge-bytes}
 use Rattle.alternatives.proofs.Edges.{found-on, best-sound, next-inside, path-enough, edges-stay, stored-stays}
 use borrow.Author.Needs.{needs}
@@ -56,13 +56,13 @@ Es l = let a = start l .args in edges-of (now (a .room)) (a .listed .count) (S l
 
 -- the best edge at this position, as it is answered whatever the room has
 abbrev Best : At → BestEdge → Type 0
-Best l b = let k = start l .args .listed .count in (room : List ℕ) → edge-at room (S l) b ≡ right-best (edges-of room k (S l)) (l .loop .p)
+Best l b = let k = start l .args .listed .count in (room : List ℕ) → best-means room (S l) b ≡ right-best (edges-of room k (S l)) (l .loop .p)
 
 sound : (l : At) → All (Sound (N l)) (Es l)
 sound l = subst (λ n. All (Sound n) (Es l)) (sym (l .before .text-len .ensures)) (start l .pre .4)
 
 -- the room's texts are as they were, so that the best edge is that of the whole path
-right : (l : At) (b : BestEdge) → Best l b → edge-at (l .loop .room) (S l) b ≡ right-best (Es l) (l .loop .p)
+right : (l : At) (b : BestEdge) → Best l b → best-means (l .loop .room) (S l) b ≡ right-best (Es l) (l .loop .p)
 right l b e =
     let q = start l in
     let a = q .args in
@@ -110,7 +110,7 @@ put-best-alternatives-requires c κs =
       q .pre .0,
       stored-stays (S l) (now (a .room)) (l .loop .room) (a .listed .count) (a .listed .used) (q .pre .1) (i .1) (sym (i .5)),
       best .1,
-      best-sound (size-in (now (a .line))) (l .loop .p) (Es l) (edge-at (l .loop .room) (S l) (b .result)) (q .pre .4) (right l (b .result) (best .0)),
+      best-sound (size-in (now (a .line))) (l .loop .p) (Es l) (best-means (l .loop .room) (S l) (b .result)) (q .pre .4) (right l (b .result) (best .0)),
       omega (arith, t, q .pre .5, q .pre .6, i .2, i .3, l .before .text-len .ensures),
     )
 
@@ -121,9 +121,9 @@ next-from-requires c κs =
     omega (arith, start l .pre .5, l .loop .inv .2, l .before .text-len .ensures)
 
 -- where the path goes on
-on : (l : At) (b : BestEdge) (q : ℕ) → Best l b → ((room : List ℕ) → q ≡ next (edge-at room (S l) b) (l .loop .p)) → l .loop .p < N l → (l .loop .p < q) × (q ≤ N l)
+on : (l : At) (b : BestEdge) (q : ℕ) → Best l b → ((room : List ℕ) → q ≡ next (best-means room (S l) b) (l .loop .p)) → l .loop .p < N l → (l .loop .p < q) × (q ≤ N l)
 on l b q e f t =
-    let z = next-inside (N l) (l .loop .p) (Es l) (edge-at (l .loop .room) (S l) b) (sound l) (right l b e) t in
+    let z = next-inside (N l) (l .loop .p) (Es l) (best-means (l .loop .room) (S l) b) (sound l) (right l b e) t in
     let y = f (l .loop .room) in
     (omega (arith, z .0, y), omega (arith, z .1, y))
 
@@ -162,7 +162,7 @@ loop-again c =
           let d = r .ensures .0 w told (lent-after (l .loop .places) lent (j .2)) in (
             ap (λ x. put-items true (found-all L (w .text) (seen w) m₀ x) then-at)
                 (path-enough (N l) (Es l) (sound l) (N l - f .result) k (f .result) (omega (arith, z .1)) (omega (arith, t, z .0)))
-                ∙ found-on L (w .text) (seen w) (Es l) (edge-at (l .loop .room) (S l) (b .result)) k p (f .result) (memory (size w) (l .loop .places)) m₀
+                ∙ found-on L (w .text) (seen w) (Es l) (best-means (l .loop .room) (S l) (b .result)) k p (f .result) (memory (size w) (l .loop .places)) m₀
                 then-at now-at (right l (b .result) (best .0)) (f .ensures .0 (l .loop .room)) (j .1) (d .0)
                 ∙ ap (λ n. put-items true (found-all L (w .text) (seen w) m₀ (path-from n p (Es l))) now-at) e ∙ j .0,
             (λ s. d .1 s ∙ j .1 s),

@@ -14,11 +14,11 @@ use Rattle.definition.specs.Offers.{found-all}
 use Rattle.rom.specs.Rom.{text, text-by, clean-by}
 use Rattle.edge.specs.Slots.{bytes-of, edge-by, edge-of}
 use Rattle.edge.specs.Stored.{Slot}
-use Rattle.edge.specs.Best.{edge-at, Found}
+use Rattle.edge.specs.Best.{best-means, Found}
 use Rattle.listing.specs.Items.{put-items}
-use Rattle.places.specs.Shows.{memory}
+use Rattle.edge_places.specs.Shows.{memory}
 use Rattle.words.specs.Given.{seen, size, size-in}
-use Rattle.rules.specs.Lent.{lexicon-of}
+use Rattle.rule_choice.specs.Lent.{lexicon-of}
 use Rattle.alternatives.proofs.Edges.{slot-short, span-inside, spoken-at, edge-at-slot, found-nothing, slot-found, slot-wide, front-stays}
 use borrow.Author.Needs.{needs}
 use Rattle.alternatives.proofs.put_best_alternatives.Statement.{statement}
@@ -49,7 +49,7 @@ sound : (m : tie.After-numbers-at) → Sound (size-in (now (start m .args .line)
 sound m =
     let q = start m in
     let a = q .args in
-    subst (λ o. Opt (Sound (size-in (now (a .line)))) (edge-at (now (a .room)) (now (a .slots)) o)) (m .before .before .best .given .1) (q .pre .3)
+    subst (λ o. Opt (Sound (size-in (now (a .line)))) (best-means (now (a .room)) (now (a .slots)) o)) (m .before .before .best .given .1) (q .pre .3)
 
 within : (m : tie.After-numbers-at) → Used m ≤ length (R m)
 within m = start m .pre .1 .within
@@ -131,7 +131,7 @@ returns c =
           let m₀ = memory (size w) (now (a .places)) in
           let d = p .ensures .0 w told lent in (
             d .0 ∙ ap (λ x. put-items true (found-all L (w .text) (seen w) m₀ (x ∷ [])) (a .listed .at, now (a .out))) is
-                ∙ ap (λ o. put-items true (found-all L (w .text) (seen w) m₀ (join (edge-at (now (a .room)) (now (a .slots)) o) [])) (a .listed .at, now (a .out))) (sym (b .1)),
+                ∙ ap (λ o. put-items true (found-all L (w .text) (seen w) m₀ (join (best-means (now (a .room)) (now (a .slots)) o) [])) (a .listed .at, now (a .out))) (sym (b .1)),
             d .1,
             d .2,
           )),
@@ -147,7 +147,7 @@ returns-2 c =
           let L = lexicon-of (now (a .rules)) w (now (a .code)) in
           let m₀ = memory (size w) (now (a .places)) in (
             ap (λ l. put-items true l (a .listed .at, now (a .out))) (found-nothing L (w .text) (seen w) m₀
-                ∙ ap (λ b. found-all L (w .text) (seen w) m₀ (join (edge-at (now (a .room)) (now (a .slots)) b) [])) (sym (c .enum-told .given .1))),
+                ∙ ap (λ b. found-all L (w .text) (seen w) m₀ (join (best-means (now (a .room)) (now (a .slots)) b) [])) (sym (c .enum-told .given .1))),
             (λ p. refl),
             refl,
           )),

@@ -12,11 +12,11 @@ use Rattle.definition.specs.RuleRows.{rules-of}
 use Rattle.definition.specs.Rules.{spans}
 use Rattle.rom.specs.Rom.{text, text-length, bytes-length}
 use Rattle.listing.specs.Items.{put-items}
-use Rattle.places.specs.Shows.{memory}
+use Rattle.edge_places.specs.Shows.{memory}
 use Rattle.words.specs.Given.{seen, size}
 use Rattle.words.specs.Found.{Rows, rules-in, found-at}
 use Rattle.words.specs.Looks.{source-in, looked-are}
-use Rattle.rules.specs.Lent.{lexicon-of}
+use Rattle.rule_choice.specs.Lent.{lexicon-of}
 use Rattle.offers.specs.Texts.{holding}
 use Rattle.alternatives.proofs.Edges.{rows-few, valid-found, found-edge, start-told, start-recalls}
 use borrow.Author.Needs.{needs}

@@ -11,7 +11,7 @@ use Rattle.definition.specs.Edges.{Edge}
 use Rattle.definition.specs.Offers.{all-offers, found-by}
 use Rattle.edge.specs.Slots.{edge-by}
 use Rattle.listing.specs.Items.{put-items}
-use Rattle.dicts.specs.Sorted.{rules-from}
+use Rattle.rule_table.specs.Sorted.{rules-from}
 use Rattle.words.specs.Found.{Rows, row-there, row-read}
 use Rattle.words.proofs.Ends.{rows-next}
 use Rattle.marks.specs.Marked.{Marked}

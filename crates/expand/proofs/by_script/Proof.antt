@@ -5,10 +5,10 @@ use denote.Ref.{now}
 use Rattle.definition.specs.Texts.{at}
 use Rattle.definition.specs.Tables.{script-thai}
 use Rattle.definition.specs.Classes.{script}
-use Rattle.places.specs.Shows.{memory}
+use Rattle.edge_places.specs.Shows.{memory}
 use Rattle.words.specs.Given.{kinds, seen, size, line-size}
 use Rattle.words.specs.Characters.{script-here}
-use Rattle.rules.specs.Lent.{lexicon-of}
+use Rattle.rule_choice.specs.Lent.{lexicon-of}
 use Rattle.steps.specs.Works.{work-of}
 use Rattle.expand.specs.Tests.{in-thai, elsewhere}
 use borrow.Author.Needs.{needs}

@@ -4,10 +4,10 @@ use native.Mathlib.Omega.{arith}
 use denote.Ref.{now}
 use Rattle.base.specs.ListLaws.{same-some}
 use Rattle.rom.specs.Rom.{text, text-length}
-use Rattle.places.specs.Shows.{memory}
+use Rattle.edge_places.specs.Shows.{memory}
 use Rattle.words.specs.Did.{asked-none}
 use Rattle.words.specs.Given.{seen, size}
-use Rattle.rules.specs.Lent.{lexicon-of}
+use Rattle.rule_choice.specs.Lent.{lexicon-of}
 use Rattle.expand.specs.Tests.{nothing-to-expand, expanded}
 use Rattle.expand.proofs.Ways.{no-text}
 use borrow.Author.Needs.{needs}

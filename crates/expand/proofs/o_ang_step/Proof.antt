@@ -7,10 +7,10 @@ use Rattle.definition.specs.Texts.{Text}
 use Rattle.definition.specs.Notes.{note-del}
 use Rattle.definition.specs.Expansion.{work}
 use Rattle.rom.specs.Rom.{text-by, clean-by}
-use Rattle.places.specs.Shows.{memory}
+use Rattle.edge_places.specs.Shows.{memory}
 use Rattle.words.specs.Did.{did-by, asked-none}
 use Rattle.words.specs.Given.{seen, size}
-use Rattle.rules.specs.Lent.{lexicon-of}
+use Rattle.rule_choice.specs.Lent.{lexicon-of}
 use Rattle.steps.specs.Works.{work-of}
 use Rattle.expand.specs.Tests.{deleted, spoken}
 use borrow.Author.Needs.{needs}

@@ -12,7 +12,7 @@ use Rattle.definition.specs.Texts.{Text, without-last}
 use Rattle.definition.specs.Notes.{note-exp}
 use Rattle.definition.specs.Expansion.{work}
 use Rattle.rom.specs.Rom.{text, rom, text-length, text-by, len-by, clean-by}
-use Rattle.rules.specs.Chosen.{said, or-nothing}
+use Rattle.rule_choice.specs.Chosen.{chosen-means, or-nothing}
 use Rattle.steps.proofs.Tries.{said-short}
 use borrow.Author.Needs.{needs}
 use Rattle.expand.proofs.put_small.Statement.{statement}
@@ -46,7 +46,7 @@ returns c =
     let l : length (without-last w) + 1 ≡ a .w .rom .len =
     omega (arith, length-reverse (tail (reverse w)), tail-length (reverse w), length-reverse w, text-length (s .pre .1), s .pre .2) in
     let h : length (without-last w) ≤ most-bytes = omega (arith, l, s .pre .3) in
-    let o = said (now (a .rules)) (a .target) in
+    let o = chosen-means (now (a .rules)) (a .target) in
     let new = without-last w ++ or-nothing o in
     let f = c .append .ensures ∙ ap (λ (x : Text). rom (x ++ now (c .before .chosen-text .result))) (text-by (without-last w) e h)
     ∙ ap (λ (x : Text). rom (without-last w ++ x)) (c .before .chosen-text .ensures) in

@@ -1,10 +1,10 @@
 -- `expand::rest`
 use mathlib.Core.Path.{_∙_}
 use denote.Ref.{now}
-use Rattle.places.specs.Shows.{memory}
+use Rattle.edge_places.specs.Shows.{memory}
 use Rattle.words.specs.Did.{did-by}
 use Rattle.words.specs.Given.{seen, size, lent-after}
-use Rattle.rules.specs.Lent.{lexicon-of}
+use Rattle.rule_choice.specs.Lent.{lexicon-of}
 use Rattle.steps.specs.Works.{work-of}
 use Rattle.expand.specs.Tests.{rest-is}
 use borrow.Author.Needs.{needs}

@@ -2,11 +2,11 @@
 use mathlib.Core.Path.{refl, sym, _∙_}
 use native.Mathlib.Omega.{arith}
 use denote.Ref.{now}
-use Rattle.places.specs.Shows.{memory}
+use Rattle.edge_places.specs.Shows.{memory}
 use Rattle.words.specs.Did.{did-by, asked-none}
 use Rattle.words.specs.Given.{seen, size, lent-after}
-use Rattle.rules.specs.Lent.{lexicon-of}
-use Rattle.rules.specs.Chosen.{said, or-nothing}
+use Rattle.rule_choice.specs.Lent.{lexicon-of}
+use Rattle.rule_choice.specs.Chosen.{chosen-means, or-nothing}
 use Rattle.steps.specs.Works.{work-of}
 use Rattle.expand.specs.Tests.{no-small, small-ruled, small-ruled-here, small-put}
 use Rattle.expand.proofs.Ways.{told, absent}
@@ -39,7 +39,7 @@ returns c =
     let s = k .before .before .before .before .before .before in
     let a = s .args in
     let p = s .pre in
-    let o = said (now (a .rules)) (k .small-target .result) in
+    let o = chosen-means (now (a .rules)) (k .small-target .result) in
     let H = k .small-target .ensures in
     let q = sym (c .before .before .before .before .before .before .before .before .is-told .ensures (now (a .rules))) ∙ c .before .before .before .before .before .before .before .if1 .taken in
     let S = c .before .before .before .before .simple-top-romanization-candidate-for-span .ensures in (
@@ -74,7 +74,7 @@ returns-2 c =
     let s = k .before .before .before .before .before .before in
     let a = s .args in
     let p = s .pre in
-    let o = said (now (a .rules)) (k .small-target .result) in
+    let o = chosen-means (now (a .rules)) (k .small-target .result) in
     let H = k .small-target .ensures in
     let q = sym (j .before .before .before .before .before .before .before .is-told .ensures (now (a .rules))) ∙ j .before .before .before .before .before .before .if1 .taken in
     let S = j .before .before .before .simple-top-romanization-candidate-for-span .ensures in
@@ -102,7 +102,7 @@ put-small-requires c κs =
     let s = k .before .before .before .before .before .before in
     let a = s .args in
     let p = s .pre in
-    let o = said (now (a .rules)) (k .small-target .result) in
+    let o = chosen-means (now (a .rules)) (k .small-target .result) in
     let H = k .small-target .ensures in
     let q = sym (j .before .before .before .before .before .before .before .is-told .ensures (now (a .rules))) ∙ j .before .before .before .before .before .before .if1 .taken in
     (H .1, p .1, H .2 q .1, p .2)
@@ -117,7 +117,7 @@ returns-3 c =
     let s = k .before .before .before .before .before .before in
     let a = s .args in
     let p = s .pre in
-    let o = said (now (a .rules)) (k .small-target .result) in
+    let o = chosen-means (now (a .rules)) (k .small-target .result) in
     let H = k .small-target .ensures in
     let q = sym (j .before .before .before .before .before .before .before .is-told .ensures (now (a .rules))) ∙ j .before .before .before .before .before .before .if1 .taken in
     let S = j .before .before .before .simple-top-romanization-candidate-for-span .ensures in
@@ -145,7 +145,7 @@ returns-4 c =
     let s = k .before .before .before .before .before .before in
     let a = s .args in
     let p = s .pre in
-    let o = said (now (a .rules)) (k .small-target .result) in
+    let o = chosen-means (now (a .rules)) (k .small-target .result) in
     let H = k .small-target .ensures in
     let q = sym (c .before .is-told .ensures (now (a .rules))) ∙ c .if1 .left in (
       λ u e g. let L = lexicon-of (now (a .rules)) u (now (a .code)) in

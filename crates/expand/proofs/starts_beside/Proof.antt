@@ -2,7 +2,7 @@
 use mathlib.Core.Path.{ap, _∙_}
 use denote.Ref.{now}
 use Rattle.base.specs.Lists.{is}
-use Rattle.rules.specs.Chosen.{said}
+use Rattle.rule_choice.specs.Chosen.{chosen-means}
 use Rattle.expand.specs.Sides.{beside}
 use Rattle.expand.proofs.Sounds.{beside-text}
 use borrow.Author.Needs.{needs}
@@ -25,7 +25,7 @@ returns : tie.Need-returns
 returns c =
     let a = c .before .before .before .before .before .before .args in
     let x = c .before .before .romanization-by-first-rule in
-    c .is-beside .ensures ∙ ap beside (c .before .chosen-text .ensures) ∙ beside-text (said (now (a .rules)) (x .result)) ∙ ap (is beside) (x .ensures .0)
+    c .is-beside .ensures ∙ ap beside (c .before .chosen-text .ensures) ∙ beside-text (chosen-means (now (a .rules)) (x .result)) ∙ ap (is beside) (x .ensures .0)
 
 pub starts-beside-spec : {M : Type 1} → statement M
 starts-beside-spec =

@@ -3,10 +3,10 @@ use mathlib.Core.Path.{sym, _∙_}
 use denote.Ref.{now}
 use Rattle.definition.specs.RuleRows.{rules-of}
 use Rattle.definition.specs.Expansion.{around}
-use Rattle.places.specs.Shows.{memory}
+use Rattle.edge_places.specs.Shows.{memory}
 use Rattle.words.specs.Did.{did-by, asked-none}
 use Rattle.words.specs.Given.{kinds, seen, size}
-use Rattle.rules.specs.Lent.{lexicon-of}
+use Rattle.rule_choice.specs.Lent.{lexicon-of}
 use Rattle.steps.specs.Works.{work-of}
 use Rattle.expand.specs.Tests.{patterned, unpatterned}
 use Rattle.expand.proofs.Ways.{absent, there}

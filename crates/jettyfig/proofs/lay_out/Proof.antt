@@ -7,7 +7,7 @@ use lib.ListN.{length, take, drop}
 use denote.Ref.{now}
 use Rattle.definition.specs.Limits.{most-characters}
 use Rattle.definition.specs.Utf8.{decoded}
-use Rattle.utf8.specs.Read.{refused, few-read}
+use Rattle.utf8.specs.Read.{text-means, few-read}
 use Rattle.jettyfig.proofs.Parts.{lent-length, laid-out}
 use borrow.Author.Needs.{needs}
 use Rattle.jettyfig.proofs.lay_out.Statement.{statement}
@@ -75,14 +75,14 @@ same-length : tie.Need-same-length
 same-length c = search needs
 
 returns : tie.Need-returns
-unfolding refused
+unfolding text-means
 returns c =
     let k = c .before .before .before .before in
     let e = k .before .read .given .1 in
     let r = k .before .before .before .before .before .read-line in
     let classes = now (k .before .before .before .before .before .before .before .before .before .before .args .classes) in
     let x = c .before .before .classify in (
-      ap refused (sym e) ∙ r .ensures .0,
+      ap text-means (sym e) ∙ r .ensures .0,
       λ m q.
           let j : n k ≡ m = cc in (
             sym j ∙ counted k,

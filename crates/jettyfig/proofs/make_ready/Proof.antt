@@ -5,7 +5,7 @@ use lib.ListN.{length, length-replicate}
 use lib.Seq.{length-take-le}
 use Prim.Native.Nat.{ℕ, _+_, _/_}
 use denote.Ref.{now}
-use Rattle.memo.specs.Kept.{all-places}
+use Rattle.rule_memo.specs.Kept.{all-places}
 use Rattle.jettyfig.proofs.Parts.{as-long, zeros-left, made-ready}
 use borrow.Author.Needs.{needs}
 use Rattle.jettyfig.proofs.make_ready.Statement.{statement}

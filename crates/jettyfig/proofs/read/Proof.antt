@@ -6,11 +6,11 @@ use lib.ListN.{length}
 use lib.Seq.{length-take-le}
 use denote.Ref.{now}
 use Rattle.definition.specs.Limits.{most-characters}
-use Rattle.definition.specs.Capacity.{refuse}
+use Rattle.definition.specs.Refusals.{refuse, refused-utf8, refused-too-long, refused-left-out}
 use Rattle.definition.specs.Call.{tables, characters}
-use Rattle.utf8.specs.Read.{refused}
-use Rattle.jettyfig.specs.Verdicts.{given, returned, passed}
-use Rattle.jettyfig.specs.Calls.{as-refused, read-refused, read-right, nothing-refused}
+use Rattle.utf8.specs.Read.{text-means}
+use Rattle.jettyfig.specs.Verdicts.{given, returned, passed, nothing-refused}
+use Rattle.jettyfig.specs.Calls.{as-refused, read-refused, read-right}
 use borrow.Author.Needs.{needs}
 use Rattle.jettyfig.proofs.read.Statement.{statement}
 use Rattle.jettyfig.proofs.read.Tie as tie
@@ -44,7 +44,7 @@ slice-aggregate-prepare : tie.Need-slice-aggregate-prepare
 slice-aggregate-prepare c = sym (length-take-le _ (c .before .before .before .before .before .lay-out .last .1 .1 .0) (array-share-prefix-line (c .before)))
 
 prepare-requires : tie.Need-prepare-requires
-unfolding refused
+unfolding text-means
 prepare-requires c κs =
     let l = c .before .before .before .before .before .before .before .before in
     let s = l .before .before .before .before .before .before .before .before .before .before in
@@ -52,7 +52,7 @@ prepare-requires c κs =
     let i = given (a .mode) (now (a .rules)) (now (a .classes)) (now (a .vowels)) (now (a .code)) (now (a .text)) 0 0 0 in
     let r = l .lay-out .ensures in
     let g = c .before .before .before .before .before .n .given in
-    (nothing-refused i (s .pre .0) (sym (r .0) ∙ ap refused (g .1)), r .1 (g .0 .0) (g .1) .2, s .pre .1)
+    (nothing-refused i (s .pre .0) (sym (r .0) ∙ ap text-means (g .1)), r .1 (g .0 .0) (g .1) .2, s .pre .1)
 
 enum-known-at : tie.Need-enum-known-at
 enum-known-at c = search needs
@@ -82,17 +82,17 @@ same-length-3 : tie.Need-same-length-3
 same-length-3 c = search needs
 
 returns : tie.Need-returns
-unfolding refused tables characters
+unfolding text-means tables characters
 returns c =
     let p = c .before .before .before .before .before .before in
     let n = p .before .before .before .before .before .before in
     let l = n .before .before .before in
     let a = l .before .before .before .before .before .before .before .before .before .before .args in
     let i = given (a .mode) (now (a .rules)) (now (a .classes)) (now (a .vowels)) (now (a .code)) (now (a .text)) (length (now (a .slots))) (length (now (a .room))) (length (now (a .out))) in
-    p .prepare .ensures ∙ read-right i (sym (l .lay-out .ensures .0) ∙ ap refused (n .n .given .1))
+    p .prepare .ensures ∙ read-right i (sym (l .lay-out .ensures .0) ∙ ap text-means (n .n .given .1))
 
 returns-2 : tie.Need-returns-2
-unfolding refused
+unfolding text-means
 returns-2 c =
     let l = c .before .before .before .before .before in
     let s = l .before .before .before .before .before .before .before .before .before .before in
@@ -100,10 +100,10 @@ returns-2 c =
     let i = given (a .mode) (now (a .rules)) (now (a .classes)) (now (a .vowels)) (now (a .code)) (now (a .text)) (length (now (a .slots))) (length (now (a .room))) (length (now (a .out))) in
     let g = c .before .before .at .given in
     ap (λ x. returned x (now (a .out))) (c .refuse .ensures)
-    ∙ as-refused i (now (a .out)) (s .pre .1) 6 (g .0 .0) ∙ read-refused i (refuse 6 (g .0 .0)) (sym (l .lay-out .ensures .0) ∙ ap refused (g .1))
+    ∙ as-refused i (now (a .out)) (s .pre .1) refused-utf8 (g .0 .0) ∙ read-refused i (refuse refused-utf8 (g .0 .0)) (sym (l .lay-out .ensures .0) ∙ ap text-means (g .1))
 
 returns-3 : tie.Need-returns-3
-unfolding refused
+unfolding text-means
 returns-3 c =
     let l = c .before .before .before .before in
     let s = l .before .before .before .before .before .before .before .before .before .before in
@@ -111,10 +111,10 @@ returns-3 c =
     let i = given (a .mode) (now (a .rules)) (now (a .classes)) (now (a .vowels)) (now (a .code)) (now (a .text)) (length (now (a .slots))) (length (now (a .room))) (length (now (a .out))) in
     let g = c .before .enum-told .given in
     ap (λ x. returned x (now (a .out))) (c .refuse2 .ensures)
-    ∙ as-refused i (now (a .out)) (s .pre .1) 7 most-characters ∙ read-refused i (refuse 7 most-characters) (sym (l .lay-out .ensures .0) ∙ ap refused (g .1))
+    ∙ as-refused i (now (a .out)) (s .pre .1) refused-too-long most-characters ∙ read-refused i (refuse refused-too-long most-characters) (sym (l .lay-out .ensures .0) ∙ ap text-means (g .1))
 
 returns-4 : tie.Need-returns-4
-unfolding refused
+unfolding text-means
 returns-4 c =
     let l = c .before .before .before .before .before in
     let s = l .before .before .before .before .before .before .before .before .before .before in
@@ -122,7 +122,7 @@ returns-4 c =
     let i = given (a .mode) (now (a .rules)) (now (a .classes)) (now (a .vowels)) (now (a .code)) (now (a .text)) (length (now (a .slots))) (length (now (a .room))) (length (now (a .out))) in
     let g = c .before .before .p .given in
     ap (λ x. returned x (now (a .out))) (c .refuse3 .ensures)
-    ∙ as-refused i (now (a .out)) (s .pre .1) 8 (g .0 .0) ∙ read-refused i (refuse 8 (g .0 .0)) (sym (l .lay-out .ensures .0) ∙ ap refused (g .1))
+    ∙ as-refused i (now (a .out)) (s .pre .1) refused-left-out (g .0 .0) ∙ read-refused i (refuse refused-left-out (g .0 .0)) (sym (l .lay-out .ensures .0) ∙ ap text-means (g .1))
 
 pub read-spec : {M : Type 1} → statement M
 read-spec =

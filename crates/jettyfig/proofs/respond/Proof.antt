@@ -3,10 +3,10 @@ use mathlib.Core.Path.{sym, ap, _∙_}
 use Prim.Native.Nat.{ℕ}
 use lib.ListN.{length, replicate, length-replicate}
 use denote.Ref.{now}
-use Rattle.definition.specs.Capacity.{refuse}
+use Rattle.definition.specs.Refusals.{refuse}
 use Rattle.definition.specs.Call.{Inputs, unless-refused}
-use Rattle.utf8.specs.Read.{text-refusal}
-use Rattle.jettyfig.specs.Verdicts.{refusal-of, given, returned}
+use Rattle.definition.specs.Call.{text-refusal}
+use Rattle.jettyfig.specs.Verdicts.{verdict-means, given, returned}
 use Rattle.jettyfig.specs.Calls.{as-refused, check-refused, check-right}
 use borrow.Author.Needs.{needs}
 use Rattle.jettyfig.proofs.respond.Statement.{statement}
@@ -38,7 +38,7 @@ read-requires c κs =
     let k = z .clear .ensures in
     let r = c .before .before .before .before .before .check .ensures in
     let long = ap length k ∙ length-replicate (length (now (a .out))) 0 in
-    (sym r ∙ ap refusal-of (c .before .before .before .enum-told .given .1), k ∙ ap (λ (m : ℕ). replicate {A = ℕ} m 0) (sym long))
+    (sym r ∙ ap verdict-means (c .before .before .before .enum-told .given .1), k ∙ ap (λ (m : ℕ). replicate {A = ℕ} m 0) (sym long))
 
 same-length : tie.Need-same-length
 same-length c = search needs
@@ -54,7 +54,7 @@ returns c =
     let g = c .before .before .number .given in
     let out = z .clear .last .0 in
     ap (λ x. returned x out) (c .refuse .ensures)
-    ∙ as-refused i out k (g .0 .0) (g .0 .1 .0) ∙ check-refused i (refuse (g .0 .0) (g .0 .1 .0)) (sym r ∙ ap refusal-of (g .1))
+    ∙ as-refused i out k (g .0 .0) (g .0 .1 .0) ∙ check-refused i (refuse (g .0 .0) (g .0 .1 .0)) (sym r ∙ ap verdict-means (g .1))
 
 same-length-2 : tie.Need-same-length-2
 same-length-2 c = search needs
@@ -75,7 +75,7 @@ returns-2 c =
     let r = v .before .before .check .ensures in
     c .before .before .before .before .before .before .read .ensures
     ∙ ap (λ (m : ℕ). unless-refused (of m) (text-refusal (now (a .text)))) (ap length k ∙ length-replicate (length (now (a .out))) 0)
-    ∙ check-right (of (length (now (a .out)))) (sym r ∙ ap refusal-of (v .enum-told .given .1))
+    ∙ check-right (of (length (now (a .out)))) (sym r ∙ ap verdict-means (v .enum-told .given .1))
 
 pub respond-spec : {M : Type 1} → statement M
 respond-spec =

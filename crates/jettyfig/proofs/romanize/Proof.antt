@@ -9,10 +9,11 @@ use denote.Ref.{now}
 use Rattle.definition.specs.Limits.{slot-bytes, most-edges, most-characters, most-bytes}
 use Rattle.definition.specs.Building.{lattice}
 use Rattle.definition.specs.Listing.{shown}
-use Rattle.definition.specs.Capacity.{refuse, misfit}
+use Rattle.definition.specs.Refusals.{refuse, refused-slots, refused-room}
+use Rattle.definition.specs.Capacity.{misfit}
 use Rattle.definition.specs.Call.{Inputs, tables-of, written, accepted}
 use Rattle.words.specs.Given.{World, Told, Lined, kinds, size as size-of, size-in, Lent, line-size}
-use Rattle.places.specs.Shows.{memory}
+use Rattle.edge_places.specs.Shows.{memory}
 use Rattle.edge.specs.declared.Added.{Added}
 use Rattle.definition.specs.Tables.{Tables}
 use mathlib.Core.Option.{some}
@@ -273,7 +274,7 @@ returns-2 c =
     let b = c .before .before .before .before .before .before .before .before .before .before in
     let d = c .before .before .p .given in
     λ u told lined.
-    ap (λ r. returned r (now (start (sized b) .args .out))) (c .refuse .ensures) ∙ stops b u told lined 9 (d .0 .0) (answered b u told lined _ (d .1) .came)
+    ap (λ r. returned r (now (start (sized b) .args .out))) (c .refuse .ensures) ∙ stops b u told lined refused-slots (d .0 .0) (answered b u told lined _ (d .1) .came)
 
 same-length-6 : tie.Need-same-length-6
 same-length-6 c = search needs
@@ -286,7 +287,7 @@ returns-3 c =
     let b = c .before .before .before .before .before .before .before .before .before .before in
     let d = c .before .before .p2 .given in
     λ u told lined.
-    ap (λ r. returned r (now (start (sized b) .args .out))) (c .refuse2 .ensures) ∙ stops b u told lined 10 (d .0 .0) (answered b u told lined _ (d .1) .came)
+    ap (λ r. returned r (now (start (sized b) .args .out))) (c .refuse2 .ensures) ∙ stops b u told lined refused-room (d .0 .0) (answered b u told lined _ (d .1) .came)
 
 pub romanize-spec : {M : Type 1} → statement M
 romanize-spec =

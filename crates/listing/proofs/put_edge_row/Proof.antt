@@ -6,10 +6,10 @@ use lib.ListN.{length, drop}
 use denote.Ref.{now}
 use Rattle.definition.specs.Utf8.{encoded}
 use Rattle.definition.specs.Capacity.{bytes}
-use Rattle.room.specs.Puts.{put-at}
+use Rattle.lent_bytes.specs.Puts.{put-at}
 use Rattle.edge.specs.Slots.{bytes-of, numbers-of, edge-of}
 use Rattle.edge.specs.Stored.{slot-size}
-use Rattle.listing.specs.Sizes.{head-bytes}
+use Rattle.definition.specs.Listing.{row-head-bytes}
 use Rattle.listing.specs.Rows.{row-size, row-head, slot-row-size}
 use Rattle.listing.proofs.Heads.{row-put}
 use borrow.Author.Needs.{needs}
@@ -57,7 +57,7 @@ returns c =
     let l : len ≡ length b = q .before .text-len .ensures .0 ∙ sym (slot-size room s (length room) (h .0) (omega arith)) in (
       omega (arith, p .put-edge-text .ensures .0),
       p .put-edge-text .ensures .1
-          ∙ ap (put-at (a .at + head-bytes) b) (q .put-row-head .ensures ∙ ap (λ e. put-at (a .at) (row-head e len) out) (q .before .before .numbers-at .ensures))
+          ∙ ap (put-at (a .at + row-head-bytes) b) (q .put-row-head .ensures ∙ ap (λ e. put-at (a .at) (row-head e len) out) (q .before .before .numbers-at .ensures))
           ∙ row-put (a .at) (numbers-of s) len (bytes-of room s) b out l (omega arith),
     )
 

@@ -7,7 +7,7 @@ use lib.ListN.{length, drop}
 use denote.Ref.{now}
 use Rattle.definition.specs.Utf8.{encoded}
 use Rattle.definition.specs.Capacity.{bytes}
-use Rattle.room.specs.Puts.{put-at}
+use Rattle.lent_bytes.specs.Puts.{put-at}
 use Rattle.edge.specs.Slots.{edge-of}
 use Rattle.edge.specs.Stored.{slot-encoded}
 use borrow.Author.Needs.{needs}

@@ -4,9 +4,9 @@ use mathlib.Core.Path.{_≡_, sym, ap, _∙_}
 use native.Mathlib.Omega.{arith}
 use lib.ListN.{length}
 use denote.Ref.{now}
-use Rattle.room.specs.Puts.{put-at}
+use Rattle.lent_bytes.specs.Puts.{put-at}
 use Rattle.edge.specs.Slots.{edge-by}
-use Rattle.listing.specs.Sizes.{head-bytes}
+use Rattle.definition.specs.Listing.{row-head-bytes}
 use Rattle.listing.specs.Rows.{row-of, row-length, row-by, size-by}
 use Rattle.listing.specs.Items.{put-fits, put-misses}
 use borrow.Author.Needs.{needs}
@@ -25,7 +25,7 @@ returns c =
     let a = q .args in
     let w = now (a .text) in
     let x = edge-by (a .e) w in
-    let end = a .at + head-bytes + length w in
+    let end = a .at + row-head-bytes + length w in
     let e : end ≡ a .at + length (row-of x) = omega (arith, row-length x, size-by (a .e) w (q .pre .1)) in
     put-misses (row-of x) (a .at) end (now (a .out)) e (omega arith)
 

@@ -4,8 +4,8 @@ use mathlib.Core.Path.{refl, ap, _∙_}
 use native.Mathlib.Omega.{arith}
 use lib.ListN.{length}
 use denote.Ref.{now}
-use Rattle.room.specs.Puts.{put-at}
-use Rattle.listing.specs.Sizes.{head-bytes}
+use Rattle.lent_bytes.specs.Puts.{put-at}
+use Rattle.definition.specs.Listing.{row-head-bytes}
 use Rattle.listing.proofs.Heads.{row-put}
 use borrow.Author.Needs.{needs}
 use Rattle.listing.proofs.put_row.Statement.{statement}
@@ -33,7 +33,7 @@ returns c =
     let a = r .before .before .before .before .args in
     let text = now (a .text) in (
       refl,
-      p .put-at .ensures ∙ ap (put-at (a .at + head-bytes) text) (r .put-row-head .ensures)
+      p .put-at .ensures ∙ ap (put-at (a .at + row-head-bytes) text) (r .put-row-head .ensures)
           ∙ row-put (a .at) (a .e) (length text) text text (now (a .out)) refl (omega arith),
     )
 

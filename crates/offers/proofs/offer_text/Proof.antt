@@ -10,7 +10,7 @@ use Rattle.definition.specs.Limits.{most-bytes}
 use Rattle.definition.specs.Offers.{offers}
 use Rattle.definition.specs.RuleRows.{rule-of}
 use Rattle.rom.specs.Rom.{rom, len-by, text-by, clean-by}
-use Rattle.rulerow.specs.Others.{others}
+use Rattle.rule_row.specs.Others.{others}
 use Rattle.edge.specs.Slots.{edge-by}
 use Rattle.offers.specs.Texts.{texts, text-short}
 use Rattle.offers.proofs.Telling.{target-short, other-short, flag-there, other-there, note-there, text-plain, text-cored, text-target}

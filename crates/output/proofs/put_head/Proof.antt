@@ -8,7 +8,7 @@ use denote.Ref.{now}
 use borrow.Author.Tests.{le-leb, lt-leb}
 use Rattle.base.specs.Pick.{pick}
 use Rattle.base.specs.Big.{four}
-use Rattle.room.specs.Puts.{put-at}
+use Rattle.lent_bytes.specs.Puts.{put-at}
 use borrow.Author.Needs.{needs}
 use Rattle.output.proofs.put_head.Statement.{statement}
 use Rattle.output.proofs.put_head.Tie as tie

@@ -12,7 +12,7 @@ use Rattle.definition.specs.Offers.{found-all}
 use Rattle.definition.specs.Bounds.{Sound}
 use Rattle.definition.specs.Call.{tables-of}
 use Rattle.base.specs.Alls.{All}
-use Rattle.places.specs.Shows.{memory}
+use Rattle.edge_places.specs.Shows.{memory}
 use Rattle.standing.specs.Starts.{end-of}
 use Rattle.listing.specs.Items.{put-items, put-items-append}
 use Rattle.words.specs.Given.{size, line-size}

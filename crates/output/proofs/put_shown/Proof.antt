@@ -9,7 +9,7 @@ use Rattle.definition.specs.Edges.{Edge, State}
 use Rattle.definition.specs.Paths.{joined, path-from, path-of}
 use Rattle.definition.specs.Utf8.{encoded}
 use Rattle.definition.specs.Call.{tables-of}
-use Rattle.places.specs.Shows.{memory}
+use Rattle.edge_places.specs.Shows.{memory}
 use Rattle.standing.specs.Starts.{end-of}
 use Rattle.listing.specs.Items.{put-items}
 use Rattle.words.specs.Given.{size, line-size}

@@ -8,7 +8,7 @@ use denote.Ref.{now}
 use Rattle.definition.specs.Edges.{Edge}
 use Rattle.definition.specs.Paths.{path-from}
 use Rattle.edge.specs.Slots.{edges-of}
-use Rattle.edge.specs.Best.{edge-at}
+use Rattle.edge.specs.Best.{best-means}
 use Rattle.listing.specs.Sizes.{row-most}
 use Rattle.listing.specs.Items.{put-items}
 use Rattle.standing.specs.Starts.{end-of}
@@ -68,7 +68,7 @@ loop-less c =
     let b = c .before .before .before .before .before .best-right-neighbor-edge in
     let best = b .ensures (a .count) (q .pre .0 .stands) in
     let m = c .next-from in
-    let f = step-ahead (end-of (now (a .starts))) es (q .pre .0 .stands .ahead room) (l .p) (m .result) (edge-at room (now (a .slots)) (b .result))
+    let f = step-ahead (end-of (now (a .starts))) es (q .pre .0 .stands .ahead room) (l .p) (m .result) (best-means room (now (a .slots)) (b .result))
     (best .0 room) (m .ensures .0 room) (omega arith) in
     omega (arith, f .0, f .1)
 
@@ -85,11 +85,11 @@ loop-again c =
     let room = now (a .room) in
     let n = end-of (now (a .starts)) in
     let es = edges-of room (a .count) slots in
-    let f = step-ahead n es (q .pre .0 .stands .ahead room) (l .p) (m .result) (edge-at room slots (b .result))
+    let f = step-ahead n es (q .pre .0 .stands .ahead room) (l .p) (m .result) (best-means room slots (b .result))
     (best .0 room) (m .ensures .0 room) (omega arith) in (
       ap (λ (r : List Edge). put-items (a .rows) r (w .result, w .last .0))
           (path-same n es (q .pre .0 .stands .ahead room) (n - m .result) (n - l .p - 1) (m .result) (omega arith) (omega (arith, f .0)))
-          ∙ path-on (a .rows) es (edge-at room slots (b .result)) (n - l .p - 1) (l .p) (m .result) (w .result, w .last .0) (l .end, l .out)
+          ∙ path-on (a .rows) es (best-means room slots (b .result)) (n - l .p - 1) (l .p) (m .result) (w .result, w .last .0) (l .end, l .out)
           (best .0 room) (m .ensures .0 room) (w .ensures .0)
           ∙ ap (λ (k : ℕ). put-items (a .rows) (path-from k (l .p) es) (l .end, l .out)) {x = suc (n - l .p - 1)} {y = n - l .p} (omega arith) ∙ l .inv .0,
       f .1,

@@ -15,9 +15,9 @@ use Rattle.definition.specs.Classes.{class}
 use Rattle.utf8.specs.Encodings.{low-bytes}
 use Rattle.edge.specs.declared.Numbers.{Numbers}
 use Rattle.edge.specs.Adding.{Writable}
-use Rattle.places.specs.declared.Ending.{Ending}
+use Rattle.edge_places.specs.declared.Ending.{Ending}
 use Rattle.words.specs.Given.{World, kinds}
-use Rattle.rules.specs.Chosen.{said}
+use Rattle.rule_choice.specs.Chosen.{chosen-means}
 use Rattle.spans.specs.Spans.{category-note}
 use Rattle.passes.specs.Reached.{Over}
 use Rattle.second_pass.specs.Fallback.{single-numbers, search-note, category-text, spaced, unspaced, own-inside}
@@ -83,7 +83,7 @@ abbrev classed : tie.After-simple-top-romanization-candidate-for-span → tie.Af
 classed s = s .before .before .before .before .before .before
 
 abbrev answer : tie.After-fallback-text → Option Text
-answer b = said (now (start (classed (asked b)) .args .rules)) (asked b .simple-top-romanization-candidate-for-span .result)
+answer b = chosen-means (now (start (classed (asked b)) .args .rules)) (asked b .simple-top-romanization-candidate-for-span .result)
 
 -- places as they are after it
 abbrev places-then : tie.After-fallback-text → List ℕ

@@ -5,7 +5,7 @@ use denote.Ref.{now}
 use Rattle.definition.specs.Texts.{Text}
 use Rattle.definition.specs.Building.{grown}
 use Rattle.definition.specs.Call.{tables-of}
-use Rattle.places.specs.Shows.{memory}
+use Rattle.edge_places.specs.Shows.{memory}
 use Rattle.rom.specs.Rom.{text, len-by, text-by, clean-by}
 use Rattle.steps.specs.Works.{work-of}
 use Rattle.words.specs.Did.{did-by}

@@ -2,7 +2,7 @@
 use mathlib.Core.Path.{sym, _∙_}
 use denote.Ref.{now}
 use lib.ListN.{take, drop}
-use Rattle.rules.specs.Chosen.{said}
+use Rattle.rule_choice.specs.Chosen.{chosen-means}
 use Rattle.spans.proofs.Tails.{by-rule, by-itself}
 use borrow.Author.Needs.{needs}
 use Rattle.spans.proofs.fallback_text.Statement.{statement}
@@ -22,7 +22,7 @@ returns c =
     let a = c .before .before .before .before .before .before .args in
     let R = now (a .rules) in
     c .plus-dropped .ensures
-    ∙ by-rule (said R (a .chosen)) (take (a .len) (drop (a .at) (now (a .text)))) (now (c .before .chosen-text .result))
+    ∙ by-rule (chosen-means R (a .chosen)) (take (a .len) (drop (a .at) (now (a .text)))) (now (c .before .chosen-text .result))
     (sym (c .before .before .before .is-told .ensures R) ∙ c .before .before .if1 .taken) (c .before .chosen-text .ensures)
 
 part-requires : tie.Need-part-requires
@@ -33,7 +33,7 @@ returns-2 c =
     let a = c .before .before .before .before .before .args in
     let R = now (a .rules) in
     c .part .ensures
-    ∙ by-itself (said R (a .chosen)) (take (a .len) (drop (a .at) (now (a .text)))) (sym (c .before .before .is-told .ensures R) ∙ c .before .if1 .left)
+    ∙ by-itself (chosen-means R (a .chosen)) (take (a .len) (drop (a .at) (now (a .text)))) (sym (c .before .before .is-told .ensures R) ∙ c .before .if1 .left)
 
 pub fallback-text-spec : {M : Type 1} → statement M
 fallback-text-spec =

@@ -6,11 +6,11 @@ use lib.ListN.{length}
 use denote.Ref.{now}
 use Rattle.base.specs.Pick.{pick}
 use Rattle.definition.specs.Call.{tables-of}
-use Rattle.places.specs.Shows.{memory}
+use Rattle.edge_places.specs.Shows.{memory}
 use Rattle.rom.specs.Rom.{clean-by}
 use Rattle.words.specs.Did.{did-by}
 use Rattle.words.specs.Given.{seen, size, lent-after}
-use Rattle.rules.specs.Chosen.{said}
+use Rattle.rule_choice.specs.Chosen.{chosen-means}
 use Rattle.steps.proofs.Tries.{said-short}
 use Rattle.spans.specs.Spans.{found}
 use Rattle.spans.specs.Ways.{found-there, span-untold, span-told, plus-few}
@@ -65,7 +65,7 @@ returns c =
           let D = tables-of R (z .classes) (now (a .vowels)) (now (a .code)) in
           record {
             did = did-by (found-there (x .result) (x .ensures .1))
-                (span-told D (z .text) (seen z) (a .look .from) (a .look .to) (memory (size z) (now (a .places))) (said R (F .result)) (A .did) told
+                (span-told D (z .text) (seen z) (a .look .from) (a .look .to) (memory (size z) (now (a .places))) (chosen-means R (F .result)) (A .did) told
                 (now (w .result)) (w .ensures) (b .result) (now (u .result)) (b .ensures) (u .ensures) (X .did));
             kept = X .kept ∙ A .kept;
           },
@@ -90,7 +90,7 @@ returns-2 c =
           let A = F .ensures .0 z known lent in
           let D = tables-of R (z .classes) (now (a .vowels)) (now (a .code)) in
           record {
-            did = span-untold D (z .text) (seen z) (a .look .from) (a .look .to) (memory (size z) (now (a .places))) (said R (F .result)) (A .did) untold;
+            did = span-untold D (z .text) (seen z) (a .look .from) (a .look .to) (memory (size z) (now (a .places))) (chosen-means R (F .result)) (A .did) untold;
             kept = A .kept;
           },
       clean-by [] (c .new .ensures) (omega arith),

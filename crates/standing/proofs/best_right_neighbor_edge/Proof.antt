@@ -10,7 +10,7 @@ use Rattle.base.specs.Lists.{best}
 use Rattle.definition.specs.Limits.{slot-bytes}
 use Rattle.definition.specs.Edges.{Edge, starting}
 use Rattle.edge.specs.Slots.{edges-of}
-use Rattle.edge.specs.Best.{edge-at, Found}
+use Rattle.edge.specs.Best.{best-means, Found}
 use Rattle.standing.specs.declared.Stretch.{Stretch}
 use Rattle.standing.specs.Starts.{stretch-of}
 use Rattle.standing.specs.Stands.{stretch-within}
@@ -52,7 +52,7 @@ returns c =
     let S = now (a .slots) in
     let T = now (a .starts) in
     let f = k .before .before .fallback .ensures in λ count stands. (
-      λ room. ap (edge-at room S) f ∙ right-single S T count stands (a .p) (g .pre .1) room (k .best-within .result)
+      λ room. ap (best-means room S) f ∙ right-single S T count stands (a .p) (g .pre .1) room (k .best-within .result)
           (k .best-within .ensures .0 room ∙ ap (best-in room S (a .p)) (k .before .stretch-at .ensures)) (c .enum-told .given .1),
       subst (Found count) (sym f) (fallback-found S T count stands (a .p) (g .pre .1)),
     )

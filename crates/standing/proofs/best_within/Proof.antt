@@ -10,7 +10,7 @@ use Rattle.definition.specs.Limits.{slot-bytes}
 use Rattle.definition.specs.Edges.{starting}
 use Rattle.edge.specs.Slots.{edge-of, edges-of}
 use Rattle.edge.specs.Asked.{best-after, best-over}
-use Rattle.edge.specs.Best.{edge-at, Found}
+use Rattle.edge.specs.Best.{best-means, Found}
 use Rattle.standing.specs.Right.{longer, here, best-turn, improved-found}
 use borrow.Author.Needs.{needs}
 use Rattle.standing.proofs.best_within.Statement.{statement}
@@ -18,7 +18,7 @@ use Rattle.standing.proofs.best_within.Tie as tie
 
 abbrev Inv-loop : tie.InvT-loop
 Inv-loop slots p end best₀ i₀ found i =
-    ((room : List ℕ) → best-after longer (edge-at room slots found) (starting (edges-of room (end - i) (drop (i * slot-bytes) slots)) p)
+    ((room : List ℕ) → best-after longer (best-means room slots found) (starting (edges-of room (end - i) (drop (i * slot-bytes) slots)) p)
     ≡ best longer (starting (edges-of room (end - i₀) (drop (i₀ * slot-bytes) slots)) p))
     × Found end found × (end * slot-bytes ≤ length slots)
 
@@ -51,11 +51,11 @@ loop-again c =
     let b = c .better .ensures in
     let next = c .better .result in (
       λ room.
-          ap (λ (n : ℕ). best-after longer (edge-at room s next) (starting (edges-of room n (drop ((l .i + 1) * slot-bytes) s)) (a .p)))
+          ap (λ (n : ℕ). best-after longer (best-means room s next) (starting (edges-of room n (drop ((l .i + 1) * slot-bytes) s)) (a .p)))
           {x = e - (l .i + 1)} {y = e - l .i - 1} (omega arith)
-          ∙ ap (λ (k : ℕ). best-after longer (edge-at room s next) (starting (edges-of room (e - l .i - 1) (drop k s)) (a .p)))
+          ∙ ap (λ (k : ℕ). best-after longer (best-means room s next) (starting (edges-of room (e - l .i - 1) (drop k s)) (a .p)))
           {x = (l .i + 1) * slot-bytes} {y = o + slot-bytes} (omega arith)
-          ∙ ap (λ b. best-after longer (edge-at room s b) (starting (edges-of room (e - l .i - 1) (drop (o + slot-bytes) s)) (a .p))) (b room)
+          ∙ ap (λ b. best-after longer (best-means room s b) (starting (edges-of room (e - l .i - 1) (drop (o + slot-bytes) s)) (a .p))) (b room)
           ∙ best-turn (a .p) room s o (l .best) (e - l .i) (omega arith) ∙ l .inv .0 room,
       subst (Found e) (sym (b [])) (improved-found (a .p) [] s o (l .best) e (l .i) (omega arith) refl (l .inv .1)),
       l .inv .2,
@@ -67,7 +67,7 @@ returns c =
     let a = c .before .before .before .args in
     let l = c .before .loop in
     let s = now (a .slots) in (
-      λ room. best-over (edge-of room) slot-bytes s (a .within .end - l .i) (l .i * slot-bytes) (here (a .p)) longer (edge-at room s (l .best)) (omega arith)
+      λ room. best-over (edge-of room) slot-bytes s (a .within .end - l .i) (l .i * slot-bytes) (here (a .p)) longer (best-means room s (l .best)) (omega arith)
           ∙ l .inv .0 room,
       l .inv .1,
     )

@@ -9,7 +9,7 @@ use Rattle.definition.specs.RuleRows.{rules-of}
 use Rattle.definition.specs.Rules.{first-rule}
 use Rattle.definition.specs.Expansion as expansion
 use Rattle.rom.specs.Rom.{text}
-use Rattle.rules.specs.Chosen.{said}
+use Rattle.rule_choice.specs.Chosen.{chosen-means}
 use Rattle.steps.specs.Works.{work-of}
 use Rattle.words.specs.Characters.{script-prev, flag-prev}
 use Rattle.steps.proofs.Tries.{behind-there, blank-pre, not-before, by-rule, unflagged-before}
@@ -62,14 +62,14 @@ returns-2 c =
     let F = c .before .before .romanization-by-first-rule in
     let U = c .before .put-behind .ensures in
     let z = sym (add-zero (a .w .to)) in
-    let H = behind-there (work-of (a .w)) (said (now (a .rules)) (F .result)) in
+    let H = behind-there (work-of (a .w)) (chosen-means (now (a .rules)) (F .result)) in
     let R = rules-of (now (a .rules)) in (
       (λ u g.
           let h : a .w .from ≤ size u + 2 = omega (arith, s .pre, line-size g) in
           let p = flag-prev g (a .w .from) h K 6 (λ k. k .pre) (λ m k z. z .pre) refl in
           let q = script-prev g (a .w .from) h K refl in
           let r = F .ensures .0 ∙ ap (λ (x : ℕ). first-rule R (x ∷ [])) (C ∙ char-before g (a .w .from) h) in
-          U .0 0 z .work ∙ by-rule R (kinds u) (u .text) (work-of (a .w)) p q (sym T ∙ I) (said (now (a .rules)) (F .result)) r),
+          U .0 0 z .work ∙ by-rule R (kinds u) (u .text) (work-of (a .w)) p q (sym T ∙ I) (chosen-means (now (a .rules)) (F .result)) r),
       U .1,
       U .2,
       omega (arith, ap (λ (y : expansion.Work). y .from) (U .0 0 z .work), H .0),

@@ -10,7 +10,7 @@ use Rattle.definition.specs.Texts.{Text}
 use Rattle.definition.specs.Notes.{note-exp}
 use Rattle.definition.specs.Expansion.{work}
 use Rattle.rom.specs.Rom.{text, rom, text-length, text-by, len-by, clean-by}
-use Rattle.rules.specs.Chosen.{said, or-nothing}
+use Rattle.rule_choice.specs.Chosen.{chosen-means, or-nothing}
 use Rattle.steps.specs.Works.{work-of}
 use Rattle.steps.proofs.Tries.{said-short, not-done, no-target, a-target}
 use borrow.Author.Needs.{needs}
@@ -39,7 +39,7 @@ returns c =
     let I = c .before .before .before .before .if1 .taken in
     let X = c .before .before .chosen-text in
     let E = c .before .append in
-    let o = said (now (a .rules)) (a .target) in
+    let o = chosen-means (now (a .rules)) (a .target) in
     let old = text (a .w .rom) in
     let e = E .ensures ∙ ap (λ (x : Text). rom (old ++ x)) (X .ensures) in
     let h : length (old ++ or-nothing o) ≤ a .w .rom .len + most-target =
@@ -56,7 +56,7 @@ returns-2 c =
     let s = c .before .before .before in
     let a = s .args in
     let T = c .before .is-told .ensures in
-    let o = said (now (a .rules)) (a .target) in
+    let o = chosen-means (now (a .rules)) (a .target) in
     ((λ k f. not-done (a .w) _ (no-target (work-of (a .w)) k o (sym (T (now (a .rules))) ∙ c .if1 .left))), s .pre .1, omega arith)
 
 pub put-behind-spec : {M : Type 1} → statement M

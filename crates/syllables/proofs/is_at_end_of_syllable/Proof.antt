@@ -7,11 +7,11 @@ use denote.Ref.{now}
 use Rattle.definition.specs.Texts.{at, prev}
 use Rattle.definition.specs.Classes.{class, alpha}
 use Rattle.definition.specs.Syllables.{past-tone}
-use Rattle.places.specs.Shows.{memory, closed-shown}
+use Rattle.edge_places.specs.Shows.{memory, closed-shown}
 use Rattle.words.specs.Did.{asked-none}
 use Rattle.words.specs.Given.{World, Lined, kinds, seen, size, line-size, alpha-kind}
 use Rattle.words.specs.Characters.{alpha-prev, flag-prev, alpha-here, flag-here}
-use Rattle.rules.specs.Lent.{lexicon-of}
+use Rattle.rule_choice.specs.Lent.{lexicon-of}
 use Rattle.syllables.specs.Tests.{word-begins, pre-left, pre-right, word-ends, consonant-left, by-vowel}
 use Rattle.syllables.proofs.Tones.{tone-told, tone-near}
 use borrow.Author.Needs.{needs}

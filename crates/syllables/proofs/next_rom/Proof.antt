@@ -1,9 +1,9 @@
 -- `syllables::next_rom`
 use mathlib.Core.Path.{sym, _∙_}
 use denote.Ref.{now}
-use Rattle.places.specs.Shows.{memory}
+use Rattle.edge_places.specs.Shows.{memory}
 use Rattle.words.specs.Given.{seen, size, lent-after}
-use Rattle.rules.specs.Lent.{lexicon-of}
+use Rattle.rule_choice.specs.Lent.{lexicon-of}
 use Rattle.syllables.specs.Tests.{two-told, one-told}
 use borrow.Author.Needs.{needs}
 use Rattle.syllables.proofs.next_rom.Statement.{statement}

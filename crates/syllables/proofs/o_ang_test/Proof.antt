@@ -4,10 +4,10 @@ use native.Mathlib.Omega.{arith}
 use borrow.Author.Tests.{eq-eqb, ne-eqb}
 use denote.Ref.{now}
 use Rattle.definition.specs.Texts.{at, o-ang}
-use Rattle.places.specs.Shows.{memory}
+use Rattle.edge_places.specs.Shows.{memory}
 use Rattle.words.specs.Did.{asked-by, asked-none}
 use Rattle.words.specs.Given.{seen, size, line-size, char-at}
-use Rattle.rules.specs.Lent.{lexicon-of}
+use Rattle.rule_choice.specs.Lent.{lexicon-of}
 use Rattle.syllables.specs.Tests.{o-ang-follows, no-o-ang}
 use borrow.Author.Needs.{needs}
 use Rattle.syllables.proofs.o_ang_test.Statement.{statement}

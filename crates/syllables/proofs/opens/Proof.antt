@@ -3,7 +3,7 @@ use mathlib.Core.Path.{ap, _∙_}
 use denote.Ref.{now}
 use Rattle.base.specs.Lists.{head, is}
 use Rattle.definition.specs.Texts.{vowels, lower}
-use Rattle.rules.specs.Chosen.{said}
+use Rattle.rule_choice.specs.Chosen.{chosen-means}
 use Rattle.syllables.specs.Sounds.{opens-text}
 use borrow.Author.Needs.{needs}
 use Rattle.syllables.proofs.opens.Statement.{statement}
@@ -19,7 +19,7 @@ returns : tie.Need-returns
 returns c =
     let a = c .before .before .before .args in
     c .starts-with-vowel .ensures ∙ ap (λ w. is (λ x. vowels (lower x)) (head w)) (c .before .chosen-text .ensures)
-    ∙ opens-text (said (now (a .rules)) (a .rom))
+    ∙ opens-text (chosen-means (now (a .rules)) (a .rom))
 
 pub opens-spec : {M : Type 1} → statement M
 opens-spec = tie.close (tie.spec chosen-text-requires starts-with-vowel-requires returns)

@@ -4,11 +4,11 @@ use lib.ListN.{drop}
 use denote.Ref.{now}
 use Rattle.base.specs.Pick.{pick}
 use Rattle.definition.specs.RuleRows.{rule-of, text-where, text-of, end-target-at}
-use Rattle.places.specs.Shows.{memory}
+use Rattle.edge_places.specs.Shows.{memory}
 use Rattle.words.specs.Did.{did-by}
 use Rattle.words.specs.Given.{seen, size, lent-after}
-use Rattle.rules.specs.Chosen.{chosen, Rowed}
-use Rattle.rules.specs.Lent.{lexicon-of}
+use Rattle.rule_choice.specs.Chosen.{choice-means, Rowed}
+use Rattle.rule_choice.specs.Lent.{lexicon-of}
 use Rattle.syllables.specs.Tests.{no-rule, no-end-target, at-end, inside}
 use borrow.Author.Needs.{needs}
 use Rattle.syllables.proofs.top_romanization_candidate_for_span.Statement.{statement}
@@ -32,7 +32,7 @@ returns c =
       λ w e g. let L = lexicon-of (now (a .rules)) w (now (a .code)) in
           let A = c .before .before .before .before .top-rule .ensures .0 w e g in
           record {
-            did = no-rule L (w .text) (seen w) (a .look .from) (a .look .to) (memory (size w) (now (a .places))) (did-by (sym (ap (chosen (now (a .rules)))
+            did = no-rule L (w .text) (seen w) (a .look .from) (a .look .to) (memory (size w) (now (a .places))) (did-by (sym (ap (choice-means (now (a .rules)))
                 (c .enum-told .given .1))) (A .did));
             kept = A .kept;
           },
@@ -61,7 +61,7 @@ returns-2 c =
     let ended = ap (λ x. text-where x (drop (end-target-at s) s)) flag in (
       λ w e g. let L = lexicon-of (now (a .rules)) w (now (a .code)) in
           let A = T .0 w e g in
-          let d = did-by (sym (ap (chosen R) (b .1))) (A .did) in
+          let d = did-by (sym (ap (choice-means R) (b .1))) (A .did) in
           let B = c .before .before .before .is-at-end-of-syllable .ensures w e (lent-after _ g (A .kept)) in
           record {
             did = at-end L (w .text) (seen w) (a .look .from) (a .look .to) (memory (size w) (now (a .places))) (rule-of s) d (text-of (drop (end-target-at s) s)) ended
@@ -94,7 +94,7 @@ returns-3 c =
     let ended = ap (λ x. text-where x (drop (end-target-at s) s)) flag in (
       λ w e g. let L = lexicon-of (now (a .rules)) w (now (a .code)) in
           let A = T .0 w e g in
-          let d = did-by (sym (ap (chosen R) (b .1))) (A .did) in
+          let d = did-by (sym (ap (choice-means R) (b .1))) (A .did) in
           let B = c .before .before .before .before .is-at-end-of-syllable .ensures w e (lent-after _ g (A .kept)) in
           record {
             did = did-by (c .target-of .ensures .0) (inside L (w .text) (seen w) (a .look .from) (a .look .to) (memory (size w) (now (a .places))) (rule-of s) d (text-of
@@ -125,7 +125,7 @@ returns-4 c =
     let ended = ap (λ x. text-where x (drop (end-target-at s) s)) flag in (
       λ w e g. let L = lexicon-of (now (a .rules)) w (now (a .code)) in
           let A = T .0 w e g in
-          let d = did-by (sym (ap (chosen R) (b .1))) (A .did) in
+          let d = did-by (sym (ap (choice-means R) (b .1))) (A .did) in
           let m = memory (size w) (now (a .places)) in
           record { did = did-by (c .target-of2 .ensures .0) (no-end-target L (w .text) (seen w) (a .look .from) (a .look .to) m (rule-of s) d ended); kept = A .kept },
       c .target-of2 .ensures .1,

@@ -1,9 +1,9 @@
 -- `syllables::vowel_test`
 use mathlib.Core.Path.{sym, _∙_}
 use denote.Ref.{now}
-use Rattle.places.specs.Shows.{memory}
+use Rattle.edge_places.specs.Shows.{memory}
 use Rattle.words.specs.Given.{seen, size, lent-after}
-use Rattle.rules.specs.Lent.{lexicon-of}
+use Rattle.rule_choice.specs.Lent.{lexicon-of}
 use Rattle.syllables.specs.Tests.{no-vowel, a-vowel}
 use borrow.Author.Needs.{needs}
 use Rattle.syllables.proofs.vowel_test.Statement.{statement}

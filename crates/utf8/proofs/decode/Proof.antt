@@ -8,7 +8,7 @@ use denote.Ref.{now}
 use borrow.Author.Needs.{needs}
 use Rattle.definition.specs.Utf8.{char, read}
 use Rattle.definition.specs.Utf8Turns.{char-bytes}
-use Rattle.utf8.specs.Read.{told}
+use Rattle.utf8.specs.Read.{char-means}
 use Rattle.utf8.proofs.Walks.{Walk, begun, turned, stopped, ended}
 use Rattle.utf8.proofs.decode.Statement.{statement}
 use Rattle.utf8.proofs.decode.Tie as tie
@@ -34,8 +34,8 @@ module _ (c : tie.After-known-told Inv-loop μ-loop) where
   k = c .before .value .given .0 .1 .0
 
   was-read : read (drop (l .loop .at) s) ≡ char v k
-  unfolding told
-  was-read = sym (c .before .before .before .read-char .ensures) ∙ ap told (c .before .value .given .1)
+  unfolding char-means
+  was-read = sym (c .before .before .before .read-char .ensures) ∙ ap char-means (c .before .value .given .1)
 
   size : (1 ≤ k) × (k ≤ 4)
   size = char-bytes (drop (l .loop .at) s) v k was-read
@@ -56,12 +56,12 @@ same-length : tie.Need-same-length Inv-loop μ-loop
 same-length c = search needs
 
 returns : tie.Need-returns Inv-loop μ-loop
-unfolding told
+unfolding char-means
 returns c =
     let r = c .before .before in
     let l = r .before .before in
     stopped (l .loop .inv) (r .before .loop-test .taken)
-    (sym (r .read-char .ensures) ∙ ap told (c .enum-told .given .1))
+    (sym (r .read-char .ensures) ∙ ap char-means (c .enum-told .given .1))
 
 put-requires : tie.Need-put-requires Inv-loop μ-loop
 put-requires c κs = search needs

@@ -4,7 +4,7 @@ use Prim.Native.Nat.{_-_}
 use lib.ListN.{length, drop}
 use borrow.Author.Needs.{needs}
 use Rattle.definition.specs.Call.{first-left-out}
-use Rattle.utf8.specs.Read.{place}
+use Rattle.utf8.specs.Read.{found-means}
 use Rattle.utf8.proofs.Walks.{left-here, left-later, left-none}
 use Rattle.utf8.proofs.first_left_out.Statement.{statement}
 use Rattle.utf8.proofs.first_left_out.Tie as tie
@@ -28,7 +28,7 @@ left-out-requires : tie.Need-left-out-requires Inv-loop μ-loop
 left-out-requires c κs = search needs
 
 returns : tie.Need-returns Inv-loop μ-loop
-unfolding place
+unfolding found-means
 returns c =
     let r = c .before in
     let t = r .before .before in
@@ -47,7 +47,7 @@ loop-again c =
     sym (left-later _ _ (t .loop-test .taken) (sym (r .left-out .ensures) ∙ c .if1 .left)) ∙ t .before .loop .inv
 
 returns-2 : tie.Need-returns-2 Inv-loop μ-loop
-unfolding place
+unfolding found-means
 returns-2 c = sym (left-none _ _ (c .loop-test .left)) ∙ c .before .loop .inv
 
 pub first-left-out-spec : {M : Type 1} → statement M

@@ -8,7 +8,7 @@ use borrow.Rule.Slice.PartMut.{putMid}
 use denote.Ref.{now}
 use Rattle.definition.specs.Limits.{most-characters}
 use Rattle.definition.specs.Utf8.{decoded}
-use Rattle.utf8.specs.Read.{refused, few-read}
+use Rattle.utf8.specs.Read.{text-means, few-read}
 use Rattle.utf8.specs.Lines.{spaced-is, lent-length}
 use borrow.Author.Needs.{needs}
 use Rattle.utf8.proofs.read_line.Statement.{statement}
@@ -92,12 +92,12 @@ same-length : tie.Need-same-length
 same-length c = search needs
 
 returns : tie.Need-returns
-unfolding refused
+unfolding text-means
 returns c =
     let a = c .before .before .before .before .before .before .before .before .before in
     let r = c .before .before .before .before .before .read-text in
     let e = c .before .read .given .1 in (
-      ap refused (sym e) ∙ r .ensures .0,
+      ap text-means (sym e) ∙ r .ensures .0,
       (
         λ m q. r .ensures .1 .0 m (e ∙ q),
         λ m q.

@@ -9,7 +9,7 @@ use denote.Ref.{now}
 use borrow.Author.Needs.{needs}
 use Rattle.definition.specs.Limits.{most-characters}
 use Rattle.definition.specs.Utf8.{decoded}
-use Rattle.utf8.specs.Read.{answered, refused}
+use Rattle.utf8.specs.Read.{answered, text-means}
 use Rattle.utf8.specs.Puts.{puts}
 use Rattle.utf8.specs.declared.Decoded.the-variants.{Characters}
 use Rattle.utf8.proofs.Answers.{not-utf8, counted, too-long, left, taken, no-count, own-count}
@@ -58,7 +58,7 @@ same-length : tie.Need-same-length
 same-length c = search needs
 
 returns : tie.Need-returns
-unfolding refused
+unfolding text-means
 returns c =
     let d = c .before .before .before .before .before .decode in
     (not-utf8 _ _ (sym (d .ensures .0) ∙ c .before .at .given .1), (no-count _ _ refl _, d .ensures .1))
@@ -70,7 +70,7 @@ same-length-2 : tie.Need-same-length-2
 same-length-2 c = search needs
 
 returns-2 : tie.Need-returns-2
-unfolding refused
+unfolding text-means
 returns-2 c =
     let d = c .before .before .before .before .before .before .decode in (
       too-long _ _ (sym (d .ensures .0) ∙ c .before .before .n .given .1) (omega arith),
@@ -95,7 +95,7 @@ same-length-3 : tie.Need-same-length-3
 same-length-3 c = search needs
 
 returns-3 : tie.Need-returns-3
-unfolding refused
+unfolding text-means
 returns-3 c =
     let f = c .before .before .before in (
       left (s f) (n f) (whole f) (l f) (w f) (start f .pre) (own f) (few f) _ (f .first-left-out .ensures) _

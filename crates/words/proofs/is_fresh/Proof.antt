@@ -1,7 +1,7 @@
 -- `words::is_fresh`: each question refuses by itself, and none refuses a start.
 use mathlib.Core.Path.{sym, _∙_}
 use native.Mathlib.Omega.{arith}
-use Rattle.places.specs.Shows.{letter-shown}
+use Rattle.edge_places.specs.Shows.{letter-shown}
 use Rattle.words.specs.Given.{kinds, seen, line-size, alpha-before}
 use Rattle.words.proofs.Starts.{by-text, by-edge, by-none}
 use borrow.Author.Needs.{needs}

@@ -5,9 +5,9 @@ use native.Mathlib.Omega.{arith}
 use lib.ListN.{take, drop}
 use denote.Ref.{now}
 use Rattle.definition.specs.RuleRows.{rules-of}
-use Rattle.memo.specs.Kept.{Kept}
-use Rattle.dicts.specs.Seek.{first-at, equal-rows}
-use Rattle.dicts.specs.Longer.{has-longer}
+use Rattle.rule_memo.specs.Kept.{Kept}
+use Rattle.rule_table.specs.Seek.{first-at, equal-rows}
+use Rattle.rule_table.specs.Longer.{has-longer}
 use borrow.Author.Needs.{needs}
 use Rattle.words.proofs.look_up.Statement.{statement}
 use Rattle.words.proofs.look_up.Tie as tie

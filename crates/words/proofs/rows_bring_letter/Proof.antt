@@ -8,7 +8,7 @@ use lib.ListN.{length-drop}
 use denote.Ref.{now}
 use Rattle.base.specs.Lists.{any}
 use Rattle.definition.specs.ClassRows.{classes-of}
-use Rattle.classes.specs.Told.{alphas-of}
+use Rattle.table_classes.specs.Told.{alphas-of}
 use Rattle.words.specs.Given.{letters-in}
 use Rattle.words.specs.Found.{Rows, rules-in, row-there, row-read}
 use Rattle.words.specs.Goes.{brings}

@@ -1,0 +1,152 @@
+-- How every call ends: with the romanization, or with one numbered refusal and zeros.
+use Prim.Native.Nat.{ℕ, zero, suc, _-_, _/_, _≤_}
+use mathlib.Core.Bool.{Bool, true, false, true≢false}
+use mathlib.Core.List.{List, [], _∷_, _++_}
+use mathlib.Core.Option.{Option, none, some}
+use mathlib.Core.Path.{_≡_, refl, sym, ap, _∙_}
+use mathlib.Core.Logic.{_⊎_, inl, inr}
+use lib.Dec.{eqb, leb, ltb}
+use lib.ListN.{length, replicate}
+use borrow.Author.Tests.{ltb-false, le-ltb}
+use Rattle.base.specs.Pick.{pick, pick-ind}
+use Rattle.base.specs.Lists.{any, or-else, first-of}
+use Rattle.base.specs.Alls.{All}
+use Rattle.definition.specs.Limits.{slot-bytes}
+use Rattle.definition.specs.Texts.{Text}
+use Rattle.definition.specs.Tables.{Tables}
+use Rattle.definition.specs.Edges.{Edge}
+use Rattle.definition.specs.Building.{lattice}
+use Rattle.definition.specs.Listing.{shown}
+use Rattle.definition.specs.Refusals.{Refusal, refuse, when, placed, numbers, refused-mode, refused-rules, refused-classes, refused-vowels, refused-code}
+use Rattle.definition.specs.Refusals.{refused-utf8, refused-too-long, refused-left-out, refused-room, refused-output}
+use Rattle.definition.specs.Capacity.{bytes, misfit}
+use Rattle.definition.specs.Call.{Inputs, Called, tables, characters, before-text, text-refusal, refusal, refused, written, within-room, with-lattice, accepted, unless-refused, called}
+
+-- what a call is to show: the string, the path, its alternatives or all edges
+abbrev pub romanization : Inputs → List ℕ
+romanization i = shown (tables i) (characters i) (i .mode) (lattice (tables i) (characters i))
+
+-- nothing was refused: neither the inputs, nor the slots and the room, nor the output
+pub record Romanized (i : Inputs) (r : Called) : Type 0 where
+  pub accepted : refusal i ≡ none
+  pub held : misfit (i .slots / slot-bytes) (i .room) (lattice (tables i) (characters i) .0) ≡ none
+  pub fits : length (romanization i) ≤ i .out
+  pub number : r .number ≡ 0
+  pub place : r .place ≡ 0
+  pub written : r .length ≡ length (romanization i)
+  pub count : r .edges ≡ length (lattice (tables i) (characters i) .0)
+  pub shows : r .output ≡ romanization i ++ replicate (i .out - length (romanization i)) 0
+
+pub record Refused (i : Inputs) (r : Called) : Type 0 where
+  pub number : any (eqb (r .number)) numbers ≡ true
+  pub written : r .length ≡ 0
+  pub count : r .edges ≡ 0
+  pub zeros : r .output ≡ replicate (i .out) 0
+
+-- a refusal that has one of the numbers, where there is one
+unfoldable Numbered : Option Refusal → Type 0
+Numbered none = Unit {0}
+Numbered (some r) = any (eqb (r .number)) numbers ≡ true
+
+when-numbered : (b : Bool) (n p : ℕ) → any (eqb n) numbers ≡ true → Numbered (when b n p)
+unfolding Numbered when pick
+when-numbered true n p h = h
+when-numbered false n p h = tt
+
+placed-numbered : (o : Option ℕ) (n : ℕ) → any (eqb n) numbers ≡ true → Numbered (placed n o)
+unfolding Numbered placed
+placed-numbered none n h = tt
+placed-numbered (some p) n h = h
+
+or-numbered : (a b : Option Refusal) → Numbered a → Numbered b → Numbered (or-else a b)
+unfolding Numbered
+or-numbered none b x y = y
+or-numbered (some r) b x y = x
+
+first-numbered : (l : List (Option Refusal)) → All Numbered l → Numbered (first-of l)
+unfolding first-of Numbered
+first-numbered [] h = tt
+first-numbered (o ∷ l) h = or-numbered o (first-of l) (h .0) (first-numbered l (h .1))
+
+refusal-numbered : (i : Inputs) → Numbered (refusal i)
+unfolding refusal before-text text-refusal any
+refusal-numbered i = or-numbered _ _
+    (first-numbered _ (
+      when-numbered _ refused-mode 0 refl,
+      (
+        placed-numbered _ refused-rules refl,
+        (
+          placed-numbered _ refused-classes refl,
+          (placed-numbered _ refused-vowels refl, (when-numbered _ refused-code 0 refl, tt)),
+        ),
+      ),
+    ))
+    (first-numbered _ (placed-numbered _ refused-utf8 refl, (when-numbered _ refused-too-long _ refl, (placed-numbered _ refused-left-out refl, tt))))
+
+misfit-numbered : (k r : ℕ) (l : List Edge) → Numbered (misfit k r l)
+unfolding Numbered misfit any
+misfit-numbered k r [] = tt
+misfit-numbered zero r (x ∷ l) = refl
+misfit-numbered (suc k) r (x ∷ l) = fits (leb (bytes x) r) (misfit-numbered k (r - bytes x) l)
+  where
+    fits : (b : Bool) → Numbered (misfit k (r - bytes x) l)
+        → Numbered (elim b [ true ↦ misfit k (r - bytes x) l | false ↦ some (refuse refused-room (x .from)) ])
+    fits true h = h
+    fits false h = refl
+
+refused-so : (i : Inputs) (r : Refusal) → any (eqb (r .number)) numbers ≡ true → Refused i (refused i r)
+unfolding refused
+refused-so i r h = record { number = h; written = refl; count = refl; zeros = refl }
+
+-- Every call ends in one of the two ways
+module _ (i : Inputs) where
+  abbrev D : Tables
+  D = tables i
+
+  abbrev t : Text
+  t = characters i
+
+  abbrev fault : Option Refusal
+  fault = misfit (i .slots / slot-bytes) (i .room) (lattice D t .0)
+
+  abbrev Ends : Called → Type 0
+  Ends r = Romanized i r ⊎ Refused i r
+
+  by-room : refusal i ≡ none → (o : Option Refusal) → fault ≡ o → Numbered o → Ends (within-room i D t (lattice D t) o)
+  unfolding Numbered within-room written any
+  by-room q none e h =
+      pick-ind Ends (ltb (i .out) (length (romanization i))) _ _
+      (λ l. inr (refused-so i (refuse refused-output (length (romanization i))) refl))
+      (λ l. inl (record {
+        accepted = q;
+        held = e;
+        fits = ltb-false (i .out) (length (romanization i)) l;
+        number = refl;
+        place = refl;
+        written = refl;
+        count = refl;
+        shows = refl;
+      }))
+  by-room q (some r) e h = inr (refused-so i r h)
+
+  by-refusal : (o : Option Refusal) → refusal i ≡ o → Numbered o → Ends (unless-refused i o)
+  unfolding Numbered unless-refused accepted with-lattice
+  by-refusal none e h = by-room e fault refl (misfit-numbered (i .slots / slot-bytes) (i .room) (lattice D t .0))
+  by-refusal (some r) e h = inr (refused-so i r h)
+
+  pub ends : Ends (called i)
+  unfolding called
+  ends = by-refusal (refusal i) refl (refusal-numbered i)
+
+  -- A call that ends with number 0 has romanized
+  pub romanized : called i .number ≡ 0 → Romanized i (called i)
+  romanized e = go ends
+    where
+      go : Ends (called i) → Romanized i (called i)
+      go (inl h) = h
+      go (inr h) = absurd (true≢false (sym (h .number) ∙ (unfold any in ap (λ n. any (eqb n) numbers) e)))
+
+  -- where nothing is refused the number is 0
+  pub unrefused : refusal i ≡ none → fault ≡ none → length (romanization i) ≤ i .out → called i .number ≡ 0
+  unfolding called unless-refused accepted with-lattice within-room written pick
+  unrefused e h l = rw (e, h, le-ltb (i .out) (length (romanization i)) l)

@@ -1,0 +1,64 @@
+-- The numbers that a call returns besides 0, each named here and nowhere else. Call says in which order they are tested.
+use mathlib.Core.Bool.{Bool}
+use mathlib.Core.List.{List, [], _∷_}
+use mathlib.Core.Option.{Option, none, some}
+use Prim.Native.Nat.{ℕ}
+use Rattle.base.specs.Pick.{pick}
+use Rattle.base.specs.Lists.{bind}
+
+-- the mode; the rule, the class, the vowel table; the language code
+abbrev pub refused-mode : ℕ
+refused-mode = 1
+
+abbrev pub refused-rules : ℕ
+refused-rules = 2
+
+abbrev pub refused-classes : ℕ
+refused-classes = 3
+
+abbrev pub refused-vowels : ℕ
+refused-vowels = 4
+
+abbrev pub refused-code : ℕ
+refused-code = 5
+
+-- the text: its bytes are not UTF-8, it has too many characters, or one that is left out
+abbrev pub refused-utf8 : ℕ
+refused-utf8 = 6
+
+abbrev pub refused-too-long : ℕ
+refused-too-long = 7
+
+abbrev pub refused-left-out : ℕ
+refused-left-out = 8
+
+-- what was lent: slots, text room, output
+abbrev pub refused-slots : ℕ
+refused-slots = 9
+
+abbrev pub refused-room : ℕ
+refused-room = 10
+
+abbrev pub refused-output : ℕ
+refused-output = 11
+
+-- all of them
+abbrev pub numbers : List ℕ
+numbers =
+    refused-mode ∷ refused-rules ∷ refused-classes ∷ refused-vowels ∷ refused-code
+    ∷ refused-utf8 ∷ refused-too-long ∷ refused-left-out ∷ refused-slots ∷ refused-room ∷ refused-output ∷ []
+
+-- A refusal is one of these numbers, and its place
+pub record Refusal : Type 0 where
+  pub number : ℕ
+  pub place : ℕ
+
+abbrev pub refuse : ℕ → ℕ → Refusal
+refuse n p = record { number = n; place = p }
+
+-- a refusal where a test holds, or at a place where there is one
+unfoldable pub when : Bool → ℕ → ℕ → Option Refusal
+when b n p = pick b (some (refuse n p)) none
+
+unfoldable pub placed : ℕ → Option ℕ → Option Refusal
+placed n o = bind o (λ p. some (refuse n p))

@@ -1,0 +1,192 @@
+// Rule rows walked by a reader that keeps the rule table and its offset together.
+//
+// A function over such a reader is proved by a walk of its code by hand. So each is thin: what decides anything is a function
+// over the plain table and offset (`row_at`, `next_at`, `left_at`). `start`, `read_at` and `step_from` make the reader
+// inside, so that whoever calls them, as `walk_rules` does, needs no walk.
+ghost use mathlib.Core.Path.{_≡_};
+ghost use Prim.Native.Nat.{_-_};
+ghost use lib.ListN.{length, drop};
+ghost use Rattle.definition.specs.Blocks.{head-bytes};
+ghost use Rattle.definition.specs.RuleRows.{rule-right, rule-fault};
+ghost use Rattle.table_blocks.specs.Faults.{table-means};
+ghost use Rattle.rule_table_check.specs.Marks.{mark-of};
+ghost use Rattle.rule_reader.specs.Rows.{row-here, next-row, right-rows};
+use rule_row_faults::Fault;
+use rule_row_faults::RowParts;
+use rule_row_faults::RowRead;
+use table_blocks::TableRead;
+
+// Rows of a table at most (document 01).
+const MOST_ROWS: usize = table_blocks::MOST_ROWS as usize;
+
+// A rule table, and the offset of a row.
+pub struct RuleReader<'a> {
+    pub table: &'a [u8],
+    pub at: usize,
+}
+
+// What stands at a reader's offset: a row's parts, its first fault with the offset in the table, or the table's end.
+pub enum RowHere {
+    Row(RowParts),
+    Wrong(Fault, usize),
+    End,
+}
+
+// What the walk over a table finds: how many rows are right one after another, and whether a fault follows them.
+pub struct Walked {
+    pub rows: usize,
+    pub read: TableRead,
+}
+
+// What stands at an offset.
+pub fn row_at(table: &[u8], at: usize) -> RowHere
+    ensures { λ r. ⌜ r ≡ row-here (now (table .entry)) at ⌝ }
+{
+    if table.len() <= at {
+        return RowHere::End;
+    }
+    match rule_row_faults::read_row(table, at) {
+        RowRead::Parts(parts) => RowHere::Row(parts),
+        RowRead::Wrong(fault, o) => RowHere::Wrong(fault, at + o),
+    }
+}
+
+// Where the next row begins; the table's end is not gone past.
+pub fn next_at(table: &[u8], at: usize) -> usize
+    ensures { λ r. ⌜ r ≡ next-row (now (table .entry)) at ⌝ }
+{
+    if table.len() <= at {
+        return at;
+    }
+    let size = rule_row::size(table, at);
+    if table.len() - at <= size {
+        return table.len();
+    }
+    at + size
+}
+
+// How many bytes are left.
+pub fn left_at(table: &[u8], at: usize) -> usize
+    ensures { λ r. ⌜ r ≡ length (now (table .entry)) - at ⌝ }
+{
+    if table.len() <= at {
+        return 0;
+    }
+    table.len() - at
+}
+
+// A reader at the first row, which stands behind the header.
+pub fn first_row<'a>(table: &'a [u8]) -> RuleReader<'a>
+    ensures { λ r. ⌜ (r .table ≡ table .entry) × (r .at ≡ head-bytes) ⌝ }
+{
+    RuleReader {
+        table,
+        at: table_blocks::HEAD_BYTES,
+    }
+}
+
+// The row at which a reader stands.
+pub fn row<'a>(r: RuleReader<'a>) -> RowHere
+    ensures { λ s. ⌜ s ≡ row-here (now (r .entry .table)) (r .entry .at) ⌝ }
+{
+    row_at(r.table, r.at)
+}
+
+// The reader moved past the row.
+pub fn past<'a>(r: RuleReader<'a>) -> RuleReader<'a>
+    ensures { λ q. ⌜ (q .table ≡ r .entry .table) × (q .at ≡ next-row (now (r .entry .table)) (r .entry .at)) ⌝ }
+{
+    RuleReader {
+        table: r.table,
+        at: next_at(r.table, r.at),
+    }
+}
+
+// What is left of the table, in bytes.
+pub fn left<'a>(r: RuleReader<'a>) -> usize
+    ensures { λ n. ⌜ n ≡ length (now (r .entry .table)) - r .entry .at ⌝ }
+{
+    left_at(r.table, r.at)
+}
+
+// Where the first row stands.
+pub fn start(table: &[u8]) -> usize
+    ensures { λ r. ⌜ r ≡ head-bytes ⌝ }
+{
+    first_row(table).at
+}
+
+// What a reader finds at an offset.
+pub fn read_at(table: &[u8], at: usize) -> RowHere
+    ensures { λ s. ⌜ s ≡ row-here (now (table .entry)) at ⌝ }
+{
+    row(RuleReader { table, at })
+}
+
+// Where a reader at an offset stands past the row.
+pub fn step_from(table: &[u8], at: usize) -> usize
+    ensures { λ o. ⌜ o ≡ next-row (now (table .entry)) at ⌝ }
+{
+    past(RuleReader { table, at }).at
+}
+
+// Whether the row at `at` is right after the one at `old`, or as the first.
+fn is_right(table: &[u8], at: usize, old: usize, first: bool) -> bool
+    ensures { λ r. ⌜ r ≡ rule-right (mark-of (now (table .entry)) old first) (drop at (now (table .entry))) ⌝ }
+{
+    match read_at(table, at) {
+        RowHere::Row(_) => {
+            if first {
+                return true;
+            }
+            return rule_row::sources_rise(table, old, at);
+        }
+        RowHere::Wrong(_, _) => {
+            return false;
+        }
+        RowHere::End => {
+            return false;
+        }
+    }
+}
+
+// The whole table, row by row: the first fault, and how many rows are right before it. No more than `MOST_ROWS` rows, and sources
+// rise.
+pub fn walk_rules(table: &[u8]) -> Walked
+    ensures { λ r. ⌜ (table-means (r .read) ≡ rule-fault (now (table .entry)))
+        × (r .rows ≡ right-rows (now (table .entry))) ⌝ }
+{
+    if table_blocks::headed(table) {
+        let mut at = start(table);
+        let mut rows: usize = 0;
+        let mut old = at;
+        let mut first = true;
+        while at < table.len() {
+            if rows == MOST_ROWS {
+                return Walked {
+                    rows,
+                    read: TableRead::Fault(at),
+                };
+            }
+            if is_right(table, at, old, first) {
+                old = at;
+                first = false;
+                at = step_from(table, at);
+                rows += 1;
+            } else {
+                return Walked {
+                    rows,
+                    read: TableRead::Fault(at),
+                };
+            }
+        }
+        return Walked {
+            rows,
+            read: TableRead::Valid,
+        };
+    }
+    Walked {
+        rows: 0,
+        read: TableRead::Fault(0),
+    }
+}

@@ -1,0 +1,4 @@
+pub mod Sizes
+pub mod There
+pub mod Rise
+pub mod Others

@@ -1,2 +1,0 @@
-pub mod Rise
-pub mod Texts
