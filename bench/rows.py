@@ -5,10 +5,10 @@ Usage: rows.py FOLDER"""
 import pathlib
 import sys
 
-sys.path.insert(0, str(pathlib.Path(__file__).resolve().parents[1] / "tests" / "generate"))
+sys.path.insert(0, str(pathlib.Path(__file__).resolve().parents[1] / "tools"))
 from tables import *
 
-CHARACTERS = [chr(0x3400 + k) for k in range(8192)]
+CHARACTERS = [chr(0x3400 + k) for k in range(MOST_RULES)]
 KINDS = {
     "one_character": lambda c: Rule(c, "ka"),
     "two_characters": lambda c: Rule(c + "あ", "ka"),

@@ -12,7 +12,9 @@ enum { STACK = 1 << 20, PAINT = 0xA5 };
 
 static uint8_t stack[STACK];
 static ucontext_t caller, callee;
-static uint8_t slots[JETTYFIG_MOST_SLOTS], room[JETTYFIG_MOST_ROOM], out[JETTYFIG_MOST_ROOM + 8 * 17 * 512];
+static uint8_t slots[JETTYFIG_SLOTS_FOR(JETTYFIG_MOST_CHARACTERS)];
+static uint8_t room[JETTYFIG_ROOM_FOR(JETTYFIG_MOST_CHARACTERS)];
+static uint8_t out[JETTYFIG_ALL_EDGES_FOR(JETTYFIG_MOST_CHARACTERS)];
 
 typedef struct {
     uint8_t *bytes;

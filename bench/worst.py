@@ -5,10 +5,9 @@ Usage: worst.py FOLDER"""
 import pathlib
 import sys
 
-sys.path.insert(0, str(pathlib.Path(__file__).resolve().parents[1] / "tests" / "generate"))
+sys.path.insert(0, str(pathlib.Path(__file__).resolve().parents[1] / "tools"))
 from tables import *
 
-MOST_ROWS = 8192
 LETTERS = "abcdefghijklmnopqrstuvwxyz"
 
 
@@ -32,10 +31,10 @@ def word(k):
 def main():
     folder = pathlib.Path(sys.argv[1])
     kana = classes({"か": (LETTER, HIRAGANA)})
-    write(folder / "one_character", rules(*(Rule("か" * (1 + k % 16), "k") for k in range(MOST_ROWS))), kana, "か" * 512)
+    write(folder / "one_character", rules(*(Rule("か" * (1 + k % 16), "k") for k in range(MOST_RULES))), kana, "か" * 512)
     thai = classes({"ก": (LETTER, THAI), "อ": (LETTER, THAI), "่": (NONSPACING, THAI)})
     write(folder / "o_ang", rules(("ก", "k"), ("อ", "o"), ("่", "")), thai, "ก" + "่" * 500 + "อก" * 5)
-    many = rules(*(Rule("か", "ka", others=[word(8 * k + i) for i in range(8)]) for k in range(MOST_ROWS)))
+    many = rules(*(Rule("か", "ka", others=[word(8 * k + i) for i in range(8)]) for k in range(MOST_RULES)))
     write(folder / "alternatives", many, kana, "か" * 4)
 
 

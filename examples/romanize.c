@@ -13,33 +13,41 @@
 typedef struct {
     uint8_t bytes[1 << 23]; /* the largest rule table has 5,980,165 */
     size_t length;
-} table;
+} file;
 
-static table rules, classes, vowels;
+static file rules, classes, vowels, text;
 
-static void read_table(const char *path, table *t) {
-    FILE *f = fopen(path, "rb");
+/* rooms for any text */
+static uint8_t slots[JETTYFIG_SLOTS_FOR(JETTYFIG_MOST_CHARACTERS)];
+static uint8_t room[JETTYFIG_ROOM_FOR(JETTYFIG_MOST_CHARACTERS)];
+static uint8_t out[JETTYFIG_STRING_FOR(JETTYFIG_MOST_CHARACTERS)];
+
+static void read_all(FILE *f, const char *name, file *t) {
     if (!f) {
-        perror(path);
+        perror(name);
         exit(2);
     }
     t->length = fread(t->bytes, 1, sizeof t->bytes, f);
+    if (t->length == sizeof t->bytes) {
+        fprintf(stderr, "%s: longer than this program takes\n", name);
+        exit(2);
+    }
     fclose(f);
 }
 
 int main(int argc, char **argv) {
-    static uint8_t text[65536], slots[JETTYFIG_MOST_SLOTS], room[JETTYFIG_MOST_ROOM], out[65536];
+    jettyfig_answer a;
     if (argc != 4) {
         fprintf(stderr, "usage: romanize RULES CLASSES VOWELS < TEXT\n");
         return 2;
     }
-    read_table(argv[1], &rules);
-    read_table(argv[2], &classes);
-    read_table(argv[3], &vowels);
-    size_t n = fread(text, 1, sizeof text, stdin);
-    jettyfig_answer a = jettyfig_romanize(JETTYFIG_STRING, rules.bytes, rules.length, classes.bytes, classes.length, vowels.bytes,
-                                          vowels.length, (const uint8_t *)"", 0, text, n, slots, sizeof slots, room, sizeof room,
-                                          out, sizeof out);
+    read_all(fopen(argv[1], "rb"), argv[1], &rules);
+    read_all(fopen(argv[2], "rb"), argv[2], &classes);
+    read_all(fopen(argv[3], "rb"), argv[3], &vowels);
+    read_all(stdin, "standard input", &text);
+    a = jettyfig_romanize(JETTYFIG_SHOW_STRING, rules.bytes, rules.length, classes.bytes, classes.length, vowels.bytes,
+                          vowels.length, (const uint8_t *)"", 0, text.bytes, text.length, slots, sizeof slots, room, sizeof room,
+                          out, sizeof out);
     if (a.number != JETTYFIG_DONE) {
         fprintf(stderr, "refused with %llu at %llu\n", (unsigned long long)a.number, (unsigned long long)a.place);
         return 1;

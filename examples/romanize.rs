@@ -7,7 +7,7 @@
 #[path = "../include/jettyfig.rs"]
 mod jettyfig;
 
-use jettyfig::{MOST_ROOM, MOST_SLOTS, Rooms, Tables};
+use jettyfig::{MOST_CHARACTERS, Refusal, Rooms, SHOW_STRING, Tables, room_for, slots_for, string_for};
 use std::io::{Read, Write};
 use std::process::ExitCode;
 
@@ -17,15 +17,15 @@ const SAMPLE: Tables = Tables {
     vowels: include_bytes!("../crates/romanize/data/vowels.bin"),
 };
 
-/// The path's string; or the refusal's number and place.
-fn string(tables: Tables, code: &[u8], text: &[u8]) -> Result<Vec<u8>, (u64, u64)> {
-    let mut slots = vec![0; MOST_SLOTS];
-    let mut room = vec![0; MOST_ROOM];
-    // a path has at most 512 edges
-    let mut out = vec![0; 512 * 198];
-    let answer = jettyfig::romanize(0, tables, code, text, Rooms { slots: &mut slots, room: &mut room, out: &mut out });
-    if answer.number != 0 {
-        return Err((answer.number, answer.place));
+/// The path's string; or the refusal, and its place.
+fn string(tables: Tables, code: &[u8], text: &[u8]) -> Result<Vec<u8>, (Refusal, u64)> {
+    // each character has a byte at least; a text of more than these is refused before it needs any room
+    let n = text.len().min(MOST_CHARACTERS);
+    let (mut slots, mut room, mut out) = (vec![0; slots_for(n)], vec![0; room_for(n)], vec![0; string_for(n)]);
+    let rooms = Rooms { slots: &mut slots, room: &mut room, out: &mut out };
+    let answer = jettyfig::romanize(SHOW_STRING, tables, code, text, rooms);
+    if let Some(refusal) = answer.refusal() {
+        return Err((refusal, answer.place));
     }
     out.truncate(answer.length as usize);
     Ok(out)
@@ -41,8 +41,8 @@ fn main() -> ExitCode {
             line.push(b'\n');
             if std::io::stdout().write_all(&line).is_ok() { ExitCode::SUCCESS } else { ExitCode::FAILURE }
         }
-        Err((number, place)) => {
-            eprintln!("refused with {number} at {place}");
+        Err((refusal, place)) => {
+            eprintln!("refused with {} ({refusal:?}) at {place}", refusal as u64);
             ExitCode::FAILURE
         }
     }

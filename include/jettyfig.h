@@ -1,7 +1,11 @@
 /* Jettyfig: a text in Thai, Khmer, Hindi, Japanese or another script, romanized by tables that the caller lends.
  *
  * There is one call. It takes any bytes: tables, code and text are checked in it, and it ends with the romanization or with
- * one numbered refusal. It allocates nothing, keeps nothing and calls nothing. Link target/staticlib/libjettyfig.a.
+ * one numbered refusal. It allocates nothing, and of the C library it calls memcpy, memmove and memset alone. Link
+ * target/staticlib/libjettyfig.a.
+ *
+ * Threads: the library has no state. Any number of calls may run at once, in any threads, and may share what they only read,
+ * tables, code and text; each needs slots, room and output of its own.
  *
  * Copyright: see NOTICE. */
 #ifndef JETTYFIG_H
@@ -14,50 +18,54 @@
 extern "C" {
 #endif
 
-/* What a call shows. */
-enum jettyfig_mode {
-    JETTYFIG_STRING = 0,       /* the path's string, in UTF-8, with no zero byte behind it */
-    JETTYFIG_PATH = 1,         /* a listing of the path's edges */
-    JETTYFIG_ALTERNATIVES = 2, /* a listing of the path's edges, then its alternatives */
-    JETTYFIG_ALL = 3           /* a listing of all edges: by start, longer first, then as added */
+/* The version of this header and its library: as text, and as a number that rises. */
+#define JETTYFIG_VERSION "1.0.0"
+#define JETTYFIG_VERSION_NUMBER 10000 /* 10000 for the first part, 100 for the second, 1 for the third */
+
+/* What a call shows: its argument `mode`. */
+enum jettyfig_show {
+    JETTYFIG_SHOW_STRING = 0,       /* the path's string, in UTF-8, with no zero byte behind it */
+    JETTYFIG_SHOW_PATH = 1,         /* a listing of the path's edges */
+    JETTYFIG_SHOW_ALTERNATIVES = 2, /* a listing of the path's edges, then its alternatives */
+    JETTYFIG_SHOW_ALL_EDGES = 3     /* a listing of all edges: by start, longer first, then as added */
 };
 
 /* A listing is a version byte 1, a 4-byte length of all that follows, and a row for each edge: the length of the rest of the
  * row (2 bytes), start, end (2 each, in characters of the text), annotation, core length (1 each), and the edge's text in
  * UTF-8. All numbers are big-endian. */
 
-/* What an edge is, in a listing. The core length is 0 except under JETTYFIG_CORE, where the core is the text's first bytes and
- * an inherent vowel follows it. */
-enum jettyfig_annotation {
-    JETTYFIG_ROM = 1,       /* a rule's text */
-    JETTYFIG_CORE = 2,      /* a rule's text and an inherent vowel */
-    JETTYFIG_TAIL = 3,      /* a rule's text that began with a plus: a tail of what stands before */
-    JETTYFIG_EXPANDED = 4,  /* a text that special characters have changed */
-    JETTYFIG_DELETED = 5,   /* a silent character */
-    JETTYFIG_SINGLE = 6,    /* a fallback: the rule's text of a single character */
-    JETTYFIG_MN = 7,        /* a fallback with no text: a nonspacing mark, */
-    JETTYFIG_CF = 8,        /* a format character, */
-    JETTYFIG_CO = 9,        /* a private one */
-    JETTYFIG_ZS = 10,       /* a fallback: a space */
-    JETTYFIG_ORIG = 11,     /* a fallback: the character itself */
-    JETTYFIG_ALT = 12,      /* an alternative: one of a rule, with the edge's vowel where it has one; 13 does not occur */
-    JETTYFIG_ALT3 = 14      /* an alternative: a rule's target where its end-of-syllable target was taken */
+/* What an edge is: the annotation of its row in a listing. The core length is 0 except under JETTYFIG_EDGE_CORE, where the
+ * core is the text's first bytes and an inherent vowel follows it. */
+enum jettyfig_edge {
+    JETTYFIG_EDGE_ROM = 1,      /* a rule's text */
+    JETTYFIG_EDGE_CORE = 2,     /* a rule's text and an inherent vowel */
+    JETTYFIG_EDGE_TAIL = 3,     /* a rule's text that began with a plus: a tail of what stands before */
+    JETTYFIG_EDGE_EXPANDED = 4, /* a text that special characters have changed */
+    JETTYFIG_EDGE_DELETED = 5,  /* a silent character */
+    JETTYFIG_EDGE_SINGLE = 6,   /* a fallback: the rule's text of a single character */
+    JETTYFIG_EDGE_MN = 7,       /* a fallback with no text: a nonspacing mark, */
+    JETTYFIG_EDGE_CF = 8,       /* a format character, */
+    JETTYFIG_EDGE_CO = 9,       /* a private one */
+    JETTYFIG_EDGE_ZS = 10,      /* a fallback: a space */
+    JETTYFIG_EDGE_ORIG = 11,    /* a fallback: the character itself */
+    JETTYFIG_EDGE_ALT = 12,     /* an alternative: one of a rule, with the edge's vowel where it has one; 13 does not occur */
+    JETTYFIG_EDGE_ALT3 = 14     /* an alternative: a rule's target where its end-of-syllable target was taken */
 };
 
-/* The refusals, in the order in which they are looked for, with what `place` says. */
+/* The answer's number: done, or a refusal. Refusals in the order in which they are looked for, with what `place` says. */
 enum jettyfig_number {
     JETTYFIG_DONE = 0,
-    JETTYFIG_MODE = 1,     /* the mode is above 3; 0 */
-    JETTYFIG_RULES = 2,    /* the rule table is faulty; the offset of its first faulty row, 0 for the header */
-    JETTYFIG_CLASSES = 3,  /* the class table is faulty; likewise */
-    JETTYFIG_VOWELS = 4,   /* the vowel table is faulty; likewise */
-    JETTYFIG_CODE = 5,     /* the language code is neither empty nor three letters a to z; 0 */
-    JETTYFIG_UTF8 = 6,     /* the text is not UTF-8 (RFC 3629); the offset of the first bad sequence */
-    JETTYFIG_LONG = 7,     /* the text has over 512 characters; 512 */
-    JETTYFIG_LEFT_OUT = 8, /* a Tibetan, Braille or Hangul character; its position in characters */
-    JETTYFIG_SLOTS = 9,    /* an edge finds no slot; the edge's start */
-    JETTYFIG_ROOM = 10,    /* an edge finds a slot, but too little text room; the edge's start */
-    JETTYFIG_OUTPUT = 11   /* the output is too short; the bytes that it needs */
+    JETTYFIG_REFUSED_MODE = 1,     /* the mode is above 3; 0 */
+    JETTYFIG_REFUSED_RULES = 2,    /* the rule table is faulty; the offset of its first faulty row, 0 for the header */
+    JETTYFIG_REFUSED_CLASSES = 3,  /* the class table is faulty; likewise */
+    JETTYFIG_REFUSED_VOWELS = 4,   /* the vowel table is faulty; likewise */
+    JETTYFIG_REFUSED_CODE = 5,     /* the language code is neither empty nor three letters a to z; 0 */
+    JETTYFIG_REFUSED_UTF8 = 6,     /* the text is not UTF-8 (RFC 3629); the offset of the first bad sequence */
+    JETTYFIG_REFUSED_TOO_LONG = 7, /* the text has over 512 characters; 512 */
+    JETTYFIG_REFUSED_LEFT_OUT = 8, /* a Tibetan, Braille or Hangul character; its position in characters */
+    JETTYFIG_REFUSED_SLOTS = 9,    /* an edge finds no slot; the edge's start */
+    JETTYFIG_REFUSED_ROOM = 10,    /* an edge finds a slot, but too little text room; the edge's start */
+    JETTYFIG_REFUSED_OUTPUT = 11   /* the output is too short; the bytes that it needs */
 };
 
 /* What a call returns. After a refusal length and edges are 0. */
@@ -68,15 +76,37 @@ typedef struct {
     uint64_t edges;  /* edges of the whole lattice */
 } jettyfig_answer;
 
-/* What is always enough: 17 edges of 12 bytes for each of 512 characters, and 198 bytes for each edge's text. Much less is
- * enough for a label: with n characters, slots of 17 * 12 * n bytes never run out. */
-#define JETTYFIG_MOST_SLOTS (512 * 17 * 12)
-#define JETTYFIG_MOST_ROOM (512 * 17 * 198)
+/* The most characters of a text. */
+#define JETTYFIG_MOST_CHARACTERS 512
+
+/* How many bytes are always enough for a text of n characters, whatever the tables: with slots and room of these sizes 9 and
+ * 10 never come, and with an output of its mode's size 11 never comes. A lattice has at most 17 edges for each character, each
+ * of a slot of 12 bytes and a text of at most 198; a path has at most one edge for each character; a listing has 5 bytes before
+ * its rows, and a row 8 before its text. A text of b bytes has at most b characters, and one of more than
+ * JETTYFIG_MOST_CHARACTERS is refused before it needs any room: so the smaller of the two may stand for n. These are constants
+ * where n is one. */
+#define JETTYFIG_SLOTS_FOR(n) ((size_t)17 * 12 * (n))
+#define JETTYFIG_ROOM_FOR(n) ((size_t)17 * 198 * (n))
+/* and the output of JETTYFIG_SHOW_STRING, JETTYFIG_SHOW_PATH and JETTYFIG_SHOW_ALL_EDGES */
+#define JETTYFIG_STRING_FOR(n) ((size_t)198 * (n))
+#define JETTYFIG_PATH_FOR(n) ((size_t)5 + (size_t)(8 + 198) * (n))
+#define JETTYFIG_ALL_EDGES_FOR(n) ((size_t)5 + (size_t)17 * (8 + 198) * (n))
+
+/* Alternatives have no such size: a text can have many thousands for each character, as the rules are. Call with as much as
+ * most texts need; where it is refused with JETTYFIG_REFUSED_OUTPUT, `place` is what it needs: call again with so much. */
+
+/* Bytes of stack that are enough for a call, on x86-64 as the library is built there, whatever text and tables: nothing in it is
+ * recursive. It has room for the dynamic linker, which may run at the first call of memcpy, memmove or memset. */
+#define JETTYFIG_STACK 24576
 
 /* The call. Each slice is a pointer and a length in bytes. Rules, classes, vowels, code and text are read only. Slots and room
  * are working rooms: what stands in them before is of no matter, and both are all zeros afterwards, whatever happened. All of
- * the output is written: `length` bytes, and zeros behind them; after a refusal it is all zeros. Slices that are written
- * must not overlap any other. A pointer must not be null, also where its length is 0. */
+ * the output is written: `length` bytes, and zeros behind them; after a refusal it is all zeros.
+ *
+ * This is asked of the caller, and can't be checked: no pointer is null, also where its length is 0; so many bytes as the
+ * length says can be read there, and in slots, room and output written; these three overlap no other slice, nor each other;
+ * no other thread writes any of the eight, or reads these three, before the call returns; and there are JETTYFIG_STACK bytes of
+ * stack. */
 jettyfig_answer jettyfig_romanize(uint8_t mode,
                                   const uint8_t *rules, size_t rules_length,
                                   const uint8_t *classes, size_t classes_length,

@@ -1,7 +1,74 @@
-//! Jettyfig for Rust: the call of `jettyfig.h`, made safe by slices. Take this file into a program as a module, and link
-//! target/staticlib/libjettyfig.a (`rustc -L target/staticlib`).
+//! Jettyfig for Rust: the call of `jettyfig.h`, made safe by slices, and its constants. Take this file into a program as a
+//! module, and link target/staticlib/libjettyfig.a (`rustc -L target/staticlib`). Any number of calls may run at once.
 
-/// What a call returns; `jettyfig.h` explains each number.
+// a program uses what it needs of these
+#![allow(dead_code)]
+
+/// The version of this file and its library: as text, and as a number that rises.
+pub const VERSION: &str = "1.0.0";
+pub const VERSION_NUMBER: u32 = 10000;
+
+/// What a call shows: its mode. The string, the path, the path and its alternatives, all edges.
+pub const SHOW_STRING: u8 = 0;
+pub const SHOW_PATH: u8 = 1;
+pub const SHOW_ALTERNATIVES: u8 = 2;
+pub const SHOW_ALL_EDGES: u8 = 3;
+
+/// What an edge is: the annotation of its row in a listing; `jettyfig.h` explains each.
+pub const EDGE_ROM: u8 = 1;
+pub const EDGE_CORE: u8 = 2;
+pub const EDGE_TAIL: u8 = 3;
+pub const EDGE_EXPANDED: u8 = 4;
+pub const EDGE_DELETED: u8 = 5;
+pub const EDGE_SINGLE: u8 = 6;
+pub const EDGE_MN: u8 = 7;
+pub const EDGE_CF: u8 = 8;
+pub const EDGE_CO: u8 = 9;
+pub const EDGE_ZS: u8 = 10;
+pub const EDGE_ORIG: u8 = 11;
+pub const EDGE_ALT: u8 = 12;
+pub const EDGE_ALT3: u8 = 14;
+
+/// The number of an answer that is no refusal.
+pub const DONE: u64 = 0;
+
+/// The refusals, in the order in which they are looked for; `jettyfig.h` explains each, and what its place is.
+#[derive(Clone, Copy, Debug, PartialEq, Eq)]
+pub enum Refusal {
+    Mode = 1,
+    Rules = 2,
+    Classes = 3,
+    Vowels = 4,
+    Code = 5,
+    Utf8 = 6,
+    TooLong = 7,
+    LeftOut = 8,
+    Slots = 9,
+    Room = 10,
+    Output = 11,
+}
+
+impl Refusal {
+    /// The refusal of an answer's number; none for 0, and for numbers that no call answers.
+    pub const fn from_number(number: u64) -> Option<Refusal> {
+        Some(match number {
+            1 => Refusal::Mode,
+            2 => Refusal::Rules,
+            3 => Refusal::Classes,
+            4 => Refusal::Vowels,
+            5 => Refusal::Code,
+            6 => Refusal::Utf8,
+            7 => Refusal::TooLong,
+            8 => Refusal::LeftOut,
+            9 => Refusal::Slots,
+            10 => Refusal::Room,
+            11 => Refusal::Output,
+            _ => return None,
+        })
+    }
+}
+
+/// What a call returns. After a refusal length and edges are 0.
 #[repr(C)]
 #[derive(Clone, Copy, Debug, Default, PartialEq, Eq)]
 pub struct Answer {
@@ -11,9 +78,41 @@ pub struct Answer {
     pub edges: u64,
 }
 
-/// What is enough for any text: 17 edges of 12 bytes for each of 512 characters, and 198 bytes for each edge's text.
-pub const MOST_SLOTS: usize = 512 * 17 * 12;
-pub const MOST_ROOM: usize = 512 * 17 * 198;
+impl Answer {
+    /// The refusal, if it is one.
+    pub const fn refusal(&self) -> Option<Refusal> {
+        Refusal::from_number(self.number)
+    }
+}
+
+/// The most characters of a text.
+pub const MOST_CHARACTERS: usize = 512;
+
+/// Bytes that are always enough for a text of `n` characters, whatever the tables: slots, text room, and the output of each
+/// mode but alternatives, which have no such size (where they are refused with `Refusal::Output`, the place is what they need).
+/// A text of `b` bytes has at most `b` characters, and at most `MOST_CHARACTERS` where it is not refused.
+pub const fn slots_for(n: usize) -> usize {
+    17 * 12 * n
+}
+
+pub const fn room_for(n: usize) -> usize {
+    17 * 198 * n
+}
+
+pub const fn string_for(n: usize) -> usize {
+    198 * n
+}
+
+pub const fn path_for(n: usize) -> usize {
+    5 + (8 + 198) * n
+}
+
+pub const fn all_edges_for(n: usize) -> usize {
+    5 + 17 * (8 + 198) * n
+}
+
+/// Bytes of stack that are enough for a call, on x86-64 as the library is built there, whatever text and tables.
+pub const STACK: usize = 24576;
 
 /// Tables that are lent to calls. They need not be right: a call checks them.
 #[derive(Clone, Copy)]
