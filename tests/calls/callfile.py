@@ -4,7 +4,12 @@ A call is its mode (1 byte), the bytes of slots, room and output (4 each), then 
 4-byte length and its bytes). Its answer follows: number (1), place, length and edges (4 each), and `length` output bytes; past
 these the output must be zero to its end. A file whose name ends in .xz is compressed."""
 import lzma
+import pathlib
+import sys
 from typing import NamedTuple
+
+sys.path.insert(0, str(pathlib.Path(__file__).resolve().parents[2] / "tools"))
+from tables import Bytes
 
 
 class Given(NamedTuple):
@@ -56,25 +61,6 @@ def encode(call):
     a = call.answer
     assert len(a.output) == a.length
     return mode + b"".join(map(four, call.lent)) + tables + bytes([a.number]) + four(a.place) + four(a.length) + four(a.edges) + a.output
-
-
-class Bytes:
-    """reads numbers and stretches from the front"""
-    def __init__(self, data):
-        self.data, self.at = data, 0
-
-    def take(self, n):
-        part = self.data[self.at:self.at + n]
-        if len(part) != n:
-            raise ValueError("cut short at byte %d" % self.at)
-        self.at += n
-        return part
-
-    def number(self, n):
-        return int.from_bytes(self.take(n), "big")
-
-    def done(self):
-        return self.at == len(self.data)
 
 
 def decode(b):

@@ -1,13 +1,15 @@
 """Asks the oracle, and makes calls of what it answers. The oracle knows nothing of the room lent to a call: 9, 10 and 11 are
 worked out here, by document 01's words, from the edges in their adding order."""
-import os
+import pathlib
 import subprocess
 import sys
 from typing import NamedTuple
 
-sys.path.insert(0, os.path.join(os.path.dirname(os.path.abspath(__file__)), "..", "calls"))
+ROOT = pathlib.Path(__file__).resolve().parents[2]
+sys.path[:0] = [str(ROOT / "tests" / "calls"), str(ROOT / "tools")]
 import callfile
-from callfile import Answer, Bytes, Call, Given, Lent, parts, refused
+from callfile import Answer, Call, Given, Lent, parts, refused
+from tables import Bytes, read_listing
 
 SLOT = 12
 
@@ -66,7 +68,4 @@ def string_of(given, built):
     """the path's string, from mode 0 or 1"""
     if given.mode == 0:
         return built.output.decode()
-    b, words = Bytes(built.output[5:]), []
-    while not b.done():
-        words.append(b.take(b.number(2))[6:])
-    return b"".join(words).decode()
+    return "".join(edge.text for edge in read_listing(built.output))

@@ -1,4 +1,8 @@
 """Document 01's sample table and its results."""
+import pathlib
+import sys
+
+sys.path.insert(0, str(pathlib.Path(__file__).resolve().parents[2] / "tools"))
 from tables import *
 
 KHMER, CYRILLIC = 6, 7

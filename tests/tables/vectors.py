@@ -1,5 +1,5 @@
 #!/usr/bin/env python3
-"""Vectors for the checks of the three tables (crates classes, vowelrows and rulecheck).
+"""Vectors for the checks of the three tables (crates classes, table_vowels and rule_table_check).
 
 vectors.py            writes crates/tables_vectors/stdin and stdout
 vectors.py --check    only says whether they are what it would write
@@ -8,108 +8,31 @@ A vector: the kind of table (0 rules, 1 classes, 2 vowels), the table's length i
 table or 1 for a faulty one, and the place of the fault in three bytes (0 where there is none). Numbers are big-endian.
 
 The answers come from three sides. The frozen calls have one for each table that a call was refused by or that passed. Some
-are written here beside the damage. The rest is answered by the reader below, which must agree with all the others."""
+are written here beside the damage. The rest is answered by the readers of tools/tables.py, which must agree with all the
+others. These take the parts of a row in their order from what the row has, and stop at the first that is wrong; the definition
+finds each part by its offset instead."""
 import itertools
 import pathlib
 import string
 import sys
 
 TESTS = pathlib.Path(__file__).resolve().parents[1]
-sys.path[:0] = [str(TESTS / 'calls'), str(TESTS / 'generate')]
+sys.path[:0] = [str(TESTS / 'calls'), str(TESTS / 'generate'), str(TESTS.parent / 'tools')]
 import callfile
 import program
 from tables import A, AO, CF, CO, DEVANAGARI, LETTER, MARK, OTHER, PRE, START, THAI, VIRAMA, WHOLE, ZS
-from tables import block, class_row, rule_row, vowel_row
+from tables import block, class_row, fault, read_classes, read_rules, read_vowels, rule_row, vowel_row
 
 RULES, CLASSES, VOWELS = range(3)
 NAMES = ('rules', 'classes', 'vowels')
+READERS = (read_rules, read_classes, read_vowels)
 ROOM = 1000000      # the length of `room` in crates/tables_vectors
 LARGE = 4000        # longer tables are taken sparingly
 
 
-# The reader takes the parts of a row in their order from what the row has, and stops at the first that is wrong. It is written
-# from the definition, which finds each part by its offset instead.
-
-class Wrong(ValueError):
-    """callfile.Bytes raises a ValueError where the bytes end too early, which is a fault as well"""
-
-
-def need(right):
-    if not right:
-        raise Wrong
-
-
-def scalar(c):
-    return c < 0xD800 or 0xDFFF < c < 0x110000
-
-
-def small(letters):
-    return set(letters) <= set(string.ascii_lowercase.encode())
-
-
-def read_text(row):
-    n = row.number(1)
-    need(n <= 64)
-    need(all(0x20 <= c <= 0x7E for c in row.take(n)))
-
-
-def read_rule(block, before):
-    row = callfile.Bytes(block.take(block.number(2)))
-    flags = row.number(1)
-    need(flags < 128)
-    row.take(2)                                                 # the restriction count may be any
-    source = [row.number(3) for _ in range(row.number(1))]
-    need(1 <= len(source) <= 16 and all(map(scalar, source)))
-    need(before <= source)
-    codes = [row.take(3) for _ in range(row.number(1))]
-    need(len(codes) <= 8 and all(map(small, codes)))
-    for bit in (5, 6):
-        if flags >> bit & 1:
-            read_text(row)
-    others = row.number(1)
-    need(others <= 8)
-    for _ in range(others):
-        read_text(row)
-    need(row.done())
-    return source
-
-
-def read_class(block, before):
-    c, category, script, flags = (block.number(n) for n in (3, 1, 1, 1))
-    need(scalar(c) and before < c)
-    need(category <= 7 and script <= 127 and flags <= 127)
-    need(c != 0x20 or (category, script, flags) == (ZS, 0, 0))
-    need(chr(c) not in string.ascii_letters or category == LETTER)
-    return c
-
-
-def read_vowel(block, before):
-    script, kind, n = (block.number(1) for _ in range(3))
-    need(before < script <= 127 and kind <= 1)
-    need(1 <= n <= 4 and small(block.take(n)))
-    return script
-
-
-# how a row is read, what stands before the first, and how many there may be
-READERS = ((read_rule, [], 8192), (read_class, -1, 8192), (read_vowel, 0, 127))
-
-
 def read(kind, table):
     """the place of the first fault, or None"""
-    read_row, before, most = READERS[kind]
-    bytes_of = callfile.Bytes(table)
-    place = 0
-    try:
-        need(bytes_of.number(1) == 1)
-        need(bytes_of.number(4) == len(table) - 5)
-        for row in itertools.count():
-            if bytes_of.done():
-                return None
-            place = bytes_of.at
-            need(row < most)
-            before = read_row(bytes_of, before)
-    except ValueError:
-        return place
+    return fault(READERS[kind], table)
 
 
 def agreed(vectors):

@@ -1,0 +1,106 @@
+/* Each refusal once, through the header: number and place are compared, and output, slots and room must be zero.
+ *
+ *     refusals RULES CLASSES VOWELS        document 01's sample tables */
+#include <stdio.h>
+#include <stdlib.h>
+#include <string.h>
+
+#include "jettyfig.h"
+
+typedef struct {
+    uint8_t bytes[4096];
+    size_t length;
+} slice;
+
+/* what a call is given: all of it is right, and a case spoils one part */
+typedef struct {
+    uint8_t mode;
+    slice rules, classes, vowels, code, text;
+    size_t slots, room, out;
+} call;
+
+static uint8_t slots[4096], room[4096], out[4096];
+static unsigned runs, differ;
+
+static void read_file(const char *path, slice *s) {
+    FILE *f = fopen(path, "rb");
+    if (!f) {
+        perror(path);
+        exit(2);
+    }
+    s->length = fread(s->bytes, 1, sizeof s->bytes, f);
+    fclose(f);
+}
+
+static void put(slice *s, const char *bytes) {
+    s->length = strlen(bytes);
+    memcpy(s->bytes, bytes, s->length);
+}
+
+static int is_zero(const uint8_t *bytes, size_t n) {
+    size_t k;
+    for (k = 0; k < n; k++) {
+        if (bytes[k]) return 0;
+    }
+    return 1;
+}
+
+static void expect(const char *name, const call *c, uint64_t number, uint64_t place) {
+    jettyfig_answer a;
+    memset(slots, 0xA5, sizeof slots);
+    memset(room, 0xA5, sizeof room);
+    memset(out, 0xA5, sizeof out);
+    a = jettyfig_romanize(c->mode, c->rules.bytes, c->rules.length, c->classes.bytes, c->classes.length, c->vowels.bytes,
+                          c->vowels.length, c->code.bytes, c->code.length, c->text.bytes, c->text.length, slots, c->slots, room,
+                          c->room, out, c->out);
+    runs++;
+    if (a.number != number || a.place != place || (number && (a.length || a.edges)) || !is_zero(slots, c->slots) ||
+        !is_zero(room, c->room) || !is_zero(out + a.length, c->out - a.length)) {
+        differ++;
+        printf("differs: %s: %llu at %llu\n", name, (unsigned long long)a.number, (unsigned long long)a.place);
+    }
+}
+
+int main(int argc, char **argv) {
+    static call good, c;
+    if (argc != 4) {
+        fprintf(stderr, "usage: refusals RULES CLASSES VOWELS\n");
+        return 2;
+    }
+    read_file(argv[1], &good.rules);
+    read_file(argv[2], &good.classes);
+    read_file(argv[3], &good.vowels);
+    /* two edges, "ka" and "t": 24 bytes of slots, 3 of room */
+    put(&good.text, "\xe0\xa4\x95\xe0\xa4\xa4");
+    good.slots = 24;
+    good.room = 3;
+    good.out = 3;
+    expect("done", &good, JETTYFIG_DONE, 0);
+
+    c = good, c.mode = JETTYFIG_SHOW_ALL_EDGES + 1;
+    expect("mode", &c, JETTYFIG_REFUSED_MODE, 0);
+    c = good, c.rules.length--;
+    expect("rules, header", &c, JETTYFIG_REFUSED_RULES, 0);
+    c = good, c.rules.bytes[19 + 2] |= 0x80;
+    expect("rules, second row", &c, JETTYFIG_REFUSED_RULES, 19);
+    c = good, c.classes.bytes[5 + 6 + 3] = 8;
+    expect("classes, second row", &c, JETTYFIG_REFUSED_CLASSES, 11);
+    c = good, c.vowels.bytes[9 + 1] = 2;
+    expect("vowels, second row", &c, JETTYFIG_REFUSED_VOWELS, 9);
+    c = good, put(&c.code, "hi");
+    expect("code", &c, JETTYFIG_REFUSED_CODE, 0);
+    c = good, put(&c.text, "ab\xc0");
+    expect("text", &c, JETTYFIG_REFUSED_UTF8, 2);
+    c = good, memset(c.text.bytes, 'a', JETTYFIG_MOST_CHARACTERS + 1), c.text.length = JETTYFIG_MOST_CHARACTERS + 1;
+    expect("long text", &c, JETTYFIG_REFUSED_TOO_LONG, JETTYFIG_MOST_CHARACTERS);
+    c = good, put(&c.text, "a\xe0\xbd\x80");
+    expect("Tibetan", &c, JETTYFIG_REFUSED_LEFT_OUT, 1);
+    c = good, c.slots--;
+    expect("slots", &c, JETTYFIG_REFUSED_SLOTS, 1);
+    c = good, c.room--;
+    expect("room", &c, JETTYFIG_REFUSED_ROOM, 1);
+    c = good, c.out--;
+    expect("output", &c, JETTYFIG_REFUSED_OUTPUT, 3);
+    printf("%u runs, %u differ\n", runs, differ);
+    return differ > 0;
+}

@@ -1,0 +1,45 @@
+#!/usr/bin/env python3
+"""Writes cases for sizes.c on standard output: the accepted texts of the frozen calls, random ones, and those that have the most
+edges and the longest texts.
+
+usage: sizes.py COUNT SEED        so many random ones"""
+import pathlib
+import random
+import sys
+
+TESTS = pathlib.Path(__file__).resolve().parents[1]
+sys.path[:0] = [str(TESTS / "calls"), str(TESTS / "generate")]
+import callfile
+from random_calls import World
+from tables import *
+
+NEEDS_ROOM = (9, 10, 11)
+MOST = "k" * 64
+
+
+def worst():
+    """16 sources from each character, each of the longest target; and Thai texts that grow at every step of the expansion"""
+    kana = classes({"か": (LETTER, HIRAGANA)})
+    many = rules(*(Rule("か" * k, MOST) for k in range(1, 17)))
+    for n in (1, 2, 16, 17, 100, 512):
+        yield many, kana, vowels((HIRAGANA, A, "aaaa")), b"", ("か" * n).encode()
+    thai = classes({"ก": (LETTER, THAI), "เ": (LETTER, THAI, PRE), "っ": (LETTER, THAI), "า": (LETTER, THAI),
+                    "ゃ": (LETTER, THAI), "\u0e4d": (NONSPACING, THAI, VIRAMA)})
+    long = rules(("ก", MOST[1:] + "i"), ("เ", "y" * 63 + "i"), ("า", MOST), ("ゃ", MOST), *(("ก" * k, MOST) for k in range(2, 17)))
+    for pattern in ("っเกゃ", "เกา", "っกゃ", "ก", "กゃ", "เก\u0e4d"):
+        yield long, thai, vowels((THAI, AO, "oooo")), b"", (pattern * 170)[:512].encode()
+
+
+def cases(count, seed):
+    for path in sorted((TESTS / "calls").glob("*.calls.xz")):
+        for call in callfile.read(path):
+            if call.answer.number == 0 or call.answer.number in NEEDS_ROOM:
+                yield call.given[1:]
+    rng = random.Random(seed)
+    for _ in range(count):
+        yield World(rng).given()[1:]
+    yield from worst()
+
+
+for case in cases(*map(int, sys.argv[1:])):
+    sys.stdout.buffer.write(b"".join(callfile.four(len(part)) + part for part in case))

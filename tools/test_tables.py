@@ -1,0 +1,204 @@
+"""Tests of tools/tables.py and of the examples of docs/FORMAT.md: python3 -m unittest discover -s tools"""
+import pathlib
+import re
+import sys
+import unittest
+
+ROOT = pathlib.Path(__file__).resolve().parents[1]
+sys.path.insert(0, str(ROOT / "tools"))
+import tables
+from tables import *
+
+SAMPLE = {"rules": (read_rules, lambda rows: rules(*rows)), "classes": (read_classes, classes), "vowels": (read_vowels, lambda rows: vowels(*rows))}
+FULL = Rule("cd", "t", WHOLE | START, 258, ("abc", "xyz"), "e", ("v", ""))
+
+
+class RoundTrips(unittest.TestCase):
+    def test_the_sample_tables(self):
+        for name, (read, write) in SAMPLE.items():
+            table = (ROOT / "crates" / "romanize" / "data" / (name + ".bin")).read_bytes()
+            self.assertEqual(write(read(table)), table)
+            self.assertGreater(len(read(table)), 1)
+
+    def test_empty_tables(self):
+        empty = bytes.fromhex("0100000000")
+        self.assertEqual([rules(), classes({}), vowels(), listing()], [empty] * 4)
+        for read in (read_rules, read_classes, read_vowels, read_listing):
+            self.assertEqual(len(read(empty)), 0)
+
+    def test_rows_come_back_as_they_were(self):
+        given = [Rule("b", " ~"), FULL, Rule("ce", None, NOT_END, 65535, (), "~"), Rule("\U0010ffff" * 16, "x" * 64, others=("y" * 64,) * 8)]
+        self.assertEqual(read_rules(rules(*given)), given)
+        kinds = {" ": (ZS, 0, 0), "Z": (LETTER, 127, 127), "\ud7ff": (CO, 6, 0), "\ue000": (MARK, 5, VIRAMA)}
+        self.assertEqual(read_classes(classes(kinds)), kinds)
+        every = [Vowel(n, n % 2, "aeio"[:1 + n % 4]) for n in range(1, 128)]
+        self.assertEqual(read_vowels(vowels(*every)), every)
+        edges = [Edge(0, 512, CORE, 2, "kha"), Edge(3, 4, ORIG, 0, "€"), Edge(0, 1, FALLBACK_MN, 0, ""), Edge(0, 1, EXPANDED, 0, "k" * 198)]
+        self.assertEqual(read_listing(listing(*edges)), edges)
+
+    def test_writers_put_rows_in_order(self):
+        table = rules(("ab", "1"), ("b", "2"), ("a", "3"), ("a", "4"), ("\U00010000", "5"), ("\uffff", "6"))
+        self.assertEqual("".join(rule.target for rule in read_rules(table)), "341265")
+        self.assertEqual(list(read_classes(classes({"b": (LETTER,), "a": (LETTER,)}))), ["a", "b"])
+        self.assertEqual([row.script for row in read_vowels(vowels((9, A, "a"), (5, AO, "o")))], [5, 9])
+
+    def test_the_largest_tables(self):
+        most = "c" * 16, "x" * 64, 31, 65535, ["abc"] * 8, "y" * 64, ["z" * 64] * 8
+        sizes = len(rules(*[most] * MOST_RULES)), 5 + 6 * MOST_CLASSES, len(vowels(*((n, A, "aaaa") for n in range(1, 128))))
+        page = (ROOT / "docs" / "FORMAT.md").read_text(encoding="utf-8")
+        for size in sizes:
+            self.assertIn(format(size, ","), page)
+
+
+class WrittenFaults(unittest.TestCase):
+    def refused(self, words, write, *given):
+        with self.assertRaises(ValueError) as caught:
+            write(*given)
+        for word in words if isinstance(words, tuple) else (words,):
+            self.assertIn(word, str(caught.exception))
+
+    def test_rules(self):
+        for words, rule in [
+                (("0 characters", "''"), Rule("", "t")), ("17 characters", Rule("c" * 17, "t")), ("surrogate", Rule("\ud800", "t")),
+                ("bits 0 to 4", Rule("c", "t", 128)), ("bits 0 to 4", Rule("c", None, 32)), ("bits 0 to 4", Rule("c", "t", -1)),
+                ("65536", Rule("c", "t", 0, 65536)), ("9 language codes", Rule("c", "t", codes=["abc"] * 9)),
+                ("'ab'", Rule("c", "t", codes=["ab"])), ("'abC'", Rule("c", "t", codes=["abc", "abC"])),
+                (("target has 65 bytes", "'c'"), Rule("c", "x" * 65)), ("0x20", Rule("c", "\x1f")), ("0x7E", Rule("c", "é")),
+                ("end-of-syllable target", Rule("c", "t", end="\x7f")), ("alternative", Rule("c", "t", others=["\t"])),
+                ("9 alternatives", Rule("c", "t", others=["x"] * 9))]:
+            self.refused(words, rules, ("b", "B"), rule)
+        self.refused("8193 rows", rules, *[("c", "t")] * 8193)
+
+    def test_classes(self):
+        for words, char, kind in [
+                ("one character", "ab", (LETTER,)), ("scalar", "\udfff", (LETTER,)), ("category 8", "é", (8,)), ("script 128", "é", (1, 128)),
+                ("bits 0 to 6", "é", (1, 0, 128)), ("U+0020", " ", (OTHER,)), ("U+0020", " ", (ZS, 1)), ("U+0020", " ", (ZS, 0, 1)),
+                ("A-Z and a-z", "a", (OTHER,)), ("A-Z and a-z", "Z", (MARK, 5))]:
+            self.refused(words, classes, {"\0": (OTHER,), char: kind})
+        self.refused("8193 rows", classes, {chr(0x4E00 + k): (LETTER,) for k in range(8193)})
+
+    def test_vowels(self):
+        for words, row in [("script 0", (0, A, "a")), ("script 128", (128, A, "a")), ("type 2", (6, 2, "a")), ("0 letters", (6, A, "")),
+                           ("5 letters", (6, A, "aaaaa")), ("'A'", (6, A, "A")), ("already", (5, AO, "o"))]:
+            self.refused(words, vowels, (5, A, "a"), row)
+
+    def test_listings(self):
+        for words, edge in [("from 1 to 1", (1, 1, ROM, 0, "a")), ("from 0 to 513", (0, 513, ROM, 0, "a")), ("annotation 0", (0, 1, 0, 0, "a")),
+                            ("annotation 15", (0, 1, 15, 0, "a")), ("core length 1", (0, 1, ROM, 1, "a")), ("core length 2", (0, 1, CORE, 2, "a")),
+                            ("199 bytes", (0, 1, ROM, 0, "a" * 199)), ("surrogate", (0, 1, ROM, 0, "\ud800"))]:
+            self.refused(words, listing, (0, 1, ROM, 0, "k"), edge)
+
+
+class ReadFaults(unittest.TestCase):
+    """a faulty row after a good one, and the words that the error has; its place is the row's offset"""
+    def faulty(self, read, good, bad, words=""):
+        for rows, place in (([bad], 5), ([good, bad], 5 + len(good)), ([good, bad, good], 5 + len(good))):
+            with self.assertRaises(Faulty) as caught:
+                read(block(rows))
+            self.assertEqual(caught.exception.place, place, bad)
+            self.assertIn(words, str(caught.exception))
+
+    def test_headers(self):
+        for read in (read_rules, read_classes, read_vowels, read_listing):
+            for table in (b"", b"\1\0\0\0", b"\0\0\0\0\0", b"\2\0\0\0\0", b"\1\0\0\0\1", b"\1\0\0\0\0\0", b"\1\1\0\0\1\0"):
+                self.assertEqual(fault(read, table), 0)
+
+    def test_rule_rows(self):
+        good = rule_row("b", "B")
+        full = rule_row(*FULL)
+        for bad, words in [(rule_row("c", "t", 128), "bit 7"), (rule_row("", "t"), "0 characters"), (rule_row("c" * 17, "t"), "17 characters"),
+                           (rule_row("\ud800", "t"), "0xd800"), (rule_row("c", "t", codes=["abc"] * 9), "9 language codes"),
+                           (rule_row("c", "t", codes=["a c"]), "'a c'"), (rule_row("c", "x" * 65), "65 bytes"), (rule_row("c", "\x7f"), "0x7E"),
+                           (rule_row("c", end="\x80"), "end-of-syllable"), (rule_row("c", others=["\x1f"]), "alternative"),
+                           (rule_row("c", others=[""] * 9), "9 alternatives"), (b"\0\x09\0\0\0\1\x11\0\0\0\0", "0x110000"),
+                           (full[:1] + bytes([full[1] + 1]) + full[2:] + b"\0", "left over"), (b"\0\0", "cut short")]:
+            self.faulty(read_rules, good, bad, words)
+        for n in range(1, len(full)):
+            self.assertEqual(fault(read_rules, block([good, full[:n]])), 5 + len(good))
+        self.assertEqual(fault(read_rules, block([full, good])), 5 + len(full))
+        self.assertEqual(fault(read_rules, block([rule_row("ca"), rule_row("c")])), 5 + len(rule_row("ca")))
+        self.assertIsNone(fault(read_rules, block([good] * MOST_RULES)))
+        self.assertEqual(fault(read_rules, block([good] * (MOST_RULES + 1))), 5 + MOST_RULES * len(good))
+
+    def test_class_rows(self):
+        good = class_row("\0", OTHER)
+        for bad, words in [(class_row("é", 8), "category 8"), (class_row("é", 1, 128), "script 128"), (class_row("é", 1, 0, 128), "bits 0 to 6"),
+                           (class_row(" ", OTHER), "U+0020"), (class_row("q", OTHER), "a-z"), (class_row("\udc00", OTHER), "0xdc00"),
+                           (b"\x11\0\0\0\0\0", "0x110000")]:
+            self.faulty(read_classes, good, bad, words)
+        for n in range(1, 6):
+            self.assertEqual(fault(read_classes, block([good, class_row("é", 1)[:n]])), 11)
+        self.assertEqual(fault(read_classes, block([good, good])), 11)
+        rows = [class_row(chr(0x4E00 + k), LETTER) for k in range(MOST_CLASSES + 1)]
+        self.assertEqual(fault(read_classes, block(rows)), 5 + 6 * MOST_CLASSES)
+
+    def test_vowel_rows(self):
+        good = vowel_row(5, A, "a")
+        for bad, words in [(vowel_row(0, A, "a"), "script 0"), (vowel_row(128, A, "a"), "script 128"), (vowel_row(6, 2, "a"), "type 2"),
+                           (vowel_row(6, A, ""), "0 letters"), (vowel_row(6, A, "aaaaa"), "5 letters"), (vowel_row(6, A, "{"), "'{'"),
+                           (b"\x06", "cut short")]:
+            if words != "cut short":
+                self.faulty(read_vowels, good, bad, words)
+            self.assertEqual(fault(read_vowels, block([good, bad])), 9)
+        for script in (4, 5):
+            self.assertEqual(fault(read_vowels, block([good, vowel_row(script, A, "a")])), 9)
+
+    def test_listing_rows(self):
+        good = edge_row(0, 1, ROM, 0, "k")
+        for bad, words in [(edge_row(2, 1, ROM, 0, "k"), "from 2 to 1"), (edge_row(0, 1, 15, 0, "k"), "annotation 15"),
+                           (edge_row(0, 1, ROM, 1, "k"), "core length"), (b"\0\7\0\0\0\1\1\0\xff", "utf-8"), (b"\0\5\0\0\0\1\1", "cut short")]:
+            self.faulty(read_listing, good, bad, words)
+
+
+class Examples(unittest.TestCase):
+    """docs/FORMAT.md: each expression in Python makes the bytes of the hex below it, and these are read back to the same"""
+    READERS = {"rules": read_rules, "classes": read_classes, "vowels": read_vowels, "listing": read_listing}
+
+    @classmethod
+    def setUpClass(cls):
+        page = (ROOT / "docs" / "FORMAT.md").read_text(encoding="utf-8")
+        cls.found = re.findall(r"```python\n(.*?)\n```\n\n```hex\n(.*?)```", page, re.S)
+
+    @staticmethod
+    def lines(text):
+        """bytes of a line, and what it says of them"""
+        for line in text.splitlines():
+            data, _, said = line.partition("  ")
+            yield bytes.fromhex(data), said.strip()
+
+    def test_there_is_one_of_each(self):
+        self.assertEqual([code.split("(")[0] for code, _ in self.found], list(self.READERS))
+
+    def test_the_bytes(self):
+        for code, text in self.found:
+            made = eval(code, vars(tables))
+            self.assertEqual(b"".join(data for data, _ in self.lines(text)), made, code)
+            name = code.split("(")[0]
+            back = self.READERS[name](made)
+            self.assertEqual(getattr(tables, name)(*([back] if name == "classes" else back)), made)
+
+    def test_offsets_lengths_and_characters(self):
+        for _, text in self.found:
+            at = 0
+            for data, said in self.lines(text):
+                self.assertTrue(said, data)
+                for offset in re.findall(r"offset (\d+):", said):
+                    self.assertEqual(int(offset), at, said)
+                for length in re.findall(r"(\d+) bytes follow", said):
+                    self.assertEqual(int.from_bytes(data, "big"), int(length), said)
+                for number, char in re.findall(r"U\+([0-9A-F]{4})(?: ([^\x00-\x7f]+))?", said):
+                    self.assertIn(bytes.fromhex("00" + number), data)
+                    self.assertIn(char, ("", chr(int(number, 16))))
+                at += len(data)
+
+    def test_what_would_be_refused(self):
+        table = eval(self.found[0][0], vars(tables))
+        self.assertEqual(fault(read_rules, block([table[5:27], table[40:], table[27:40]])), 40)
+        self.assertEqual(fault(read_classes, block([class_row(" ", OTHER)])), 5)
+
+    def test_the_listing_is_the_sample_programs(self):
+        self.assertEqual(eval(self.found[3][0], vars(tables)).hex(), (ROOT / "crates" / "sample" / "stdout").read_text().strip())
+
+
+if __name__ == "__main__":
+    unittest.main()

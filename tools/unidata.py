@@ -1,0 +1,97 @@
+"""What Debian's unicode-data and python3-unidecode say of characters. A package that is missing is installed when it is first
+asked, and that is said."""
+import bz2
+import functools
+import importlib
+import pathlib
+import subprocess
+import sys
+
+from tables import *
+
+CATEGORIES = {"L": LETTER, "Mn": NONSPACING, "Mc": MARK, "Me": MARK, "N": NUMBER, "Cf": CF, "Co": CO, "Zs": ZS}
+# the five scripts that the format names, and numbers of our own
+SCRIPTS = {"Thai": THAI, "Coptic": COPTIC, "Hiragana": HIRAGANA, "Katakana": KATAKANA, "Devanagari": DEVANAGARI, "Khmer": 6,
+           "Cyrillic": 7, "Han": 8, "Gurmukhi": 9}
+
+
+def run(*command):
+    try:
+        return subprocess.run(command, capture_output=True, text=True)
+    except FileNotFoundError:
+        sys.exit("%s is missing; Debian's unicode-data and python3-unidecode are needed" % command[0])
+
+
+@functools.cache
+def folder(package, file):
+    """where a Debian package keeps a file"""
+    if run("dpkg", "-s", package).returncode:
+        print("installing Debian's", package, file=sys.stderr)
+        for step in (["apt-get", "update", "-q"], ["apt-get", "install", "-y", "-q", package]):
+            done = run(*step)
+            if done.returncode:
+                sys.exit("%s failed:\n%s" % (" ".join(step), done.stderr))
+    files = run("dpkg", "-L", package).stdout.split()
+    return pathlib.Path(next(f for f in files if f.endswith("/" + file))).parent
+
+
+def unicode_data(file):
+    return folder("unicode-data", "UnicodeData.txt") / file
+
+
+@functools.cache
+def unidecoder():
+    sys.path.append(str(folder("python3-unidecode", "unidecode/__init__.py").parent))
+    return importlib.import_module("unidecode").unidecode
+
+
+def unidecode(text):
+    """the text in ASCII"""
+    return unidecoder()(text)
+
+
+def scripts():
+    """from each character's number to its script's name"""
+    names = {}
+    for line in unicode_data("Scripts.txt").open(encoding="utf-8"):
+        line = line.split("#")[0].strip()
+        if line:
+            span, name = (part.strip() for part in line.split(";"))
+            first, _, last = span.partition("..")
+            names.update(dict.fromkeys(range(int(first, 16), int(last or first, 16) + 1), name))
+    return names
+
+
+def characters():
+    """each character below U+10000 that has a line in UnicodeData.txt, with name, general category and script's name"""
+    script_of = scripts()
+    for line in unicode_data("UnicodeData.txt").open(encoding="utf-8"):
+        number, name, category = line.split(";")[:3]
+        c = int(number, 16)
+        if scalar(c) and c <= 0xFFFF:
+            yield chr(c), name, category, script_of.get(c)
+
+
+def unihan(file, field):
+    """from Han characters to a field of the Unihan database"""
+    with bz2.open(unicode_data(file + ".txt.bz2"), "rt", encoding="utf-8") as lines:
+        parts = (line.rstrip("\n").split("\t") for line in lines if "\t" + field + "\t" in line)
+        return {chr(int(number[2:], 16)): value for number, _, value in parts}
+
+
+def category_of(category):
+    """the class table's category of a general category, such as Lo"""
+    return CATEGORIES.get(category) or CATEGORIES.get(category[0], OTHER)
+
+
+def flags_of(c, name, script):
+    """a class row's flags, which the character's name tells, or its place among the Thai"""
+    thai = ord(c) if script == "Thai" else 0
+    return (SIGN * ("VOWEL SIGN" in name) | VIRAMA * ("VIRAMA" in name or "COENG" in name) | VOCALIC * ("VOCALIC" in name)
+            | TONE * (0x0E48 <= thai <= 0x0E4B) | PRE * (0x0E40 <= thai <= 0x0E44))
+
+
+def latin(c):
+    """what unidecode makes of a character, as a target; empty where it knows nothing"""
+    made = "".join(x for x in unidecode(c).strip() if " " <= x <= "~")[:MOST_TARGET]
+    return "" if made == "[?]" else made
