@@ -197,7 +197,7 @@ kata = encoded (chars "कत")
 abbrev pub refusals : List Refused
 refusals =
     refused-at 1 0 (roomed 4 [] kata 24 3 3)
-    ∷ refused-at 2 5 (tabled cut sample-classes sample-vowels)
+    ∷ refused-at 20 5 (tabled cut sample-classes sample-vowels)
     ∷ refused-at 3 5 (tabled sample-rules cut sample-vowels)
     ∷ refused-at 4 5 (tabled sample-rules sample-classes cut)
     ∷ refused-at 4 0 (tabled sample-rules sample-classes [])
@@ -218,3 +218,37 @@ refused-so r = eqb (called (r .call) .number) (r .number) && eqb (called (r .cal
 pub sample-refusals : all refused-so refusals ≡ true
 unfolding compute
 sample-refusals = refl
+
+-- What is wrong with a rule table, each kind with its field's place: in this order the header; a rest of one byte, a row past the
+-- block's end, a row without flags, half a restriction count; bit 7, no source, nine codes, a target of 65 bytes, nine alternatives;
+-- a surrogate, a capital in a code; a character and a code that are cut, whatever their bytes are; a byte of a target, one that is
+-- missing; a byte left over; a source that does not rise, and one whose row has a byte left over too
+abbrev ruled : List ℕ → Inputs
+ruled rows = tabled (block rows) sample-classes sample-vowels
+
+abbrev pub rule-faults : List Refused
+rule-faults =
+    refused-at 20 0 (tabled [] sample-classes sample-vowels)
+    ∷ refused-at 20 5 (ruled (0 ∷ []))
+    ∷ refused-at 20 5 (ruled (0 ∷ 9 ∷ 0 ∷ []))
+    ∷ refused-at 20 7 (ruled (0 ∷ 0 ∷ []))
+    ∷ refused-at 20 8 (ruled (0 ∷ 2 ∷ 0 ∷ 0 ∷ []))
+    ∷ refused-at 21 7 (ruled (0 ∷ 9 ∷ 0x80 ∷ 0 ∷ 0 ∷ 1 ∷ 0 ∷ 0 ∷ 0x62 ∷ 0 ∷ 0 ∷ []))
+    ∷ refused-at 21 10 (ruled (0 ∷ 6 ∷ 0 ∷ 0 ∷ 0 ∷ 0 ∷ 0 ∷ 0 ∷ []))
+    ∷ refused-at 21 14 (ruled (0 ∷ 9 ∷ 0 ∷ 0 ∷ 0 ∷ 1 ∷ 0 ∷ 0 ∷ 0x62 ∷ 9 ∷ 0 ∷ []))
+    ∷ refused-at 21 15 (ruled (0 ∷ 9 ∷ 0x20 ∷ 0 ∷ 0 ∷ 1 ∷ 0 ∷ 0 ∷ 0x62 ∷ 0 ∷ 0x41 ∷ []))
+    ∷ refused-at 21 15 (ruled (0 ∷ 9 ∷ 0 ∷ 0 ∷ 0 ∷ 1 ∷ 0 ∷ 0 ∷ 0x62 ∷ 0 ∷ 9 ∷ []))
+    ∷ refused-at 22 11 (ruled (0 ∷ 9 ∷ 0 ∷ 0 ∷ 0 ∷ 1 ∷ 0 ∷ 0xD8 ∷ 0 ∷ 0 ∷ 0 ∷ []))
+    ∷ refused-at 22 15 (ruled (0 ∷ 12 ∷ 0 ∷ 0 ∷ 0 ∷ 1 ∷ 0 ∷ 0 ∷ 0x62 ∷ 1 ∷ 0x61 ∷ 0x62 ∷ 0x41 ∷ 0 ∷ []))
+    ∷ refused-at 20 11 (ruled (0 ∷ 6 ∷ 0 ∷ 0 ∷ 0 ∷ 1 ∷ 0 ∷ 0xD8 ∷ []))
+    ∷ refused-at 20 15 (ruled (0 ∷ 10 ∷ 0 ∷ 0 ∷ 0 ∷ 1 ∷ 0 ∷ 0 ∷ 0x62 ∷ 1 ∷ 0x61 ∷ 0x41 ∷ []))
+    ∷ refused-at 23 16 (ruled (0 ∷ 11 ∷ 0x20 ∷ 0 ∷ 0 ∷ 1 ∷ 0 ∷ 0 ∷ 0x62 ∷ 0 ∷ 1 ∷ 0x7F ∷ 0 ∷ []))
+    ∷ refused-at 20 17 (ruled (0 ∷ 10 ∷ 0x20 ∷ 0 ∷ 0 ∷ 1 ∷ 0 ∷ 0 ∷ 0x62 ∷ 0 ∷ 3 ∷ 0x61 ∷ []))
+    ∷ refused-at 20 16 (ruled (0 ∷ 10 ∷ 0 ∷ 0 ∷ 0 ∷ 1 ∷ 0 ∷ 0 ∷ 0x62 ∷ 0 ∷ 0 ∷ 7 ∷ []))
+    ∷ refused-at 24 16 (ruled (0 ∷ 9 ∷ 0 ∷ 0 ∷ 0 ∷ 1 ∷ 0 ∷ 0 ∷ 0x62 ∷ 0 ∷ 0 ∷ 0 ∷ 9 ∷ 0 ∷ 0 ∷ 0 ∷ 1 ∷ 0 ∷ 0 ∷ 0x61 ∷ 0 ∷ 0 ∷ []))
+    ∷ refused-at 20 27 (ruled (0 ∷ 9 ∷ 0 ∷ 0 ∷ 0 ∷ 1 ∷ 0 ∷ 0 ∷ 0x62 ∷ 0 ∷ 0 ∷ 0 ∷ 10 ∷ 0 ∷ 0 ∷ 0 ∷ 1 ∷ 0 ∷ 0 ∷ 0x61 ∷ 0 ∷ 0 ∷ 7 ∷ []))
+    ∷ []
+
+pub sample-rule-faults : all refused-so rule-faults ≡ true
+unfolding compute
+sample-rule-faults = refl
