@@ -52,12 +52,21 @@ enum jettyfig_edge {
     JETTYFIG_EDGE_ALT3 = 14     /* an alternative: a rule's target where its end-of-syllable target was taken */
 };
 
-/* The answer's number: done, or a refusal. Refusals in the order in which they are looked for, with what `place` says. */
+/* The answer's number: done, or a refusal. Refusals in the order in which they are looked for, with what `place` says. 20 to 25
+ * are those of the rule table: its first faulty row is named, and in it the earliest faulty field, a number, a character, a code
+ * or a byte of a text. An offset counts from the table's first byte. */
 enum jettyfig_number {
     JETTYFIG_DONE = 0,
     JETTYFIG_REFUSED_MODE = 1,     /* the mode is above 3; 0 */
-    JETTYFIG_REFUSED_RULES = 2,    /* the rule table is faulty; the offset of its first faulty row, 0 for the header */
-    JETTYFIG_REFUSED_CLASSES = 3,  /* the class table is faulty; likewise */
+    JETTYFIG_REFUSED_LENGTH = 20,  /* the rule table's header; 0. A row that the table ends in; its offset. A field that its row
+                                    * ends before or in; the field's offset. Bytes that a row has left over; the first's */
+    JETTYFIG_REFUSED_RANGE = 21,   /* a rule's flag bit 7, or a count or a text's length out of its range; its offset */
+    JETTYFIG_REFUSED_LETTER = 22,  /* a character of a source that is no scalar value, or a language code of a rule that is not
+                                    * three letters a to z; its offset */
+    JETTYFIG_REFUSED_BYTE = 23,    /* a byte of a rule's target or alternative outside 0x20 to 0x7E; its offset */
+    JETTYFIG_REFUSED_ORDER = 24,   /* a rule whose source is below that of the row before; the row's offset */
+    JETTYFIG_REFUSED_ROWS = 25,    /* over 8,192 rules; the offset of the first that is too many */
+    JETTYFIG_REFUSED_CLASSES = 3,  /* the class table is faulty; the offset of its first faulty row, 0 for the header */
     JETTYFIG_REFUSED_VOWELS = 4,   /* the vowel table is faulty; likewise */
     JETTYFIG_REFUSED_CODE = 5,     /* the language code is neither empty nor three letters a to z; 0 */
     JETTYFIG_REFUSED_UTF8 = 6,     /* the text is not UTF-8 (RFC 3629); the offset of the first bad sequence */

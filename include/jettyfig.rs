@@ -36,7 +36,12 @@ pub const DONE: u64 = 0;
 #[derive(Clone, Copy, Debug, PartialEq, Eq)]
 pub enum Refusal {
     Mode = 1,
-    Rules = 2,
+    Length = 20,
+    Range = 21,
+    Letter = 22,
+    Byte = 23,
+    Order = 24,
+    Rows = 25,
     Classes = 3,
     Vowels = 4,
     Code = 5,
@@ -53,7 +58,12 @@ impl Refusal {
     pub const fn from_number(number: u64) -> Option<Refusal> {
         Some(match number {
             1 => Refusal::Mode,
-            2 => Refusal::Rules,
+            20 => Refusal::Length,
+            21 => Refusal::Range,
+            22 => Refusal::Letter,
+            23 => Refusal::Byte,
+            24 => Refusal::Order,
+            25 => Refusal::Rows,
             3 => Refusal::Classes,
             4 => Refusal::Vowels,
             5 => Refusal::Code,

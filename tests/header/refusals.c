@@ -7,8 +7,13 @@
 
 #include "jettyfig.h"
 
+/* one rule more than is allowed, each of one character and nothing else */
+static const uint8_t SMALL_RULE[] = {0, 9, 0, 0, 0, 1, 0, 0, 'b', 0, 0};
+#define MOST_RULES 8192
+#define MANY_RULES ((MOST_RULES + 1) * sizeof SMALL_RULE)
+
 typedef struct {
-    uint8_t bytes[4096];
+    uint8_t bytes[5 + MANY_RULES];
     size_t length;
 } slice;
 
@@ -35,6 +40,14 @@ static void read_file(const char *path, slice *s) {
 static void put(slice *s, const char *bytes) {
     s->length = strlen(bytes);
     memcpy(s->bytes, bytes, s->length);
+}
+
+static void put_many_rules(slice *s) {
+    const uint8_t header[] = {1, 0, MANY_RULES >> 16, MANY_RULES >> 8 & 0xFF, MANY_RULES & 0xFF};
+    size_t k;
+    memcpy(s->bytes, header, 5);
+    for (k = 0; k <= MOST_RULES; k++) memcpy(s->bytes + 5 + k * sizeof SMALL_RULE, SMALL_RULE, sizeof SMALL_RULE);
+    s->length = 5 + MANY_RULES;
 }
 
 static int is_zero(const uint8_t *bytes, size_t n) {
@@ -80,9 +93,24 @@ int main(int argc, char **argv) {
     c = good, c.mode = JETTYFIG_SHOW_ALL_EDGES + 1;
     expect("mode", &c, JETTYFIG_REFUSED_MODE, 0);
     c = good, c.rules.length--;
-    expect("rules, header", &c, JETTYFIG_REFUSED_RULES, 0);
-    c = good, c.rules.bytes[19 + 2] |= 0x80;
-    expect("rules, second row", &c, JETTYFIG_REFUSED_RULES, 19);
+    expect("rules, header", &c, JETTYFIG_REFUSED_LENGTH, 0);
+    /* the second row, at 19: length at 19, flags at 21, source at 25, target at 29, count of alternatives at 32 */
+    c = good, c.rules.bytes[19] = 0xFF;
+    expect("rules, a row past the end", &c, JETTYFIG_REFUSED_LENGTH, 19);
+    c = good, c.rules.bytes[20]--;
+    expect("rules, a field past its row", &c, JETTYFIG_REFUSED_LENGTH, 32);
+    c = good, c.rules.bytes[20]++;
+    expect("rules, a byte left over", &c, JETTYFIG_REFUSED_LENGTH, 33);
+    c = good, c.rules.bytes[21] |= 0x80, c.rules.bytes[25] = 0xFF;
+    expect("rules, flags before source", &c, JETTYFIG_REFUSED_RANGE, 21);
+    c = good, c.rules.bytes[25] = 0x11;
+    expect("rules, source", &c, JETTYFIG_REFUSED_LETTER, 25);
+    c = good, c.rules.bytes[31] = 0x7F;
+    expect("rules, target", &c, JETTYFIG_REFUSED_BYTE, 31);
+    c = good, c.rules.bytes[26] = 0;
+    expect("rules, order", &c, JETTYFIG_REFUSED_ORDER, 19);
+    c = good, put_many_rules(&c.rules);
+    expect("rules, too many", &c, JETTYFIG_REFUSED_ROWS, 5 + MOST_RULES * sizeof SMALL_RULE);
     c = good, c.classes.bytes[5 + 6 + 3] = 8;
     expect("classes, second row", &c, JETTYFIG_REFUSED_CLASSES, 11);
     c = good, c.vowels.bytes[9 + 1] = 2;

@@ -9,12 +9,12 @@ pub type Parts = [Vec<u8>; 5];
 pub fn damage(random: &mut Random, mode: &mut u8, parts: &mut Parts) {
     match random.below(100) {
         0..5 => *mode = random.between(4, 255) as u8,
-        5..33 => table(random, 0, &mut parts[0]),
-        33..53 => table(random, 1, &mut parts[1]),
-        53..66 => table(random, 2, &mut parts[2]),
-        66..72 => code(random, &mut parts[3]),
-        72..92 => text(random, &mut parts[4]),
-        // two at once: the lower number comes first
+        5..43 => table(random, 0, &mut parts[0]),
+        43..58 => table(random, 1, &mut parts[1]),
+        58..69 => table(random, 2, &mut parts[2]),
+        69..74 => code(random, &mut parts[3]),
+        74..92 => text(random, &mut parts[4]),
+        // two at once: the one that is looked for first is named
         _ => {
             damage(random, mode, parts);
             damage(random, mode, parts);

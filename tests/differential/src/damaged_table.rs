@@ -1,22 +1,25 @@
 //! Damages a table: bytes, rows, or a row of its own with something at a border.
 
+use crate::damaged_rule::{damage, odd_rule};
 use crate::random::Random;
-use crate::rows::{HAS_END, HAS_TARGET, Rule, block, class_row, set_length, three, vowel_row};
+use crate::refusals::MOST_ROWS;
+use crate::rows::{Rule, block, class_row, set_length, vowel_row};
 use std::ops::Range;
 
 /// the borders of the fields of all rows, on both sides
-const BORDERS: [u8; 26] =
+pub const BORDERS: [u8; 26] =
     [0, 1, 2, 3, 4, 5, 7, 8, 9, 12, 15, 16, 17, 31, 32, 63, 64, 65, 96, 97, 122, 123, 126, 127, 128, 255];
-const BORDER_SCALARS: [u32; 9] = [0, 0xD7FF, 0xD800, 0xDBFF, 0xDFFF, 0xE000, 0x10FFFF, 0x110000, 0xFFFFFF];
+pub const BORDER_SCALARS: [u32; 9] = [0, 0xD7FF, 0xD800, 0xDBFF, 0xDFFF, 0xE000, 0x10FFFF, 0x110000, 0xFFFFFF];
 
 /// `kind` is 0 for rules, 1 for classes, 2 for vowels
 pub fn table(random: &mut Random, kind: usize, bytes: &mut Vec<u8>) {
-    if kind < 2 && random.chance(0.0005) {
-        *bytes = full(random, kind);
+    if kind < 2 && random.chance(0.002) {
+        *bytes = if kind == 0 { full_rules(random) } else { full_classes(random) };
         return;
     }
     let rows = rows(kind, bytes);
-    match random.below(12) {
+    // a rule row has more fields than the others, and its faults have kinds
+    match random.below(if kind == 0 { 24 } else { 12 }) {
         0..4 => change(random, bytes, 5),
         4 => change(random, bytes, 0),
         5 => drop(bytes.split_off(bytes.len() - random.below(bytes.len().min(12)))),
@@ -25,6 +28,7 @@ pub fn table(random: &mut Random, kind: usize, bytes: &mut Vec<u8>) {
         8 => swap(random, bytes, &rows),
         9 => repeat(random, bytes, &rows),
         10 => take_out(random, bytes, &rows),
+        11..18 if kind == 0 => change_rule(random, bytes, &rows),
         _ => put_in(random, kind, bytes, &rows),
     }
     if random.chance(0.85) {
@@ -104,6 +108,16 @@ fn take_out(random: &mut Random, bytes: &mut Vec<u8>, rows: &[Range<usize>]) {
     }
 }
 
+fn change_rule(random: &mut Random, bytes: &mut Vec<u8>, rows: &[Range<usize>]) {
+    if rows.is_empty() {
+        return;
+    }
+    let place = rows[random.below(rows.len())].clone();
+    let mut row = bytes[place.clone()].to_vec();
+    damage(random, &mut row);
+    bytes.splice(place, row);
+}
+
 /// a row of its own, mostly with something at a border, where its order allows it
 fn put_in(random: &mut Random, kind: usize, bytes: &mut Vec<u8>, rows: &[Range<usize>]) {
     let k = random.below(rows.len() + 1);
@@ -119,51 +133,6 @@ fn put_in(random: &mut Random, kind: usize, bytes: &mut Vec<u8>, rows: &[Range<u
     };
     let at = at.unwrap_or(bytes.len());
     bytes.splice(at..at, row);
-}
-
-/// a rule with the source of another, and one part at or past its border
-fn odd_rule(random: &mut Random, like: &[u8]) -> Vec<u8> {
-    let count = like.get(5).map_or(0, |n| *n as usize);
-    let scalars = like.get(6..6 + 3 * count).unwrap_or(&[]).chunks(3);
-    let mut source: Vec<char> =
-        scalars.filter_map(|c| char::from_u32((c[0] as u32) << 16 | (c[1] as u32) << 8 | c[2] as u32)).collect();
-    let last = *source.last().unwrap_or(&'\u{10FFFF}');
-    source.resize(source.len().max(1), last);
-    let part = random.below(11);
-    if part == 0 {
-        source.resize(random.choice(&[15, 16, 17, 18]), last);
-    }
-    let mut rule = Rule { source: &source, target: Some(b"k".to_vec()), ..Rule::default() };
-    match part {
-        1 => rule.codes = vec!["abc"; random.choice(&[7, 8, 9, 255])],
-        2 => rule.codes = vec!["abc", random.choice(&["ABC", "ab1", "`bc", "ab{", "a c", "zzz", "aaa"])],
-        3 => rule.target = Some(odd_target(random)),
-        4 => rule.end = Some(odd_target(random)),
-        5 => rule.others = vec![b"w".to_vec(), odd_target(random)],
-        6 => rule.others = vec![b"w".to_vec(); random.choice(&[7, 8, 9, 255])],
-        7 => rule.flags = random.choice(&[0, 31, 128, 128 | 31, HAS_TARGET, HAS_END]),
-        _ => {}
-    }
-    let mut row = rule.row();
-    match part {
-        8 => row[6..9].copy_from_slice(&three(random.choice(&BORDER_SCALARS))),
-        9 => row[1] = row[1].wrapping_add(random.choice(&[1, 255])),
-        10 => {
-            row.push(0);
-            row[1] = row[1].wrapping_add(1);
-        }
-        _ => {}
-    }
-    row
-}
-
-fn odd_target(random: &mut Random) -> Vec<u8> {
-    let n = random.choice(&[0, 1, 3, 63, 64, 65, 255]);
-    let mut target = vec![b'x'; n];
-    if n > 0 && random.chance(0.5) {
-        target[random.below(n)] = random.choice(&[0, 0x1F, 0x20, 0x7E, 0x7F, 0x80, 0xFF]);
-    }
-    target
 }
 
 fn odd_class(random: &mut Random) -> Vec<u8> {
@@ -185,14 +154,25 @@ fn odd_vowel(random: &mut Random) -> Vec<u8> {
     vowel_row(script, random.choice(&[0, 0, 1, 1, 2, 255]), letters)
 }
 
-/// as many rows as are allowed, or one more
-fn full(random: &mut Random, kind: usize) -> Vec<u8> {
-    let n = random.choice(&[8192, 8193]);
-    match kind {
-        0 => {
-            let row = Rule { source: &['b'], ..Rule::default() }.row();
-            block(std::iter::repeat_n(row, n))
-        }
-        _ => block((0..n as u32).map(|k| class_row(0x4E00 + k, (0, 0, 0)))),
+/// As many rows as are allowed, or one more; the last may be damaged, out of order, or cut by the block's end.
+fn full_rules(random: &mut Random) -> Vec<u8> {
+    let row = |source: char| Rule { source: &[source], ..Rule::default() }.row();
+    let like = row('b');
+    let mut last = match random.below(4) {
+        0 => row('c'),
+        1 => odd_rule(random, &like),
+        2 => row('a'),
+        _ => like.clone(),
+    };
+    if random.chance(0.2) {
+        last.truncate(random.between(1, last.len()));
     }
+    let others = random.choice(&[MOST_ROWS - 1, MOST_ROWS]);
+    block(std::iter::repeat_n(like, others).chain([last]))
+}
+
+/// as many rows as are allowed, or one more
+fn full_classes(random: &mut Random) -> Vec<u8> {
+    let n = random.choice(&[MOST_ROWS, MOST_ROWS + 1]);
+    block((0..n as u32).map(|k| class_row(0x4E00 + k, (0, 0, 0))))
 }

@@ -1,4 +1,5 @@
-//! What a call must answer: refusals 1 to 8 by the checker, all else by the oracle; both must agree on which it is.
+//! What a call must answer: by the checker where mode, tables, code or text are refused, all else by the oracle; both must
+//! agree on which it is.
 
 use crate::call::{Answer, Lent};
 use crate::refusals::refusal;

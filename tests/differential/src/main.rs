@@ -11,6 +11,7 @@ mod call;
 mod callfile;
 mod compare;
 mod damage;
+mod damaged_rule;
 mod damaged_table;
 mod generated;
 #[path = "../../../include/jettyfig.rs"]
@@ -22,6 +23,7 @@ mod recorded;
 mod refusals;
 mod rooms;
 mod rows;
+mod rule_refusals;
 mod rules;
 mod spoil;
 mod tester;

@@ -1,7 +1,9 @@
-//! Which of 1 to 8 a call is refused by, and where: document 01's "Numbers a call returns" and "Table and output bytes",
-//! written from its words alone.
+//! What a call is refused by before its lattice, and where: document 01's "Numbers a call returns" and "Table and output
+//! bytes", written from its words alone. The rule table's refusals are in rule_refusals.rs.
 
-const MOST_ROWS: usize = 8192;
+use crate::rule_refusals::rule_fault;
+
+pub const MOST_ROWS: usize = 8192;
 const MOST_TEXT: usize = 512;
 
 /// number and place; none where the call goes on to its lattice
@@ -13,29 +15,35 @@ pub fn refusal(mode: u8, [rules, classes, vowels, code, text]: [&[u8]; 5]) -> Re
     }
     let faulty = |number| move |place: usize| (number, place as u64);
     rule_fault(rules)
-        .map(faulty(2))
+        .err()
+        .map(|(number, place)| (number, place as u64))
         .or_else(|| class_fault(classes).map(faulty(3)))
         .or_else(|| vowel_fault(vowels).map(faulty(4)))
         .or_else(|| code_fault(code).map(faulty(5)))
         .or_else(|| text_fault(text))
 }
 
-fn scalar(value: u32) -> bool {
+pub fn scalar(value: u32) -> bool {
     value < 0xD800 || (0xE000..0x110000).contains(&value)
 }
 
-fn small_letters(bytes: &[u8]) -> bool {
+pub fn small_letters(bytes: &[u8]) -> bool {
     bytes.iter().all(|b| (b'a'..=b'z').contains(b))
 }
 
-fn number(bytes: &[u8]) -> u32 {
+pub fn number(bytes: &[u8]) -> u32 {
     bytes.iter().fold(0, |n, b| n * 256 + *b as u32)
 }
 
-/// The place of a table's first faulty row. `row` is given what is left of the block from a row on, and tells the row's
-/// length, or none where it is faulty.
+/// whether the header is version 1 and the length of the rest
+pub fn headed(table: &[u8]) -> bool {
+    table.len() >= 5 && table[0] == 1 && number(&table[1..5]) as usize == table.len() - 5
+}
+
+/// The place of a class or vowel table's first faulty row. `row` is given what is left of the block from a row on, and
+/// tells the row's length, or none where it is faulty.
 fn fault(table: &[u8], mut row: impl FnMut(&[u8]) -> Option<usize>) -> Option<usize> {
-    if table.len() < 5 || table[0] != 1 || number(&table[1..5]) as usize != table.len() - 5 {
+    if !headed(table) {
         return Some(0);
     }
     let (mut at, mut rows) = (5, 0);
@@ -64,48 +72,6 @@ impl<'a> Row<'a> {
     fn count(&mut self, least: usize, most: usize) -> Option<usize> {
         self.byte().filter(|n| (least..=most).contains(n))
     }
-    fn target(&mut self) -> Option<()> {
-        let n = self.count(0, 64)?;
-        self.take(n)?.iter().all(|b| (0x20..=0x7E).contains(b)).then_some(())
-    }
-}
-
-fn rule_fault(table: &[u8]) -> Option<usize> {
-    let mut last: Vec<u32> = Vec::new();
-    let mut source = Vec::new();
-    fault(table, |left| {
-        let n = 2 + number(left.get(..2)?) as usize;
-        rule_row(left.get(2..n)?, &mut source)?;
-        // character by character, a prefix first
-        if source < last {
-            return None;
-        }
-        std::mem::swap(&mut source, &mut last);
-        Some(n)
-    })
-}
-
-/// the rest of a rule row; none where a part is faulty, or bytes are left over
-fn rule_row(rest: &[u8], source: &mut Vec<u32>) -> Option<()> {
-    let mut row = Row(rest);
-    let flags = row.count(0, 127)?;
-    row.take(2)?;
-    source.clear();
-    for _ in 0..row.count(1, 16)? {
-        source.push(number(row.take(3)?));
-    }
-    for _ in 0..row.count(0, 8)? {
-        small_letters(row.take(3)?).then_some(())?;
-    }
-    for bit in [5, 6] {
-        if flags >> bit & 1 == 1 {
-            row.target()?;
-        }
-    }
-    for _ in 0..row.count(0, 8)? {
-        row.target()?;
-    }
-    (row.0.is_empty() && source.iter().all(|c| scalar(*c))).then_some(())
 }
 
 fn class_fault(table: &[u8]) -> Option<usize> {

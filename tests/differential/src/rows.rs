@@ -41,10 +41,15 @@ impl Rule<'_> {
         for t in &self.others {
             text(&mut row, t);
         }
-        let rest = (row.len() - 2) as u16;
-        row[..2].copy_from_slice(&rest.to_be_bytes());
+        let rest = row.len() - 2;
+        set_row_length(&mut row, rest);
         row
     }
+}
+
+/// what a rule row says of the length of its rest
+pub fn set_row_length(row: &mut [u8], rest: usize) {
+    row[..2].copy_from_slice(&(rest as u16).to_be_bytes());
 }
 
 /// category, script and flags

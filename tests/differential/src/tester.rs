@@ -8,6 +8,7 @@ use crate::spoil::Spoil;
 use std::path::PathBuf;
 
 const MOST_DIFFERENCES: u64 = 20;
+const HIGHEST_NUMBER: usize = 25;
 
 pub struct Tester {
     folder: PathBuf,
@@ -17,7 +18,7 @@ pub struct Tester {
     pub keeps: bool,
     pub cases: u64,
     /// cases by the number that was wanted
-    numbers: [u64; 12],
+    numbers: [u64; HIGHEST_NUMBER + 1],
     differ: u64,
     spoilt_found: u64,
 }
@@ -25,7 +26,8 @@ pub struct Tester {
 impl Tester {
     pub fn new(folder: PathBuf, spoil: Spoil) -> Self {
         let library = Library::default();
-        Tester { folder, library, spoil, keeps: true, cases: 0, numbers: [0; 12], differ: 0, spoilt_found: 0 }
+        let numbers = [0; HIGHEST_NUMBER + 1];
+        Tester { folder, library, spoil, keeps: true, cases: 0, numbers, differ: 0, spoilt_found: 0 }
     }
 
     /// One case, unless there were differences enough. `strange` says what is wrong with it before the library is asked.
@@ -45,7 +47,7 @@ impl Tester {
             None => {}
         }
         self.cases += 1;
-        self.numbers[wanted.numbers.number.min(11) as usize] += 1;
+        self.numbers[(wanted.numbers.number as usize).min(HIGHEST_NUMBER)] += 1;
     }
 
     fn report(&mut self, name: &str, call: &Call, wanted: &Answer, what: &str) {
