@@ -37,7 +37,7 @@ pub const PANICKED: u8 = 1;
 pub const REFUSED: u8 = 2;
 
 pub struct Answer {
-    /// `DONE`, `PANICKED`, or `REFUSED` by one of 1 to 8
+    /// `DONE`, `PANICKED`, or `REFUSED` for its mode, tables, code or text
     pub status: u8,
     pub output: Vec<u8>,
     /// start and text length of every lattice edge, in adding order

@@ -2,7 +2,7 @@
 //!
 //! Standard input holds cases one after another: a mode byte, then rules, classes, vowels,
 //! language code and text, each a 4-byte big-endian length and its bytes.
-//! Standard output holds for each a status (0 done, 1 panicked, 2 refused by one of 1 to 8),
+//! Standard output holds for each a status (0 done, 1 panicked, 2 refused for its mode, tables, code or text),
 //! the count of lattice edges (4), the output's length (4) and bytes, and then the lattice edges
 //! in adding order, each its start (2) and the length of its text (2).
 
