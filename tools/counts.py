@@ -66,11 +66,18 @@ def phrases():
             yield "%s: %s" % (name, pattern), number(stated), counted
         if not found:
             yield "no page has " + pattern, 0, counted
+    heads = by_number("File")
     for name, made in calls.items():
-        row = re.search(r"^\| %s ((?:\| \d* ){12})\|$" % name, page("tests/calls/README.md"), re.M).group(1)
-        numbers = collections.Counter(call.answer.number for call in made)
-        for n, stated in enumerate(row.split("|")[1:]):
-            yield "tests/calls/README.md: %s, answers of %d" % (name, n), number(stated.strip()), numbers[n]
+        numbers, row = collections.Counter(call.answer.number for call in made), by_number(name)
+        for n, stated in zip(heads, row):
+            yield "tests/calls/README.md: %s, answers of %d" % (name, n), stated, numbers[n]
+        yield "tests/calls/README.md: %s, answers of any number" % name, sum(row), len(made)
+
+
+def by_number(name):
+    """a row of the table of answers by number"""
+    row = re.search(r"^\| %s ((?:\| \d* )+)\|$" % name, page("tests/calls/README.md"), re.M).group(1)
+    return [number(stated.strip()) for stated in row.split("|")[1:]]
 
 
 def printed(name):

@@ -15,8 +15,9 @@ rules(*read_rules(table)) == table:
     read_vowels(table)     a list of Vowel
     read_listing(output)   a list of Edge
 
-A table that a call would refuse raises Faulty there, whose `place` is the place of refusal 2, 3 or 4: the offset of the first
-faulty row, and 0 for the header.
+A table that a call would refuse raises Faulty there, whose `number` and `place` are those of the refusal: of a rule table what is
+wrong (FAULTS) and the offset of the faulty field or row; of a class table 3 and of a vowel table 4 with the offset of the first faulty
+row. Its `row` is counted from 1; place and row are 0 for the header.
 
 rule_row, class_row, vowel_row, edge_row and block only lay bytes out and check nothing: faulty tables are made with them."""
 from typing import NamedTuple, Optional
@@ -41,6 +42,11 @@ THAI, COPTIC, HIRAGANA, KATAKANA, DEVANAGARI = range(1, 6)
 SIGN, MEDIAL, SUBJOINED, VIRAMA, VOCALIC, TONE, PRE = (1 << bit for bit in range(7))
 # types of inherent vowels
 A, AO = 0, 1
+# the numbers that a faulty table is refused by
+BAD_LENGTH, BAD_COUNT, BAD_SOURCE, BAD_TARGET, BAD_ORDER, TOO_MANY = range(20, 26)
+BAD_CLASSES, BAD_VOWELS = 3, 4
+FAULTS = {BAD_LENGTH: "header or length", BAD_COUNT: "flag or count out of its range", BAD_SOURCE: "source or language code",
+         BAD_TARGET: "target byte", BAD_ORDER: "row order", TOO_MANY: "too many rows"}
 # annotations of a listing's edges
 (ROM, CORE, TAIL, EXPANDED, DELETED, SINGLE, FALLBACK_MN, FALLBACK_CF, FALLBACK_CO, FALLBACK_ZS, ORIG, ALT, ALT2,
  ALT3) = range(1, 15)
@@ -81,13 +87,25 @@ class Edge(NamedTuple):
 
 
 class Faulty(ValueError):
-    """a table that is refused, and where"""
-    def __init__(self, table, place, why):
-        super().__init__("%s: %s: %s" % (table, "row at offset %d" % place if place else "header", why))
-        self.place, self.why = place, why
+    """a table that is refused: by which number, where, and in which row, counted from 1; number is None for a listing"""
+    def __init__(self, table, number, place, row, why):
+        kind = ["%s (%d)" % (FAULTS[number], number)] if number in FAULTS else []
+        where = "row %d" % row if row else "header"
+        super().__init__(": ".join([table, *kind, "offset %d, %s" % (place, where), why]))
+        self.number, self.place, self.row, self.why = number, place, row, why
 
 
-# What is wrong with a row, in words, or None. Writers and readers ask the same.
+# What is wrong with a field or a row, in words, or None. Writers and readers ask the same.
+
+# how many a rule row may have, from the least to the most
+OF_SOURCE, OF_CODES, OF_OTHERS = (("source characters", 1, MOST_SOURCE), ("language codes", 0, MOST_CODES),
+                                  ("alternatives", 0, MOST_OTHERS))
+
+
+def first_wrong(found):
+    """the first words that there are"""
+    return next(filter(None, found), None)
+
 
 def scalar(number):
     """whether this is the number of a character: a Unicode scalar value"""
@@ -99,11 +117,34 @@ def small(letters):
     return all("a" <= c <= "z" for c in letters)
 
 
+def wrong_amount(of, n):
+    what, least, most = of
+    if not least <= n <= most:
+        return "%d %s, %d to %d are allowed" % (n, what, least, most)
+
+
+def wrong_character(number):
+    if not scalar(number):
+        return "%#x is no Unicode scalar value" % number
+
+
+def wrong_code(code):
+    if len(code) != 3 or not small(code):
+        return "language code %r is not three letters a to z" % (code,)
+
+
+def wrong_length(name, n):
+    if n > MOST_TARGET:
+        return "the %s has %d bytes, at most %d" % (name, n, MOST_TARGET)
+
+
+def wrong_byte(name, c):
+    if not " " <= c <= "~":
+        return "the %s has %r, which is outside 0x20 to 0x7E" % (name, c)
+
+
 def wrong_text(name, s):
-    if len(s) > MOST_TARGET:
-        return "the %s has %d bytes, at most %d" % (name, len(s), MOST_TARGET)
-    if not all(" " <= c <= "~" for c in s):
-        return "the %s %r has a byte outside 0x20 to 0x7E" % (name, s)
+    return wrong_length(name, len(s)) or first_wrong(wrong_byte(name, c) for c in s)
 
 
 def wrong_rule(rule):
@@ -111,19 +152,11 @@ def wrong_rule(rule):
         return "flags %#x: only bits 0 to 4 may be given" % rule.flags
     if not 0 <= rule.count <= 0xFFFF:
         return "restriction count %d is not in 0 to 65535" % rule.count
-    if not 1 <= len(rule.source) <= MOST_SOURCE:
-        return "a source of %d characters, 1 to %d are allowed" % (len(rule.source), MOST_SOURCE)
-    if not all(scalar(ord(c)) for c in rule.source):
-        return "a source with a surrogate"
-    if len(rule.codes) > MOST_CODES:
-        return "%d language codes, at most %d" % (len(rule.codes), MOST_CODES)
-    for code in rule.codes:
-        if len(code) != 3 or not small(code):
-            return "language code %r is not three letters a to z" % (code,)
-    if len(rule.others) > MOST_OTHERS:
-        return "%d alternatives, at most %d" % (len(rule.others), MOST_OTHERS)
     texts = [("target", rule.target), ("end-of-syllable target", rule.end)] + [("alternative", s) for s in rule.others]
-    return next(filter(None, (wrong_text(name, s) for name, s in texts if s is not None)), None)
+    return first_wrong((
+        wrong_amount(OF_SOURCE, len(rule.source)), *(wrong_character(ord(c)) for c in rule.source),
+        wrong_amount(OF_CODES, len(rule.codes)), *map(wrong_code, rule.codes),
+        wrong_amount(OF_OTHERS, len(rule.others)), *(wrong_text(name, s) for name, s in texts if s is not None)))
 
 
 def wrong_kind(char, kind):
@@ -252,6 +285,10 @@ def listing(*given):
 
 # Readers.
 
+def number_of(part):
+    return int.from_bytes(part, "big")
+
+
 class Bytes:
     """reads big-endian numbers and stretches from the front"""
     def __init__(self, data):
@@ -265,7 +302,7 @@ class Bytes:
         return part
 
     def number(self, n):
-        return int.from_bytes(self.take(n), "big")
+        return number_of(self.take(n))
 
     def done(self):
         return self.at == len(self.data)
@@ -277,35 +314,81 @@ def right(why):
         raise ValueError(why)
 
 
-def character(number):
-    right(not scalar(number) and "%#x is no Unicode scalar value" % number)
-    return chr(number)
+class Wrong(ValueError):
+    """what is wrong with a rule table, at an offset of its block"""
+    def __init__(self, number, place, why):
+        super().__init__(why)
+        self.number, self.place = number, place
 
 
-def read_short_text(row):
-    return row.take(row.number(1)).decode("latin-1")
+def letters_of(part):
+    """a character for each byte"""
+    return part.decode("latin-1")
+
+
+class Fields:
+    """a rule row's fields, one after another; the first that its row does not hold whole, or that is wrong, is raised"""
+    def __init__(self, block, start, end):
+        self.block, self.at, self.end = block, start, end
+
+    def field(self, what, size, read, number=None, wrong=None):
+        """the next field, refused by `number` where `wrong` has words for it"""
+        place, self.at = self.at, self.at + size
+        if self.at > self.end:
+            raise Wrong(BAD_LENGTH, place, "the row ends within or before the %s" % what)
+        value = read(self.block[place:self.at])
+        why = wrong and wrong(value)
+        if why:
+            raise Wrong(number, place, why)
+        return value
+
+    def flags(self):
+        return self.field("flags", 1, number_of, BAD_COUNT, lambda n: n > 127 and "flags %#x: bit 7 must be zero" % n)
+
+    def restriction_count(self):
+        return self.field("restriction count", 2, number_of)
+
+    def amount(self, of):
+        return self.field("number of " + of[0], 1, number_of, BAD_COUNT, lambda n: wrong_amount(of, n))
+
+    def character(self):
+        return chr(self.field("source", 3, number_of, BAD_SOURCE, wrong_character))
+
+    def code(self):
+        return self.field("language codes", 3, letters_of, BAD_SOURCE, wrong_code)
+
+    def text(self, name):
+        """its length, and each byte by itself"""
+        length = self.field("length of the " + name, 1, number_of, BAD_COUNT, lambda n: wrong_length(name, n))
+        return "".join(self.field(name, 1, letters_of, BAD_TARGET, lambda c: wrong_byte(name, c)) for _ in range(length))
+
+    def finish(self):
+        if self.at < self.end:
+            raise Wrong(BAD_LENGTH, self.at, "%d bytes left over in the row" % (self.end - self.at))
 
 
 def read_rule(table, before):
-    row = Bytes(table.take(table.number(2)))
-    flags, count = row.number(1), row.number(2)
-    right(flags > 127 and "flags %#x: bit 7 must be zero" % flags)
-    source = "".join(character(row.number(3)) for _ in range(row.number(1)))
-    codes = tuple(row.take(3).decode("latin-1") for _ in range(row.number(1)))
-    target = read_short_text(row) if flags & HAS_TARGET else None
-    end = read_short_text(row) if flags & HAS_END else None
-    others = tuple(read_short_text(row) for _ in range(row.number(1)))
-    right(not row.done() and "%d bytes left over in the row" % (len(row.data) - row.at))
-    rule = Rule(source, target, flags & ~(HAS_TARGET | HAS_END), count, codes, end, others)
-    right(wrong_rule(rule))
+    start = table.at
+    rest = table.take(table.number(2))
+    row = Fields(table.data, table.at - len(rest), table.at)
+    flags, count = row.flags(), row.restriction_count()
+    source = "".join(row.character() for _ in range(row.amount(OF_SOURCE)))
+    codes = tuple(row.code() for _ in range(row.amount(OF_CODES)))
+    target = row.text("target") if flags & HAS_TARGET else None
+    end = row.text("end-of-syllable target") if flags & HAS_END else None
+    others = tuple(row.text("alternative") for _ in range(row.amount(OF_OTHERS)))
+    row.finish()
     # strings of scalar values compare character by character, a prefix first
-    right(before and source < before.source and "its source %r is below the one before, %r" % (source, before.source))
-    return rule
+    if before and source < before.source:
+        raise Wrong(BAD_ORDER, start, "its source %r is below the one before, %r" % (source, before.source))
+    return Rule(source, target, flags & ~(HAS_TARGET | HAS_END), count, codes, end, others)
 
 
 def read_class(table, before):
     row = Bytes(table.take(6))
-    char, kind = character(row.number(3)), Kind(row.number(1), row.number(1), row.number(1))
+    number, kind = row.number(3), Kind(row.number(1), row.number(1), row.number(1))
+    right(wrong_character(number))
+    char = chr(number)
     right(wrong_kind(char, kind))
     right(before and char <= before[0] and "U+%04X is not above the one before" % ord(char))
     return char, kind
@@ -325,42 +408,46 @@ def read_edge(table, _):
     return edge
 
 
-def read_block(name, table, read_row, most):
-    """the rows of a block, each read with the one before it at hand"""
-    data, place, rows = Bytes(table), 0, []
+def read_block(name, table, read_row, most, number, too_many=None):
+    """the rows of a block, each read with the one before it at hand; what is wrong is refused by `number` at its row's start, but one
+    row more than allowed by `too_many`, and what says its own number and place"""
+    data, place, rows, row = Bytes(table), 0, [], 0
     try:
         right(data.number(1) != VERSION and "version %d is not 1" % table[0])
         length = data.number(4)
         right(length != len(table) - HEADER and "it says %d bytes of rows, there are %d" % (length, len(table) - HEADER))
         while not data.done():
-            place = data.at
-            right(len(rows) == most and "at most %d rows" % most)
+            place, row = data.at, len(rows) + 1
+            if len(rows) == most:
+                raise Wrong(too_many or number, place, "at most %d rows" % most)
             rows.append(read_row(data, rows[-1] if rows else None))
+    except Wrong as error:
+        raise Faulty(name, error.number, error.place, row, str(error)) from None
     except ValueError as error:
-        raise Faulty(name, place, str(error)) from None
+        raise Faulty(name, number, place, row, str(error)) from None
     return rows
 
 
 def read_rules(table):
-    return read_block("rule table", table, read_rule, MOST_RULES)
+    return read_block("rule table", table, read_rule, MOST_RULES, BAD_LENGTH, TOO_MANY)
 
 
 def read_classes(table):
-    return dict(read_block("class table", table, read_class, MOST_CLASSES))
+    return dict(read_block("class table", table, read_class, MOST_CLASSES, BAD_CLASSES))
 
 
 def read_vowels(table):
-    return read_block("vowel table", table, read_vowel, MOST_VOWELS)
+    return read_block("vowel table", table, read_vowel, MOST_VOWELS, BAD_VOWELS)
 
 
 def read_listing(output):
-    return read_block("listing", output, read_edge, None)
+    return read_block("listing", output, read_edge, None, None)
 
 
 def fault(read, table):
-    """the place where a reader finds a table faulty, or None"""
+    """the number and the place that a reader finds a table faulty by, or None"""
     try:
         read(table)
     except Faulty as error:
-        return error.place
+        return error.number, error.place
     return None

@@ -73,7 +73,7 @@ class Runs(unittest.TestCase):
             # the rows of क and त exchanged
             names[0].write_bytes(tables.block([made[0][5:27], made[0][40:], made[0][27:40]]))
             done = subprocess.run([PROGRAM, *names, "-", "0"], input=b"", capture_output=True)
-            self.assertRegex(done.stderr.decode(), "refusal 2: .*: 40\n")
+            self.assertRegex(done.stderr.decode(), "refusal 24: .*: 40\n")
 
 
 if __name__ == "__main__":

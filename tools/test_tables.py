@@ -5,7 +5,8 @@ import sys
 import unittest
 
 ROOT = pathlib.Path(__file__).resolve().parents[1]
-sys.path.insert(0, str(ROOT / "tools"))
+sys.path[:0] = [str(ROOT / "tools"), str(ROOT / "tests" / "generate")]
+import smallest
 import tables
 from tables import *
 
@@ -59,7 +60,7 @@ class WrittenFaults(unittest.TestCase):
 
     def test_rules(self):
         for words, rule in [
-                (("0 characters", "''"), Rule("", "t")), ("17 characters", Rule("c" * 17, "t")), ("surrogate", Rule("\ud800", "t")),
+                (("0 source characters", "''"), Rule("", "t")), ("17 source", Rule("c" * 17, "t")), ("0xd800", Rule("\ud800", "t")),
                 ("bits 0 to 4", Rule("c", "t", 128)), ("bits 0 to 4", Rule("c", None, 32)), ("bits 0 to 4", Rule("c", "t", -1)),
                 ("65536", Rule("c", "t", 0, 65536)), ("9 language codes", Rule("c", "t", codes=["abc"] * 9)),
                 ("'ab'", Rule("c", "t", codes=["ab"])), ("'abC'", Rule("c", "t", codes=["abc", "abC"])),
@@ -90,47 +91,65 @@ class WrittenFaults(unittest.TestCase):
 
 
 class ReadFaults(unittest.TestCase):
-    """a faulty row after a good one, and the words that the error has; its place is the row's offset"""
-    def faulty(self, read, good, bad, words=""):
-        for rows, place in (([bad], 5), ([good, bad], 5 + len(good)), ([good, bad, good], 5 + len(good))):
+    """a faulty row as the only one, after a good one and between two; the words that the error has, its number and its place"""
+    def faulty(self, read, good, bad, number, within=0, words=""):
+        """`within` is how far from the row's start the fault is"""
+        for rows, row in (([bad], 1), ([good, bad], 2), ([good, bad, good], 2)):
             with self.assertRaises(Faulty) as caught:
                 read(block(rows))
-            self.assertEqual(caught.exception.place, place, bad)
-            self.assertIn(words, str(caught.exception))
+            found, place = caught.exception, 5 + (row - 1) * len(good) + within
+            self.assertEqual((found.number, found.place, found.row), (number, place, row), bad)
+            self.assertIn("offset %d, row %d: " % (place, row), str(found))
+            self.assertIn(words, str(found))
 
     def test_headers(self):
-        for read in (read_rules, read_classes, read_vowels, read_listing):
+        for read, number in ((read_rules, 20), (read_classes, 3), (read_vowels, 4), (read_listing, None)):
             for table in (b"", b"\1\0\0\0", b"\0\0\0\0\0", b"\2\0\0\0\0", b"\1\0\0\0\1", b"\1\0\0\0\0\0", b"\1\1\0\0\1\0"):
-                self.assertEqual(fault(read, table), 0)
+                self.assertEqual(fault(read, table), (number, 0))
+
+    def test_the_smallest_rule_tables(self):
+        for words, table, number, place in [*smallest.small_tables(), *smallest.large_tables()]:
+            self.assertEqual(fault(read_rules, table), (number, place), words)
 
     def test_rule_rows(self):
         good = rule_row("b", "B")
         full = rule_row(*FULL)
-        for bad, words in [(rule_row("c", "t", 128), "bit 7"), (rule_row("", "t"), "0 characters"), (rule_row("c" * 17, "t"), "17 characters"),
-                           (rule_row("\ud800", "t"), "0xd800"), (rule_row("c", "t", codes=["abc"] * 9), "9 language codes"),
-                           (rule_row("c", "t", codes=["a c"]), "'a c'"), (rule_row("c", "x" * 65), "65 bytes"), (rule_row("c", "\x7f"), "0x7E"),
-                           (rule_row("c", end="\x80"), "end-of-syllable"), (rule_row("c", others=["\x1f"]), "alternative"),
-                           (rule_row("c", others=[""] * 9), "9 alternatives"), (b"\0\x09\0\0\0\1\x11\0\0\0\0", "0x110000"),
-                           (full[:1] + bytes([full[1] + 1]) + full[2:] + b"\0", "left over"), (b"\0\0", "cut short")]:
-            self.faulty(read_rules, good, bad, words)
+        for bad, number, within, words in [
+                (rule_row("c", "t", 128), 21, 2, "bit 7"), (rule_row("", "t"), 21, 5, "0 source characters"),
+                (rule_row("c" * 17, "t"), 21, 5, "17 source characters"), (rule_row("\ud800", "t"), 22, 6, "0xd800"),
+                (rule_row("c", "t", codes=["abc"] * 9), 21, 9, "9 language codes"), (rule_row("c", "t", codes=["a c"]), 22, 10, "'a c'"),
+                (rule_row("c", "x" * 65), 21, 10, "65 bytes"), (rule_row("c", "\x7f"), 23, 11, "0x7E"),
+                (rule_row("c", end="\x80"), 23, 11, "end-of-syllable"), (rule_row("c", others=["\x1f"]), 23, 12, "alternative"),
+                (rule_row("c", others=[""] * 9), 21, 10, "9 alternatives"), (b"\0\x09\0\0\0\1\x11\0\0\0\0", 22, 6, "0x110000"),
+                (full[:1] + bytes([full[1] + 1]) + full[2:] + b"\0", 20, len(full), "left over"), (b"\0\0", 20, 2, "flags")]:
+            self.faulty(read_rules, good, bad, number, within, words)
+            self.faulty(read_rules, good, bad, number, within, "rule table: %s (%d): " % (FAULTS[number], number))
         for n in range(1, len(full)):
-            self.assertEqual(fault(read_rules, block([good, full[:n]])), 5 + len(good))
-        self.assertEqual(fault(read_rules, block([full, good])), 5 + len(full))
-        self.assertEqual(fault(read_rules, block([rule_row("ca"), rule_row("c")])), 5 + len(rule_row("ca")))
+            self.assertEqual(fault(read_rules, block([good, full[:n]])), (20, 5 + len(good)))
+        self.assertEqual(fault(read_rules, block([full, good])), (24, 5 + len(full)))
+        self.assertEqual(fault(read_rules, block([rule_row("ca"), rule_row("c")])), (24, 5 + len(rule_row("ca"))))
         self.assertIsNone(fault(read_rules, block([good] * MOST_RULES)))
-        self.assertEqual(fault(read_rules, block([good] * (MOST_RULES + 1))), 5 + MOST_RULES * len(good))
+
+    def test_every_field_is_missed_where_it_would_stand(self):
+        """a row that is cut, its length in step, lacks the field that the cut is before or in"""
+        full = rule_row(*FULL)
+        fields = [2, 3, 3, 5, 6, 6, 6, 9, 9, 9, 12, 13, 13, 13, 16, 16, 16, 19, 20, 21, 22, 23, 24, 25, 26]
+        self.assertEqual(len(fields), len(full) - 2)
+        for cut, field in enumerate(fields, 2):
+            row = (cut - 2).to_bytes(2, "big") + full[2:cut]
+            self.assertEqual(fault(read_rules, block([row])), (20, 5 + field), row)
 
     def test_class_rows(self):
         good = class_row("\0", OTHER)
         for bad, words in [(class_row("é", 8), "category 8"), (class_row("é", 1, 128), "script 128"), (class_row("é", 1, 0, 128), "bits 0 to 6"),
                            (class_row(" ", OTHER), "U+0020"), (class_row("q", OTHER), "a-z"), (class_row("\udc00", OTHER), "0xdc00"),
                            (b"\x11\0\0\0\0\0", "0x110000")]:
-            self.faulty(read_classes, good, bad, words)
+            self.faulty(read_classes, good, bad, 3, words=words)
         for n in range(1, 6):
-            self.assertEqual(fault(read_classes, block([good, class_row("é", 1)[:n]])), 11)
-        self.assertEqual(fault(read_classes, block([good, good])), 11)
+            self.assertEqual(fault(read_classes, block([good, class_row("é", 1)[:n]])), (3, 11))
+        self.assertEqual(fault(read_classes, block([good, good])), (3, 11))
         rows = [class_row(chr(0x4E00 + k), LETTER) for k in range(MOST_CLASSES + 1)]
-        self.assertEqual(fault(read_classes, block(rows)), 5 + 6 * MOST_CLASSES)
+        self.assertEqual(fault(read_classes, block(rows)), (3, 5 + 6 * MOST_CLASSES))
 
     def test_vowel_rows(self):
         good = vowel_row(5, A, "a")
@@ -138,16 +157,16 @@ class ReadFaults(unittest.TestCase):
                            (vowel_row(6, A, ""), "0 letters"), (vowel_row(6, A, "aaaaa"), "5 letters"), (vowel_row(6, A, "{"), "'{'"),
                            (b"\x06", "cut short")]:
             if words != "cut short":
-                self.faulty(read_vowels, good, bad, words)
-            self.assertEqual(fault(read_vowels, block([good, bad])), 9)
+                self.faulty(read_vowels, good, bad, 4, words=words)
+            self.assertEqual(fault(read_vowels, block([good, bad])), (4, 9))
         for script in (4, 5):
-            self.assertEqual(fault(read_vowels, block([good, vowel_row(script, A, "a")])), 9)
+            self.assertEqual(fault(read_vowels, block([good, vowel_row(script, A, "a")])), (4, 9))
 
     def test_listing_rows(self):
         good = edge_row(0, 1, ROM, 0, "k")
         for bad, words in [(edge_row(2, 1, ROM, 0, "k"), "from 2 to 1"), (edge_row(0, 1, 15, 0, "k"), "annotation 15"),
                            (edge_row(0, 1, ROM, 1, "k"), "core length"), (b"\0\7\0\0\0\1\1\0\xff", "utf-8"), (b"\0\5\0\0\0\1\1", "cut short")]:
-            self.faulty(read_listing, good, bad, words)
+            self.faulty(read_listing, good, bad, None, words=words)
 
 
 class Examples(unittest.TestCase):
@@ -193,8 +212,8 @@ class Examples(unittest.TestCase):
 
     def test_what_would_be_refused(self):
         table = eval(self.found[0][0], vars(tables))
-        self.assertEqual(fault(read_rules, block([table[5:27], table[40:], table[27:40]])), 40)
-        self.assertEqual(fault(read_classes, block([class_row(" ", OTHER)])), 5)
+        self.assertEqual(fault(read_rules, block([table[5:27], table[40:], table[27:40]])), (24, 40))
+        self.assertEqual(fault(read_classes, block([class_row(" ", OTHER)])), (3, 5))
 
     def test_the_listing_is_the_sample_programs(self):
         self.assertEqual(eval(self.found[3][0], vars(tables)).hex(), (ROOT / "crates" / "sample" / "stdout").read_text().strip())

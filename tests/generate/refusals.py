@@ -1,17 +1,20 @@
 #!/usr/bin/env python3
-"""Refusals made by hand from document 01's table 'Numbers a call returns': each number with its place, and both sides of each
-border. Number and place are written here; the oracle only confirms that it refuses too (1 to 8), or that its edges in their
-adding order give the same (9 to 11). The accepted side of a border is answered by the oracle.
+"""Refusals made by hand from document 01's table 'Numbers a call returns' and from docs/FORMAT.md's 20 to 25: each number with its
+place, and both sides of each border. Number and place are written here; the oracle only confirms that it refuses too (1, 3 to 8
+and 20 to 25), or that its edges in their adding order give the same (9 to 11). The accepted side of a border is answered by it.
 
 usage: refusals.py ORACLE FILE.calls.xz MOST_RULES.calls.xz"""
 import sys
 
+import smallest
 from oracle import Call, Given, Lent, answered, ask, call, callfile, refused
 from tables import *
 
 PLAIN = Given(0, rules(("b", "B"), ("d", "D")), classes({"b": (LETTER, 6), "d": (LETTER,)}), vowels((5, A, "a"), (9, AO, "o")), b"", b"bad")
 PLENTY = Lent(1200, 400, 8)
 NONE = block([])
+# refused for mode, tables, code or text, so that there is no lattice
+WITHOUT_LATTICE = {1, *FAULTS, *range(3, 9)}
 
 
 class Border:
@@ -24,12 +27,12 @@ def accepted(**changes):
     return Border(None, None, **changes)
 
 
-def in_table(number, table, before, bad, after):
-    """a faulty row as a table's only row, its last, and with one after it"""
+def in_table(number, table, before, bad, after, within=0):
+    """a faulty row as a table's only row, its last, and with one after it; the place is so far within the row"""
     bad = bytes(bad)
-    yield Border((number, 5), **{table: block([bad])})
-    yield Border((number, 5 + len(before)), **{table: block([before, bad])})
-    yield Border((number, 5 + len(before)), **{table: block([before, bad, after])})
+    yield Border((number, 5 + within), **{table: block([bad])})
+    yield Border((number, 5 + len(before) + within), **{table: block([before, bad])})
+    yield Border((number, 5 + len(before) + within), **{table: block([before, bad, after])})
 
 
 def cut_rows(number, table, before, row):
@@ -46,7 +49,7 @@ def modes():
 
 
 def headers():
-    for number, table in ((2, "rules"), (3, "classes"), (4, "vowels")):
+    for number, table in ((20, "rules"), (3, "classes"), (4, "vowels")):
         good = getattr(PLAIN, table)
         body = good[5:]
 
@@ -65,44 +68,60 @@ def resized(rest):
     return len(rest).to_bytes(2, "big") + rest
 
 
+def bad_text(text):
+    """the number of a faulty text, and how far from its length byte the fault is"""
+    if len(text) > 64:
+        return 21, 0
+    return 23, 1 + next(at for at, c in enumerate(text) if not "\x20" <= c <= "\x7e")
+
+
+# where a field stands in a row with one character and no code: a text behind a target of one byte stands at 12
+FLAGS, CHARACTERS, SOURCE, CODES, FIRST_CODE, TEXT = 2, 5, 6, 9, 10, 10
+
+
 def rule_rows():
     before, after = rule_row("b", "B"), rule_row("d", "D")
     full = rule_row("cc", "t", WHOLE, 258, ["abc", "xyz"], "e", ["v", "w"])
     c = ord("c").to_bytes(3, "big")
     bad = [
-        rule_row("c", "t", 128), rule_row("c", None, 128), rule_row("c", "t", 128 | 31, end="e"),                  # bit 7
-        resized(b"\0\0\0\0\0\0"), resized(b"\x20\0\0\0\0\x01t\0"),                                                 # no source
-        rule_row("c" * 17, "t"), resized(b"\0\0\0\x20" + c * 32 + b"\0\0"), resized(b"\0\0\0\xff" + c * 255 + b"\0\0"),
-        resized(b"\0\0\0\x02" + c + b"\0\0"),                                                                      # a source cut short
-        rule_row("c", "t", codes=["abc"] * 9),
-        resized(b"\0\0\0\x01" + c + b"\xff" + b"abc" * 255 + b"\0"),
-        rule_row("c", "t", others=["x"] * 9), rule_row("c", "t", others=[""] * 255),
-        b"\0\0", b"\0\x01\0", b"\0\x03\0\0\0",
-        full[:1] + bytes([full[1] + 1]) + full[2:] + b"\0", full[:1] + bytes([full[1] + 2]) + full[2:] + b"\0\0",  # bytes left over
+        (21, FLAGS, rule_row("c", "t", 128)), (21, FLAGS, rule_row("c", None, 128)), (21, FLAGS, rule_row("c", "t", 128 | 31, end="e")),
+        (21, CHARACTERS, resized(b"\0\0\0\0\0\0")), (21, CHARACTERS, resized(b"\x20\0\0\0\0\x01t\0")),
+        (21, CHARACTERS, rule_row("c" * 17, "t")), (21, CHARACTERS, resized(b"\0\0\0\x20" + c * 32 + b"\0\0")),
+        (21, CHARACTERS, resized(b"\0\0\0\xff" + c * 255 + b"\0\0")),
+        (20, SOURCE + 3, resized(b"\0\0\0\x02" + c + b"\0\0")),                                               # a source cut short
+        (21, CODES, rule_row("c", "t", codes=["abc"] * 9)),
+        (21, CODES, resized(b"\0\0\0\x01" + c + b"\xff" + b"abc" * 255 + b"\0")),
+        (21, TEXT + 2, rule_row("c", "t", others=["x"] * 9)), (21, TEXT + 2, rule_row("c", "t", others=[""] * 255)),
+        (20, FLAGS, b"\0\0"), (20, FLAGS + 1, b"\0\x01\0"), (20, CHARACTERS, b"\0\x03\0\0\0"),
+        (20, 28, full[:1] + bytes([full[1] + 1]) + full[2:] + b"\0"), (20, 28, full[:1] + bytes([full[1] + 2]) + full[2:] + b"\0\0"),  # bytes left over
     ]
     for value in (0xD800, 0xDBFF, 0xDFFF, 0x110000, 0xFFFFFF):
-        bad.append(resized(b"\0\0\0\x01" + value.to_bytes(3, "big") + b"\0\0"))
-        bad.append(resized(b"\0\0\0\x02" + c + value.to_bytes(3, "big") + b"\0\0"))
+        bad.append((22, SOURCE, resized(b"\0\0\0\x01" + value.to_bytes(3, "big") + b"\0\0")))
+        bad.append((22, SOURCE + 3, resized(b"\0\0\0\x02" + c + value.to_bytes(3, "big") + b"\0\0")))
     for code in ("ABC", "ab1", "`bc", "ab{", "a\0c", "a c"):
-        bad.append(rule_row("c", "t", codes=[code]))
-        bad.append(rule_row("c", "t", codes=["abc", code]))
+        bad.append((22, FIRST_CODE, rule_row("c", "t", codes=[code])))
+        bad.append((22, FIRST_CODE + 3, rule_row("c", "t", codes=["abc", code])))
     for text in ("\x1f", "\x7f", "\0", "\x80", "\xff", "ab\x1f", "\x7fab", "x" * 65, "x" * 255):
-        bad += [rule_row("c", text), rule_row("c", "t", end=text), rule_row("c", None, end=text),
-                rule_row("c", "t", others=[text]), rule_row("c", "t", others=["x", text])]
-    for row in bad:
-        yield from in_table(2, "rules", before, row, after)
-    # a row's rest that ends before its parts do
-    for n in range(len(full) - 2):
-        yield from in_table(2, "rules", before, resized(full[2:2 + n]), after)
-    yield from cut_rows(2, "rules", before, full)
+        number, within = bad_text(text)
+        bad += [(number, at + within, row) for at, row in (
+            (TEXT, rule_row("c", text)), (TEXT + 2, rule_row("c", "t", end=text)), (TEXT, rule_row("c", None, end=text)),
+            (TEXT + 3, rule_row("c", "t", others=[text])), (TEXT + 5, rule_row("c", "t", others=["x", text])))]
+    for number, within, row in bad:
+        yield from in_table(number, "rules", before, row, after, within)
+    # a row's rest that ends before its parts do: each of its bytes, and the part that is missed without it
+    parts_of_full = [2, 3, 3, 5, 6, 6, 6, 9, 9, 9, 12, 13, 13, 13, 16, 16, 16, 19, 20, 21, 22, 23, 24, 25, 26, 27]
+    assert len(parts_of_full) == len(full) - 2
+    for n, missed in enumerate(parts_of_full):
+        yield from in_table(20, "rules", before, resized(full[2:2 + n]), after, missed)
+    yield from cut_rows(20, "rules", before, full)
     # one byte less than its parts take, the row after it as it was
-    yield Border((2, 5), rules=block([full[:1] + bytes([full[1] - 1]) + full[2:], after]))
+    yield Border((20, 5 + 27), rules=block([full[:1] + bytes([full[1] - 1]) + full[2:], after]))
     # order: character by character, a prefix first
     for first, second in (("d", "b"), ("ab", "a"), ("b", "ab"), ("\U00010000", "\uffff"), ("ba", "aab"), ("aab", "aaa"), ("a\u0100", "a\xff")):
         one, two, three = rule_row(first, "x"), rule_row(second, "y"), rule_row("\U0010ffff", "z")
-        yield Border((2, 5 + len(one)), rules=block([one, two]))
-        yield Border((2, 5 + len(one)), rules=block([one, two, three]))
-        yield Border((2, 5 + 2 * len(one)), rules=block([one, one, two]))
+        yield Border((24, 5 + len(one)), rules=block([one, two]))
+        yield Border((24, 5 + len(one)), rules=block([one, two, three]))
+        yield Border((24, 5 + 2 * len(one)), rules=block([one, one, two]))
         yield accepted(rules=block([two, one, three]), mode=3)
     yield accepted(rules=block([rule_row("b", "x"), rule_row("b", "y"), rule_row("ba", "z")]), mode=3)
     # what is still allowed
@@ -112,8 +131,13 @@ def rule_rows():
         yield accepted(rules=block([row]), text=b"c" * 17, mode=2)
     # the first faulty row decides
     bad = rule_row("c", "\x7f")
-    yield Border((2, 5), rules=block([bad, bad]))
-    yield Border((2, 5 + len(before)), rules=block([before, bad, before]))
+    yield Border((23, 5 + TEXT + 1), rules=block([bad, bad]))
+    yield Border((23, 5 + len(before) + TEXT + 1), rules=block([before, bad, before]))
+
+
+def smallest_rules():
+    for _, table, number, place in smallest.small_tables():
+        yield Border((number, place), rules=table)
 
 
 def class_rows():
@@ -283,31 +307,43 @@ def rooms():
 
 
 def orders():
-    """two faults at once: the lower number comes first; all of them together give the first"""
-    faults = {
-        1: dict(mode=9), 2: dict(rules=block([rule_row("b", "B"), b"\0"])), 3: dict(classes=block([class_row("b", 2)])),
-        4: dict(vowels=b"\x02\0\0\0\0"), 5: dict(code=b"xx"), 6: dict(text=b"a\xff"), 7: dict(text=b"a" * 513), 8: dict(text="ab\u0f00".encode()),
-    }
-    place = {1: 0, 2: 5 + len(rule_row("b", "B")), 3: 5, 4: 0, 5: 0, 6: 1, 7: 512, 8: 2}
+    """two faults at once: the one that is looked for earlier comes first; all of them together give the first"""
+    b, c = rule_row("b", "B"), rule_row("c", "C")
+    # in their order: number, place, what is changed
+    faults = [
+        (1, 0, dict(mode=9)), (20, 5 + len(b), dict(rules=block([b, b"\0"]))), (3, 5, dict(classes=block([class_row("b", 2)]))),
+        (4, 0, dict(vowels=b"\x02\0\0\0\0")), (5, 0, dict(code=b"xx")), (6, 1, dict(text=b"a\xff")), (7, 512, dict(text=b"a" * 513)),
+        (8, 2, dict(text="ab\u0f00".encode())),
+    ]
     both = {(6, 7): (b"a\xff" + b"a" * 600, 1), (6, 8): ("\u0f00a".encode() + b"\xff", 4), (7, 8): ("\u0f00".encode() * 513, 512)}
     small = {9: Lent(0, 0, 0), 10: Lent(1200, 0, 0), 11: Lent(1200, 100, 0)}
-    for i in faults:
-        for j in faults:
-            if (i, j) in both:
-                yield Border((i, both[i, j][1]), text=both[i, j][0])
-            elif i < j:
-                yield Border((i, place[i]), **{**faults[i], **faults[j]})
+
+    def from_rank(rank):
+        """all faults from one on"""
+        return {name: value for _, _, changes in faults[rank:] for name, value in changes.items()}
+
+    for rank, (number, place, changes) in enumerate(faults):
+        for later, _, more in faults[rank + 1:]:
+            if (number, later) in both:
+                text, at = both[number, later]
+                yield Border((number, at), text=text)
+            else:
+                yield Border((number, place), **{**changes, **more})
         for lent in small.values():
-            yield Border((i, place[i]), lent, **faults[i])
-    for lowest in range(1, 6):
-        every = {}
-        for i in range(lowest, 9):
-            every.update(faults[i])
-        yield Border((lowest, place[lowest]), Lent(0, 0, 0), **every)
-        yield Border((lowest, place[lowest]), Lent(5, 5, 5), **every)
+            yield Border((number, place), lent, **changes)
+    for rank, (number, place, _) in enumerate(faults[:5]):
+        yield Border((number, place), Lent(0, 0, 0), **from_rank(rank))
+        yield Border((number, place), Lent(5, 5, 5), **from_rank(rank))
     yield Border((9, 0), small[9])
     yield Border((10, 0), small[10])
     yield Border((11, 3), small[11], rules=NONE)
+    # every other fault of the rule table has the same place among them
+    for number, place, table in ((21, 5 + FLAGS, block([rule_row("c", "C", 128)])), (22, 5 + SOURCE, block([rule_row("\ud800", "C")])),
+                                 (23, 5 + TEXT + 1, block([rule_row("c", "\x7f")])), (24, 5 + len(c), block([c, b]))):
+        yield Border((1, 0), **{**from_rank(0), "rules": table})
+        yield Border((number, place), **{**from_rank(2), "rules": table})
+        for _, _, more in faults[2:]:
+            yield Border((number, place), **more, rules=table)
 
 
 def most_classes():
@@ -320,19 +356,19 @@ def most_classes():
 def most_rules():
     """the same of rules, in a file of their own: one row again and again, which is how a computation can write 90,000 bytes"""
     rule = rule_row("b")
-    yield Border((2, 5 + 8192 * len(rule)), rules=block([rule] * 8193))
-    yield Border((2, 5 + 8192 * len(rule)), rules=block([rule] * 8192 + [b"\0"]))
+    yield Border((25, 5 + 8192 * len(rule)), rules=block([rule] * 8193))
+    yield Border((25, 5 + 8192 * len(rule)), rules=block([rule] * 8192 + [b"\0"]))
     yield accepted(rules=block([rule] * 8192), text=b"")
     yield accepted(rules=block([rule] * 8191 + [rule_row("b", "x")]), text=b"b")
 
 
-GROUPS = [modes, headers, rule_rows, class_rows, vowel_rows, codes, utf8, lengths, left_out, rooms, orders, most_classes]
+GROUPS = [modes, headers, rule_rows, smallest_rules, class_rows, vowel_rows, codes, utf8, lengths, left_out, rooms, orders, most_classes]
 
 
 def made(border, built):
     """the call, once the oracle has confirmed it"""
     number, _ = border.refusal or (0, 0)
-    if (built is None) != (1 <= number <= 8):
+    if (built is None) != (number in WITHOUT_LATTICE):
         raise SystemExit("%s is wanted, but the oracle %s: %r" % (border.refusal, "refuses" if built is None else "accepts", border.given))
     if built is None:
         return Call(border.given, border.lent, refused(*border.refusal))

@@ -148,8 +148,8 @@ fn run_all(input: &[u8]) -> Tally
 }
 
 // Room for the vectors. It is apart so that `main` knows its length alone, and no proof goes through its bytes.
-fn room() -> [u8; 1000000] {
-    [0u8; 1000000]
+fn room() -> [u8; 2000000] {
+    [0u8; 2000000]
 }
 
 fn main() {
