@@ -19,8 +19,8 @@ extern "C" {
 #endif
 
 /* The version of this header and its library: as text, and as a number that rises. */
-#define JETTYFIG_VERSION "1.0.0"
-#define JETTYFIG_VERSION_NUMBER 10000 /* 10000 for the first part, 100 for the second, 1 for the third */
+#define JETTYFIG_VERSION "2.0.0"
+#define JETTYFIG_VERSION_NUMBER 20000 /* 10000 for the first part, 100 for the second, 1 for the third */
 
 /* What a call shows: its argument `mode`. */
 enum jettyfig_show {

@@ -5,8 +5,8 @@
 #![allow(dead_code)]
 
 /// The version of this file and its library: as text, and as a number that rises.
-pub const VERSION: &str = "1.0.0";
-pub const VERSION_NUMBER: u32 = 10000;
+pub const VERSION: &str = "2.0.0";
+pub const VERSION_NUMBER: u32 = 20000;
 
 /// What a call shows: its mode. The string, the path, the path and its alternatives, all edges.
 pub const SHOW_STRING: u8 = 0;

@@ -26,18 +26,18 @@ first-row b = faulty-row rule-size rule-source rule-right most-rows [] b
 
 -- A table has a fault just where it has such a row
 module _ (b : List ℕ) where
-  pub accepts : first-row b ≡ none → rule-fault b ≡ none
+  pub no-fault : first-row b ≡ none → rule-fault b ≡ none
   unfolding rule-fault
-  accepts e =
+  no-fault e =
       let f = offset-where rule-right in
       let t = offset-tells rule-right in
       fault-sound rule-size rule-source rule-right rule-moves row-fault row-tells (refuse refused-length 0) most-rows [] b
       (fault-headed rule-size rule-source rule-right rule-moves f t 0 most-rows [] b e)
       (fault-none rule-size rule-source rule-right rule-moves f t 0 most-rows [] b e)
 
-  pub accepted : rule-fault b ≡ none → first-row b ≡ none
+  pub tests-hold : rule-fault b ≡ none → first-row b ≡ none
   unfolding rule-fault
-  accepted e =
+  tests-hold e =
       let r = refuse refused-length 0 in
       fault-sound rule-size rule-source rule-right rule-moves (offset-where rule-right) (offset-tells rule-right) 0 most-rows [] b
       (fault-headed rule-size rule-source rule-right rule-moves row-fault row-tells r most-rows [] b e)
