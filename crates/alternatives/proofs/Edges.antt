@@ -19,7 +19,8 @@ use Rattle.definition.specs.Tables.{Rule, Lexicon}
 use Rattle.definition.specs.Utf8.{decoded}
 use Rattle.definition.specs.Shorts.{Low, encoded-low}
 use Rattle.definition.specs.Edges.{Edge, View, Mem, right-best}
-use Rattle.definition.specs.RuleRows.{rule-fault, rules-of}
+use Rattle.definition.specs.RuleRows.{rules-of}
+use Rattle.definition.specs.RuleFaults.{rule-fault}
 use Rattle.definition.specs.Accepted.{rules-few}
 use Rattle.definition.specs.Boundaries.{word-start, word-end}
 use Rattle.definition.specs.Rules.{spans, holds-at}

@@ -10,24 +10,25 @@ use borrow.Author.Tests.{ltb-false, le-ltb, not-false}
 use Rattle.base.specs.Pick.{pick}
 use Rattle.base.specs.Lists.{first-of}
 use Rattle.base.specs.ListLaws.{or-none}
+use Rattle.base.specs.Rows.{Each, each-map}
 use Rattle.base.specs.Alls.{All, rows-all}
 use Rattle.definition.specs.Limits.{most-mode, most-characters, most-rows, most-script}
 use Rattle.definition.specs.Texts.{Text}
 use Rattle.definition.specs.Utf8.{bad-sequence}
 use Rattle.definition.specs.Tables.{Rule, Class, Vowel}
-use Rattle.definition.specs.Blocks.{head-bytes}
-use Rattle.definition.specs.RuleRows.{rule-fault, rule-size, rule-source, rule-right, rule-of, rules-of}
+use Rattle.definition.specs.Blocks.{head-bytes, offset-where}
+use Rattle.definition.specs.RuleRows.{rule-size, rule-source, rule-right, rule-of, rules-of}
+use Rattle.definition.specs.RuleFaults.{row-fault, rule-fault}
 use Rattle.definition.specs.ClassRows.{class-fault, class-size, class-next, class-right, class-of, classes-of}
 use Rattle.definition.specs.VowelRows.{vowel-fault, vowel-size, vowel-next, vowel-right, vowel-of, vowels-of}
-use Rattle.definition.specs.Refusals.{when, placed}
+use Rattle.definition.specs.Refusals.{refuse, refused-length, when, placed}
 use Rattle.definition.specs.Call.{Inputs, characters, code-right, first-left-out, before-text, text-refusal, refusal}
-use Rattle.definition.specs.BlockTurns.{Chain, fault-none, chain-each, chain-few}
+use Rattle.definition.specs.BlockTurns.{Chain, offset-tells, fault-none, chain-each, chain-few}
+use Rattle.definition.specs.Checked.{class-checked, vowel-checked}
+use Rattle.definition.specs.Places.{Placed, rule-placed}
+use Rattle.definition.specs.RuleTurns.{rule-moves, row-tells}
 
 -- A row has a size
-pub rule-moves : (s : List ℕ) → 0 < rule-size s
-unfolding rule-size
-rule-moves s = omega arith
-
 pub class-moves : (s : List ℕ) → 0 < class-size s
 unfolding class-size
 class-moves s = omega arith
@@ -39,15 +40,15 @@ vowel-moves s = omega arith
 -- A table without fault: each row right after the one before it
 pub rules-chain : (b : List ℕ) → rule-fault b ≡ none → Chain rule-size rule-source rule-right most-rows [] (drop head-bytes b)
 unfolding rule-fault
-rules-chain b e = fault-none rule-size rule-source rule-right rule-moves most-rows [] b e
+rules-chain b e = fault-none rule-size rule-source rule-right rule-moves row-fault row-tells (refuse refused-length 0) most-rows [] b e
 
 pub classes-chain : (b : List ℕ) → class-fault b ≡ none → Chain class-size class-next class-right most-rows 0 (drop head-bytes b)
 unfolding class-fault
-classes-chain b e = fault-none class-size class-next class-right class-moves most-rows 0 b e
+classes-chain b e = fault-none class-size class-next class-right class-moves (offset-where class-right) (offset-tells class-right) 0 most-rows 0 b e
 
 pub vowels-chain : (b : List ℕ) → vowel-fault b ≡ none → Chain vowel-size vowel-next vowel-right most-script 1 (drop head-bytes b)
 unfolding vowel-fault
-vowels-chain b e = fault-none vowel-size vowel-next vowel-right vowel-moves most-script 1 b e
+vowels-chain b e = fault-none vowel-size vowel-next vowel-right vowel-moves (offset-where vowel-right) (offset-tells vowel-right) 0 most-script 1 b e
 
 -- no more rows than allowed
 pub rules-few : (b : List ℕ) → rule-fault b ≡ none → length (rules-of b) ≤ most-rows
@@ -76,6 +77,20 @@ pub vowels-all : (Q : Vowel → Type 0) → ((k : ℕ) (s : List ℕ) → vowel-
 unfolding vowels-of
 vowels-all Q f b e = rows-all vowel-of Q vowel-moves (λ s q. f (q .0) s (q .1))
     (chain-each vowel-size vowel-next vowel-right (vowels-chain b e))
+
+-- and each row lies within its table
+pub rules-placed : (b : List ℕ) → rule-fault b ≡ none → Each Placed rule-size (drop head-bytes b)
+rules-placed b e =
+    each-map (λ s q. rule-placed (q .0) s (q .1)) (chain-each rule-size rule-source rule-right (rules-chain b e))
+
+pub classes-placed : (b : List ℕ) → class-fault b ≡ none → Each (λ s. class-size s ≤ length s) class-size (drop head-bytes b)
+unfolding class-size
+classes-placed b e =
+    each-map (λ s q. class-checked (q .0) s (q .1) .inside) (chain-each class-size class-next class-right (classes-chain b e))
+
+pub vowels-placed : (b : List ℕ) → vowel-fault b ≡ none → Each (λ s. vowel-size s ≤ length s) vowel-size (drop head-bytes b)
+vowels-placed b e =
+    each-map (λ s q. vowel-checked (q .0) s (q .1) .inside) (chain-each vowel-size vowel-next vowel-right (vowels-chain b e))
 
 -- All that an accepted call has passed
 pub record Accepted (i : Inputs) : Type 0 where
@@ -112,7 +127,7 @@ accepted-of i e =
     let k = or-none _ _ (h .1) in
     record {
       mode = ltb-false most-mode (i .mode) (when-none _ _ _ (a .0));
-      rules = placed-none _ _ (b .0);
+      rules = b .0;
       classes = placed-none _ _ (c .0);
       vowels = placed-none _ _ (d .0);
       code = not-false _ (when-none _ _ _ (f .0));

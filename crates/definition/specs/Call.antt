@@ -8,12 +8,13 @@ use lib.ListN.{length, replicate}
 use Rattle.base.specs.Pick.{pick}
 use Rattle.base.specs.Lists.{all, or-else, first-of, same}
 use Rattle.definition.specs.Limits.{most-mode, code-letters, most-characters, slot-bytes}
-use Rattle.definition.specs.Refusals.{Refusal, refuse, when, placed, refused-mode, refused-rules, refused-classes, refused-vowels, refused-code}
+use Rattle.definition.specs.Refusals.{Refusal, refuse, when, placed, refused-mode, refused-classes, refused-vowels, refused-code}
 use Rattle.definition.specs.Refusals.{refused-utf8, refused-too-long, refused-left-out, refused-output}
 use Rattle.definition.specs.Texts.{Text}
 use Rattle.definition.specs.Tables.{Tables}
 use Rattle.definition.specs.Blocks.{small}
-use Rattle.definition.specs.RuleRows.{rule-fault, rules-of}
+use Rattle.definition.specs.RuleRows.{rules-of}
+use Rattle.definition.specs.RuleFaults.{rule-fault}
 use Rattle.definition.specs.ClassRows.{class-fault, classes-of}
 use Rattle.definition.specs.VowelRows.{vowel-fault, vowels-of}
 use Rattle.definition.specs.Utf8.{bad-sequence, decoded}
@@ -73,7 +74,7 @@ first-left-out p (c ∷ t) = pick (left-out c) (some p) (first-left-out (p + 1) 
 unfoldable pub before-text : ℕ → List ℕ → List ℕ → List ℕ → List ℕ → Option Refusal
 before-text mode rules classes vowels code = first-of
     (when (ltb most-mode mode) refused-mode 0
-    ∷ placed refused-rules (rule-fault rules)
+    ∷ rule-fault rules
     ∷ placed refused-classes (class-fault classes)
     ∷ placed refused-vowels (vowel-fault vowels)
     ∷ when (not (code-right code)) refused-code 0

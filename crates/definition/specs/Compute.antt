@@ -10,7 +10,9 @@ use Rattle.definition.specs.Refusals.{when, placed}
 use Rattle.definition.specs.Texts.{among, at, prev, stands, fits, begins, latin, vowels, consonants, lower, last-is}
 use Rattle.definition.specs.Utf8.{scalar, six, checked, sequence, read, bad-from, bad-sequence, decode-by, decoded, encode, encoded}
 use Rattle.definition.specs.Blocks.{headed, past, row-turn, fault-from, fault, offset-where, small}
-use Rattle.definition.specs.RuleRows.{printable, text-size, text-of, text-right, texts-of, texts-size, texts-right, rule-size, rule-flag, rule-count, source-count, codes-at, past-text, codes-count-from, target-from, end-target-from, others-from, others-end, others-of, others-right, three-at, code-of, rule-source, codes-from, text-where, rule-of, rises, fits-from, codes-right-from, target-right-from, end-target-right-from, source-right, rule-right, rule-fault, rules-of}
+use Rattle.definition.specs.RuleRows.{printable, text-size, text-of, text-right, texts-of, texts-size, texts-right, rule-size, rule-flag, rule-count, source-count, codes-at, past-text, codes-count-from, target-from, end-target-from, others-from, others-end, others-of, others-right, three-at, code-of, rule-source, codes-from, text-where, rule-of, rises, fits-from, codes-right-from, target-right-from, end-target-right-from, source-right, rule-right, rules-of}
+use Rattle.definition.specs.RuleFields.{and-then, field, fields, character-right, code-small, byte-right, read-text, read-texts, read-text-if, read-flags, read-source, read-codes, read-others, read-end, read-tail, read-parts, read-row}
+use Rattle.definition.specs.RuleFaults.{field-fault, row-fault, rule-fault}
 use Rattle.definition.specs.ClassRows.{class-size, class-by, class-of, class-next, class-fits, space-right, latin-right, class-right, class-fault, classes-of}
 use Rattle.definition.specs.VowelRows.{vowel-size, vowel-letters, vowel-of, vowel-next, vowel-fits, letters-right, vowel-right, vowel-fault, vowels-of}
 use Rattle.definition.specs.Classes.{plain, class, alpha, mark, script}
@@ -35,20 +37,22 @@ unfolding pick keep any all head empty holds front after best-of best first-of m
     texts-right rule-size rule-flag rule-count source-count codes-at past-text codes-count-from target-from
     end-target-from others-from others-end others-of others-right three-at code-of rule-source codes-from text-where
     rule-of rises fits-from codes-right-from target-right-from end-target-right-from source-right rule-right
-    rule-fault rules-of class-size class-by class-of class-next class-fits space-right latin-right class-right
-    class-fault classes-of vowel-size vowel-letters vowel-of vowel-next vowel-fits letters-right vowel-right
-    vowel-fault vowels-of plain class alpha mark script ending starting left-best right-best covered new-in alike
-    add closing walk view ret _>>=_ remember goes-on word-end fresh recall word-start spans is-prefix higher
-    targeted winner first-rule lang asks-start holds-at valid sift valids choose simple opens past-tone next-rom
-    o-ang-test vowel-test syllable-at syllable-end full vowel-row before-y pattern-y pattern-c bases consonant-only
-    keeps-end before-yo bare vowel-in vowel-by vowel-step doubling doubled small-tsu double framed widen around-by
-    around pre-vowel before o-ang-side between silent small-ya small-target lengthens trim-front trim-back trim
-    finish grave small-y rest o-ang-step thai by-script expand is-tail without-plus grown as-edge single
-    fallback-plus fallback-by put-in each fallback-edge edge-of span-edge rise build fall lattice path-from joined
-    akin other also-all cored by-target by-end-target by-rule by-rules by-edges longer sorted path-of
-    with-alternatives-of all-edges-of edges edge-count path with-alternatives alternatives all-edges edge-row
-    edge-rows block listing shown bytes misfit tables-of tables characters code-right left-out first-left-out
-    before-text text-refusal refusal refused written within-room with-lattice accepted unless-refused called
+    rules-of and-then field fields character-right code-small byte-right read-text read-texts read-text-if
+    read-flags read-source read-codes read-others read-end read-tail read-parts read-row field-fault row-fault
+    rule-fault class-size class-by class-of class-next class-fits space-right latin-right class-right class-fault
+    classes-of vowel-size vowel-letters vowel-of vowel-next vowel-fits letters-right vowel-right vowel-fault
+    vowels-of plain class alpha mark script ending starting left-best right-best covered new-in alike add closing
+    walk view ret _>>=_ remember goes-on word-end fresh recall word-start spans is-prefix higher targeted winner
+    first-rule lang asks-start holds-at valid sift valids choose simple opens past-tone next-rom o-ang-test
+    vowel-test syllable-at syllable-end full vowel-row before-y pattern-y pattern-c bases consonant-only keeps-end
+    before-yo bare vowel-in vowel-by vowel-step doubling doubled small-tsu double framed widen around-by around
+    pre-vowel before o-ang-side between silent small-ya small-target lengthens trim-front trim-back trim finish
+    grave small-y rest o-ang-step thai by-script expand is-tail without-plus grown as-edge single fallback-plus
+    fallback-by put-in each fallback-edge edge-of span-edge rise build fall lattice path-from joined akin other
+    also-all cored by-target by-end-target by-rule by-rules by-edges longer sorted path-of with-alternatives-of
+    all-edges-of edges edge-count path with-alternatives alternatives all-edges edge-row edge-rows block listing
+    shown bytes misfit tables-of tables characters code-right left-out first-left-out before-text text-refusal
+    refusal refused written within-room with-lattice accepted unless-refused called
 compute i = called i
 
 pub compute-is : (i : Inputs) → compute i ≡ called i

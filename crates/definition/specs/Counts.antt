@@ -16,7 +16,8 @@ use Rattle.definition.specs.Limits.{most-rows, most-alternatives}
 use Rattle.definition.specs.Notes.{note-alt, note-alt3}
 use Rattle.definition.specs.Texts.{Text}
 use Rattle.definition.specs.Tables.{Rule, Lexicon}
-use Rattle.definition.specs.RuleRows.{texts-of, others-at, others-of, others-right, rule-right, rule-fault, rule-of, rules-of}
+use Rattle.definition.specs.RuleRows.{texts-of, others-at, others-of, others-right, rule-right, rule-of, rules-of}
+use Rattle.definition.specs.RuleFaults.{rule-fault}
 use Rattle.definition.specs.Edges.{Edge, View, M, right-best, new-in}
 use Rattle.definition.specs.Rules.{spans, valid, sift, valids}
 use Rattle.definition.specs.Paths.{join, next, path-from, akin, other, also-all, by-target, by-end-target, by-rule, by-rules, by-edges}

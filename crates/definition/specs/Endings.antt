@@ -17,8 +17,10 @@ use Rattle.definition.specs.Tables.{Tables}
 use Rattle.definition.specs.Edges.{Edge}
 use Rattle.definition.specs.Building.{lattice}
 use Rattle.definition.specs.Listing.{shown}
-use Rattle.definition.specs.Refusals.{Refusal, refuse, when, placed, numbers, refused-mode, refused-rules, refused-classes, refused-vowels, refused-code}
+use Rattle.definition.specs.Refusals.{Refusal, refuse, when, placed, numbers, refused-mode, refused-classes, refused-vowels, refused-code}
 use Rattle.definition.specs.Refusals.{refused-utf8, refused-too-long, refused-left-out, refused-room, refused-output}
+use Rattle.definition.specs.RuleFaults.{rule-fault}
+use Rattle.definition.specs.RuleNumbers.{fault-number}
 use Rattle.definition.specs.Capacity.{bytes, misfit}
 use Rattle.definition.specs.Call.{Inputs, Called, tables, characters, before-text, text-refusal, refusal, refused, written, within-room, with-lattice, accepted, unless-refused, called}
 
@@ -58,6 +60,12 @@ unfolding Numbered placed
 placed-numbered none n h = tt
 placed-numbered (some p) n h = h
 
+rules-numbered : (b : List ℕ) (o : Option Refusal) → rule-fault b ≡ o → Numbered o
+unfolding Numbered any
+rules-numbered b none e = tt
+rules-numbered b (some r) e = fault-number (λ k. any (eqb k) numbers ≡ true)
+    (record { of-length = refl; of-range = refl; of-letter = refl; of-byte = refl; of-order = refl; of-rows = refl }) b r e
+
 or-numbered : (a b : Option Refusal) → Numbered a → Numbered b → Numbered (or-else a b)
 unfolding Numbered
 or-numbered none b x y = y
@@ -74,7 +82,7 @@ refusal-numbered i = or-numbered _ _
     (first-numbered _ (
       when-numbered _ refused-mode 0 refl,
       (
-        placed-numbered _ refused-rules refl,
+        rules-numbered (i .rules) (rule-fault (i .rules)) refl,
         (
           placed-numbered _ refused-classes refl,
           (placed-numbered _ refused-vowels refl, (when-numbered _ refused-code 0 refl, tt)),

@@ -8,6 +8,8 @@ pub mod Tables
 -- 'Table and output bytes'
 pub mod Blocks
 pub mod RuleRows
+pub mod RuleFields
+pub mod RuleFaults
 pub mod ClassRows
 pub mod VowelRows
 pub mod Classes
@@ -33,10 +35,18 @@ pub mod Sample
 pub mod Utf8Turns
 pub mod BlockTurns
 pub mod Checking
--- what an accepted call has passed: a row, a table, a call; where a row's parts lie; rows rise; the space is blank
+-- what a right row has passed, and where its parts lie
 pub mod Checked
-pub mod Accepted
 pub mod Places
+pub mod There
+-- a rule table's faults: no field of a right row is at fault, and none of another; a walk over the rows; where a fault lies
+pub mod FieldsRight
+pub mod FieldsWithin
+pub mod RuleTurns
+pub mod FaultLaws
+pub mod RuleNumbers
+-- what an accepted call has passed; rows rise; the space is blank
+pub mod Accepted
 pub mod Risen
 pub mod Ranges
 pub mod Blank

@@ -2,22 +2,15 @@
 use mathlib.Core.Bool.{Bool, true, false}
 use mathlib.Core.Path.{_≡_, refl}
 use mathlib.Core.List.{List}
-use mathlib.Core.Option.{none}
 use Prim.Native.Nat.{ℕ, _+_, _*_, _≤_, _<_}
 use native.Mathlib.Omega.{arith}
-use lib.ListN.{length, drop}
-use Rattle.base.specs.Rows.{Each, each-map}
+use lib.ListN.{length}
 use Rattle.definition.specs.Limits.{most-source}
 use Rattle.definition.specs.Texts.{Text}
-use Rattle.definition.specs.Blocks.{head-bytes}
 use Rattle.definition.specs.RuleRows.{target-from, end-target-from, others-from}
 use Rattle.definition.specs.RuleRows.{rule-size, rule-flag, target-bit, end-target-bit, source-count, codes-at, codes-count, target-at, past-text}
-use Rattle.definition.specs.RuleRows.{end-target-at, others-at, others-end, rule-source, rule-right, rule-fault}
-use Rattle.definition.specs.ClassRows.{class-size, class-next, class-right, class-fault}
-use Rattle.definition.specs.VowelRows.{vowel-size, vowel-next, vowel-right, vowel-fault}
-use Rattle.definition.specs.BlockTurns.{chain-each}
-use Rattle.definition.specs.Checked.{rule-checked, class-checked, vowel-checked}
-use Rattle.definition.specs.Accepted.{rules-chain, classes-chain, vowels-chain}
+use Rattle.definition.specs.RuleRows.{end-target-at, others-at, others-end, rule-right}
+use Rattle.definition.specs.Checked.{rule-checked}
 
 past-far : (b : Bool) (o : ℕ) (s : List ℕ) → o ≤ past-text b o s
 unfolding past-text
@@ -55,17 +48,3 @@ rule-placed old s e =
       others = let z = c .filled in omega arith;
       last = c .filled;
     }
-
--- Every row of an accepted table
-pub rules-placed : (b : List ℕ) → rule-fault b ≡ none → Each Placed rule-size (drop head-bytes b)
-rules-placed b e =
-    each-map (λ s q. rule-placed (q .0) s (q .1)) (chain-each rule-size rule-source rule-right (rules-chain b e))
-
-pub classes-placed : (b : List ℕ) → class-fault b ≡ none → Each (λ s. class-size s ≤ length s) class-size (drop head-bytes b)
-unfolding class-size
-classes-placed b e =
-    each-map (λ s q. class-checked (q .0) s (q .1) .inside) (chain-each class-size class-next class-right (classes-chain b e))
-
-pub vowels-placed : (b : List ℕ) → vowel-fault b ≡ none → Each (λ s. vowel-size s ≤ length s) vowel-size (drop head-bytes b)
-vowels-placed b e =
-    each-map (λ s q. vowel-checked (q .0) s (q .1) .inside) (chain-each vowel-size vowel-next vowel-right (vowels-chain b e))

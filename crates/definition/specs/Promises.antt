@@ -19,7 +19,8 @@ use Rattle.definition.specs.Blocks.{small}
 use Rattle.definition.specs.RuleRows.{end-target-right-from, target-right-from}
 use Rattle.definition.specs.RuleRows.{printable, text-of, text-right, texts-of, texts-right, rule-flag, target-bit, end-target-bit, target-at}
 use Rattle.definition.specs.RuleRows.{end-target-at, others-at, others-of, others-right, text-where, target-right, end-target-right, rule-right}
-use Rattle.definition.specs.RuleRows.{rule-fault, rule-of}
+use Rattle.definition.specs.RuleRows.{rule-of}
+use Rattle.definition.specs.RuleFaults.{rule-fault}
 use Rattle.definition.specs.ClassRows.{class-fault}
 use Rattle.definition.specs.VowelRows.{vowel-length, vowel-letters, vowel-right, vowel-fault, vowel-of}
 use Rattle.definition.specs.Paths.{edges, edge-count}

@@ -14,7 +14,8 @@ use Rattle.base.specs.Alls.{All, All-map}
 use Rattle.definition.specs.Limits.{most-source}
 use Rattle.definition.specs.Texts.{Text}
 use Rattle.definition.specs.Tables.{Rule, Vowel, Tables, script-none}
-use Rattle.definition.specs.RuleRows.{source-count, three-at, rule-source, rule-right, rule-of, rule-fault, rules-of}
+use Rattle.definition.specs.RuleRows.{source-count, three-at, rule-source, rule-right, rule-of, rules-of}
+use Rattle.definition.specs.RuleFaults.{rule-fault}
 use Rattle.definition.specs.Edges.{State, view}
 use Rattle.definition.specs.Rules.{is-prefix}
 use Rattle.definition.specs.Vowels.{vowel-row}

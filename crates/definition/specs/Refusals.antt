@@ -6,13 +6,31 @@ use Prim.Native.Nat.{ℕ}
 use Rattle.base.specs.Pick.{pick}
 use Rattle.base.specs.Lists.{bind}
 
--- the mode; the rule, the class, the vowel table; the language code
+-- the mode
 abbrev pub refused-mode : ℕ
 refused-mode = 1
 
-abbrev pub refused-rules : ℕ
-refused-rules = 2
+-- the rule table: its header or a length; a flag or count out of its range; a character of a source or a language code;
+-- a byte of a target; the order of its rows; too many rows. (2 stood for all of these and is not returned)
+abbrev pub refused-length : ℕ
+refused-length = 20
 
+abbrev pub refused-range : ℕ
+refused-range = 21
+
+abbrev pub refused-letter : ℕ
+refused-letter = 22
+
+abbrev pub refused-byte : ℕ
+refused-byte = 23
+
+abbrev pub refused-order : ℕ
+refused-order = 24
+
+abbrev pub refused-rows : ℕ
+refused-rows = 25
+
+-- the class table, the vowel table, the language code
 abbrev pub refused-classes : ℕ
 refused-classes = 3
 
@@ -45,7 +63,8 @@ refused-output = 11
 -- all of them
 abbrev pub numbers : List ℕ
 numbers =
-    refused-mode ∷ refused-rules ∷ refused-classes ∷ refused-vowels ∷ refused-code
+    refused-mode ∷ refused-length ∷ refused-range ∷ refused-letter ∷ refused-byte ∷ refused-order ∷ refused-rows
+    ∷ refused-classes ∷ refused-vowels ∷ refused-code
     ∷ refused-utf8 ∷ refused-too-long ∷ refused-left-out ∷ refused-slots ∷ refused-room ∷ refused-output ∷ []
 
 -- A refusal is one of these numbers, and its place

@@ -10,12 +10,14 @@ use borrow.Author.Tests.{ltb-true, eqb-true, lt-ltb, eq-eqb}
 use Rattle.base.specs.Bools.{and-left, and-right, or-cases}
 use Rattle.base.specs.Alls.{All, Ordered}
 use Rattle.definition.specs.Texts.{Text}
-use Rattle.definition.specs.RuleRows.{rises, rule-size, rule-source, rule-right, rule-of, rule-fault, rules-of}
+use Rattle.definition.specs.RuleRows.{rises, rule-size, rule-source, rule-right, rule-of, rules-of}
+use Rattle.definition.specs.RuleFaults.{rule-fault}
 use Rattle.definition.specs.ClassRows.{class-size, class-next, class-right, class-by, class-of, class-fault, classes-of}
 use Rattle.definition.specs.VowelRows.{vowel-size, vowel-next, vowel-right, vowel-of, vowel-fault, vowels-of}
 use Rattle.definition.specs.BlockTurns.{chain-ordered}
 use Rattle.definition.specs.Checked.{rule-checked, class-checked, vowel-checked}
-use Rattle.definition.specs.Accepted.{rule-moves, class-moves, vowel-moves, rules-chain, classes-chain, vowels-chain}
+use Rattle.definition.specs.Accepted.{class-moves, vowel-moves, rules-chain, classes-chain, vowels-chain}
+use Rattle.definition.specs.RuleTurns.{rule-moves}
 
 -- The order of sources goes through
 first-lower : (x y : ℕ) (b : Bool) → x < y → (ltb x y || b) ≡ true

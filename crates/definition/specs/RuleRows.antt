@@ -11,11 +11,11 @@ use Rattle.base.specs.Big.{be2, be3}
 use Rattle.base.specs.Bits.{flagged}
 use Rattle.base.specs.Lists.{all, holds}
 use Rattle.base.specs.Rows.{rows, counted}
-use Rattle.definition.specs.Limits.{most-rows, most-source, most-codes, most-alternatives, most-target}
+use Rattle.definition.specs.Limits.{most-source, most-codes, most-alternatives, most-target}
 use Rattle.definition.specs.Texts.{Text}
 use Rattle.definition.specs.Utf8.{scalar}
 use Rattle.definition.specs.Tables.{Rule}
-use Rattle.definition.specs.Blocks.{head-bytes, faulty-row, small}
+use Rattle.definition.specs.Blocks.{head-bytes, small}
 
 -- Target texts: a length byte 0 to 64 and that many bytes 0x20 to 0x7E
 unfoldable pub printable : ℕ → Bool
@@ -208,9 +208,6 @@ rule-right old s =
     rule-fits s && source-right old s && codes-right s && target-right s && end-target-right s
     && others-right (others-at s) s
 
--- The table: its first faulty row, and its rules
-unfoldable pub rule-fault : List ℕ → Option ℕ
-rule-fault b = faulty-row rule-size rule-source rule-right most-rows [] b
-
+-- The rules of a table
 unfoldable pub rules-of : List ℕ → List Rule
 rules-of b = rows rule-of rule-size (drop head-bytes b)

@@ -197,7 +197,7 @@ kata = encoded (chars "कत")
 abbrev pub refusals : List Refused
 refusals =
     refused-at 1 0 (roomed 4 [] kata 24 3 3)
-    ∷ refused-at 2 5 (tabled cut sample-classes sample-vowels)
+    ∷ refused-at 20 5 (tabled cut sample-classes sample-vowels)
     ∷ refused-at 3 5 (tabled sample-rules cut sample-vowels)
     ∷ refused-at 4 5 (tabled sample-rules sample-classes cut)
     ∷ refused-at 4 0 (tabled sample-rules sample-classes [])

@@ -6,7 +6,8 @@ use lib.Dec.{ltb}
 use mathlib.Core.List.{List}
 use mathlib.Core.Path.{_≡_, sym, ap, _∙_}
 use Rattle.definition.specs.Texts.{Text}
-use Rattle.definition.specs.RuleRows.{rule-fault, rules-of}
+use Rattle.definition.specs.RuleRows.{rules-of}
+use Rattle.definition.specs.RuleFaults.{rule-fault}
 use Rattle.definition.specs.Tables.{Tables}
 use Rattle.definition.specs.Edges.{State, view}
 use Rattle.definition.specs.Rules.{is-prefix}

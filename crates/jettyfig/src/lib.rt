@@ -8,9 +8,10 @@ ghost use Rattle.definition.specs.Limits.{most-characters};
 ghost use Rattle.definition.specs.Refusals.{placed};
 ghost use Rattle.definition.specs.Utf8.{decoded};
 ghost use Rattle.definition.specs.ClassRows.{class-fault};
-ghost use Rattle.definition.specs.RuleRows.{rule-fault};
+ghost use Rattle.definition.specs.RuleFaults.{rule-fault};
 ghost use Rattle.definition.specs.Call.{Inputs, before-text, text-refusal, refusal, called};
 ghost use Rattle.table_blocks.specs.Faults.{table-means};
+ghost use Rattle.rule_table_check.specs.Told.{rules-means};
 ghost use Rattle.utf8.specs.Read.{text-means};
 ghost use Rattle.table_classes.specs.Told.{alphas-of};
 ghost use Rattle.table_vowels.specs.Told.{FineVowels};
@@ -22,6 +23,7 @@ ghost use Rattle.jettyfig.specs.Verdicts.{verdict-means, given, returned
 ghost use Rattle.jettyfig.specs.Steps.{with-kinds, Readied, Writes, Romanizes, Prepares, Reads};
 use edge::Added;
 use output::Built;
+use rule_table_check::RulesRead;
 use table_blocks::TableRead;
 use utf8::TextRead;
 
@@ -41,10 +43,8 @@ const MOST_MODE: u8 = 3;
 
 const CODE_LETTERS: usize = 3;
 
-// The numbers of refusals, as the definition names them.
+// The numbers of refusals, as the definition names them; those of the rule table, 20 to 25, are rule_row_faults'.
 const REFUSED_MODE: u64 = 1;
-
-const REFUSED_RULES: u64 = 2;
 
 const REFUSED_CLASSES: u64 = 3;
 
@@ -91,7 +91,20 @@ fn refuse(number: u64, place: u64) -> Answer
     }
 }
 
-// A table is accepted, or refused by its number at its fault's place.
+// A rule table is accepted, or refused by its fault's number at the fault's place.
+fn of_rule_table(read: RulesRead) -> Verdict
+    ensures { λ r. ⌜ verdict-means r ≡ rules-means read ⌝ }
+{
+    match read {
+        RulesRead::Wrong(fault, at) => Verdict::Refused(
+            rule_row_faults::fault_number(fault),
+            at as u64,
+        ),
+        RulesRead::Valid => Verdict::Accepted,
+    }
+}
+
+// Another table is accepted, or refused by its number at its first faulty row.
 fn of_table(number: u64, read: TableRead) -> Verdict
     ensures { λ r. ⌜ verdict-means r ≡ placed number (table-means read) ⌝ }
 {
@@ -124,7 +137,7 @@ fn check(mode: u8, rules: &[u8], classes: &[u8], vowels: &[u8], code: &[u8]) -> 
     if MOST_MODE < mode {
         return Verdict::Refused(REFUSED_MODE, 0);
     }
-    let of_rules = of_table(REFUSED_RULES, rule_table_check::check_rules(rules));
+    let of_rules = of_rule_table(rule_table_check::check_rules(rules));
     let Verdict::Accepted = of_rules else {
         return of_rules;
     };

@@ -10,7 +10,8 @@ use Rattle.base.specs.Lists.{head, has, bind}
 use Rattle.definition.specs.Texts.{Text}
 use Rattle.definition.specs.Tables.{Rule, Lexicon}
 use Rattle.definition.specs.Edges.{View, Mem, ret, _>>=_}
-use Rattle.definition.specs.RuleRows.{rule-flag, target-bit, target-at, text-of, text-where, rule-of, rule-fault, rules-of}
+use Rattle.definition.specs.RuleRows.{rule-flag, target-bit, target-at, text-of, text-where, rule-of, rules-of}
+use Rattle.definition.specs.RuleFaults.{rule-fault}
 use Rattle.definition.specs.Rules.{higher, targeted, first-rule, choose, simple}
 use Rattle.rule_table.specs.Doors.{with-source}
 use Rattle.rule_table.specs.Seek.{first-at, equal-rows}

@@ -15,7 +15,8 @@ use borrow.Author.Tests.{eq-eqb, ne-eqb, lt-ltb, le-ltb, ltb-true}
 use Rattle.base.specs.Pick.{pick}
 use Rattle.base.specs.Bools.{and-left, and-right}
 use Rattle.definition.specs.Texts.{Text}
-use Rattle.definition.specs.RuleRows.{rule-fault, rules-of}
+use Rattle.definition.specs.RuleRows.{rules-of}
+use Rattle.definition.specs.RuleFaults.{rule-fault}
 use Rattle.rule_table.specs.Index.{index-entries, row-offsets, entered, indexed, index-of, entered-length}
 use Rattle.rule_table.specs.Seek.{first-at, equal-rows}
 use Rattle.rule_table.specs.Longer.{has-longer}

@@ -5,7 +5,7 @@ ghost use mathlib.Core.Option.{none};
 ghost use mathlib.Core.Path.{_≡_};
 ghost use Prim.Native.Nat.{_+_, _*_, _%_, _<_};
 ghost use lib.ListN.{length, replicate};
-ghost use Rattle.definition.specs.RuleRows.{rule-fault};
+ghost use Rattle.definition.specs.RuleFaults.{rule-fault};
 ghost use Rattle.rule_memo.specs.Kept.{kept-characters, all-places, place, character-limit, count-limit, Tells, Kept, fits, note-of, noted};
 use rule_table::Found;
 

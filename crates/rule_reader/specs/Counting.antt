@@ -11,10 +11,11 @@ use Rattle.base.specs.Pick.{pick}
 use Rattle.definition.specs.Limits.{most-rows}
 use Rattle.definition.specs.Texts.{Text}
 use Rattle.definition.specs.Blocks.{version-1, headed}
-use Rattle.definition.specs.RuleRows.{rule-size, rule-source, rule-right, rule-fault}
+use Rattle.definition.specs.RuleRows.{rule-size, rule-source, rule-right}
+use Rattle.definition.specs.RuleFaults.{rule-fault}
 use Rattle.definition.specs.Checking.{from, started, no-header, over, next, spent, wrong}
 use Rattle.definition.specs.Checked.{rule-checked}
-use Rattle.definition.specs.Accepted.{rule-moves}
+use Rattle.definition.specs.RuleTurns.{rule-moves}
 use Rattle.rule_reader.specs.Rows.{next-row, rights, right-rows}
 use Rattle.rule_reader.specs.Here.{right-next, right-inside}
 

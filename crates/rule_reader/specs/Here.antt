@@ -13,7 +13,7 @@ use Rattle.base.specs.ListLaws.{holds-is}
 use Rattle.definition.specs.Texts.{Text}
 use Rattle.definition.specs.RuleRows.{rule-size, rule-source, rule-right, rises, source-count, target-at, end-target-at, others-at}
 use Rattle.definition.specs.Checked.{rule-checked}
-use Rattle.definition.specs.Accepted.{rule-moves}
+use Rattle.definition.specs.RuleTurns.{rule-moves}
 use Rattle.rule_row_faults.specs.Reading.{read-row, rightly}
 use Rattle.rule_row_faults.specs.Row.{row-means, Parted}
 use Rattle.rule_row_faults.specs.Rightly.{row-rightly}

@@ -15,9 +15,11 @@ use Rattle.definition.specs.Limits.{most-rows}
 use Rattle.definition.specs.Texts.{Text}
 use Rattle.definition.specs.Blocks.{version-1, headed, head-bytes}
 use Rattle.definition.specs.BlockTurns.{Chain, ended, linked}
-use Rattle.definition.specs.RuleRows.{rule-size, rule-source, rule-right, rule-fault, rule-of, rules-of}
+use Rattle.definition.specs.RuleRows.{rule-size, rule-source, rule-right, rule-of, rules-of}
+use Rattle.definition.specs.RuleFaults.{rule-fault}
 use Rattle.definition.specs.Checking.{started, over, next, spent, wrong}
-use Rattle.definition.specs.Accepted.{rule-moves, rules-chain}
+use Rattle.definition.specs.Accepted.{rules-chain}
+use Rattle.definition.specs.RuleTurns.{rule-moves}
 use Rattle.rule_reader.specs.Rows.{next-row, rights, right-rows}
 use Rattle.rule_reader.specs.Here.{right-next, right-inside}
 use Rattle.rule_reader.specs.Counting.{check-from, by-first, rights-none, rights-wrong, rights-over, right-some, no-table}

@@ -9,7 +9,7 @@ use lib.Seq.{drop-drop}
 use Rattle.definition.specs.RuleRows.{end-target-from, others-from}
 use Rattle.definition.specs.RuleRows.{rule-flag, target-at, past-text, end-target-at, others-at, target-bit, end-target-bit, text-size, text-of}
 use Rattle.definition.specs.Places.{Placed}
-use Rattle.rule_row.specs.There.{byte-there}
+use Rattle.definition.specs.There.{byte-there}
 
 module _ (s : List ℕ) (o n : ℕ) (e : n ≡ getD s o 0) where
   pub size-is : 1 + n ≡ text-size (drop o s)

@@ -1,4 +1,3 @@
 pub mod Sizes
-pub mod There
 pub mod Rise
 pub mod Others

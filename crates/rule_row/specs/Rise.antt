@@ -10,7 +10,7 @@ use borrow.Author.Tests.{lt-ltb, le-ltb, le-leb, lt-leb, eq-eqb, ne-eqb}
 use Rattle.base.specs.Big.{be3}
 use Rattle.base.specs.Rows.{counted, counted-none, counted-some}
 use Rattle.definition.specs.RuleRows.{three-at, source-count, codes-at, rule-source, rises}
-use Rattle.rule_row.specs.There.{three-there}
+use Rattle.definition.specs.There.{three-there}
 
 module _ (x y : ℕ) (a b : List ℕ) where
   lower : x < y → rises (x ∷ a) (y ∷ b) ≡ true

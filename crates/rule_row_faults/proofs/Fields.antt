@@ -8,7 +8,7 @@ use lib.ListN.{getD, drop}
 use Rattle.base.specs.Big.{be3}
 use Rattle.definition.specs.Utf8.{scalar}
 use Rattle.definition.specs.RuleRows.{printable}
-use Rattle.rule_row.specs.There.{three-there, byte-there}
+use Rattle.definition.specs.There.{three-there, byte-there}
 use Rattle.rule_row_faults.specs.declared.Fault.{Fault}
 use Rattle.rule_row_faults.specs.declared.Fault.the-variants.{Length}
 use Rattle.rule_row_faults.specs.declared.Cursor.the-variants.{Next, Wrong}

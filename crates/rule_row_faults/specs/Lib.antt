@@ -1,4 +1,2 @@
-pub mod Reading
-pub mod Rightly
-pub mod Within
+pub mod Kinds
 pub mod Row

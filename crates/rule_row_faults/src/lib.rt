@@ -1,15 +1,16 @@
-// A row of the rule table read field by field (dicts/model.rs): its parts, or the first thing that is wrong with it.
+// A row of the rule table read field by field (dicts/model.rs): its parts, or the first field that is faulty.
 ghost use mathlib.Core.Path.{_≡_};
 ghost use mathlib.Core.Bool.{true, _&&_};
-ghost use Prim.Native.Nat.{_+_, _*_, _<_, _≤_};
+ghost use Prim.Native.Nat.{_+_, _<_, _≤_};
 ghost use lib.Dec.{leb};
-ghost use lib.ListN.{length, drop};
+ghost use lib.ListN.{length, drop, getD};
+ghost use Rattle.definition.specs.Refusals.{refused-range};
 ghost use Rattle.definition.specs.RuleRows.{printable, source-count};
 ghost use Rattle.definition.specs.RuleRows.{target-at, end-target-at, others-at};
+ghost use Rattle.definition.specs.RuleFields.{field, fields, code-small, read-text, read-texts, read-text-if, read-flags};
+ghost use Rattle.definition.specs.RuleFields.{read-source, read-codes, read-others, read-end, read-tail, read-parts, read-row};
 ghost use Rattle.rule_row.specs.Sizes.{size-limit};
-ghost use Rattle.rule_row_faults.specs.Reading.{field, fields, character-right, code-letters, byte-right};
-ghost use Rattle.rule_row_faults.specs.Reading.{read-text, read-texts, read-text-if, read-flags, read-source, read-codes};
-ghost use Rattle.rule_row_faults.specs.Reading.{read-others, read-end, read-tail, read-parts, read-row};
+ghost use Rattle.rule_row_faults.specs.Kinds.{fault-number, kind-size, kind-right, kind-number, cursor-means};
 ghost use Rattle.rule_row_faults.specs.Row.{row-means, Parted};
 
 // What a row may hold at most (document 01).
@@ -22,13 +23,35 @@ pub const MOST_TARGET: u32 = 64;
 // The bit of its flags that stays 0.
 const ZERO_BIT: u32 = 7;
 
-// What is wrong with a row: its length, a flag or count out of its range, a source character or language code,
-// or a byte of a target text.
+// What is wrong with a rule table: its header or a length, a flag or count out of its range, a character of a source or a
+// language code, a byte of a target text, the order of rows, or too many rows. The last two are no row's by itself.
 pub enum Fault {
     Length,
     Range,
     Letter,
     Byte,
+    Order,
+    Rows,
+}
+
+// The numbers that refuse a rule table, as the definition names them.
+pub const REFUSED_LENGTH: u64 = 20;
+
+pub const REFUSED_RANGE: u64 = 21;
+
+pub const REFUSED_LETTER: u64 = 22;
+
+pub const REFUSED_BYTE: u64 = 23;
+
+pub const REFUSED_ORDER: u64 = 24;
+
+pub const REFUSED_ROWS: u64 = 25;
+
+// The fields that come several at a time: characters of a source, language codes, bytes of a text.
+pub enum Kind {
+    Character,
+    Code,
+    TextByte,
 }
 
 // The parts of a row: its size, the characters of its source, and where its target, the one for the end of a syllable and its
@@ -53,6 +76,20 @@ pub enum Cursor {
     Wrong(Fault, usize),
 }
 
+// The number of a fault.
+pub fn fault_number(fault: Fault) -> u64
+    ensures { λ r. ⌜ r ≡ fault-number fault ⌝ }
+{
+    match fault {
+        Fault::Length => REFUSED_LENGTH,
+        Fault::Range => REFUSED_RANGE,
+        Fault::Letter => REFUSED_LETTER,
+        Fault::Byte => REFUSED_BYTE,
+        Fault::Order => REFUSED_ORDER,
+        Fault::Rows => REFUSED_ROWS,
+    }
+}
+
 // A byte, character or count in a range.
 fn between(low: u32, c: u32, high: u32) -> bool
     ensures { λ r. ⌜ r ≡ (leb low c && leb c high) ⌝ }
@@ -73,7 +110,7 @@ pub fn printable(c: u32) -> bool
 // A field of `n` bytes at `o` of a row of size `z`: the next begins behind it, where it fits and is right.
 fn field(z: usize, o: usize, n: usize, fault: Fault, ok: bool) -> Cursor
     requires { ⌜ (o < size-limit) × (n < 4) ⌝ }
-    ensures { λ r. ⌜ r ≡ field z o n fault ok ⌝ }
+    ensures { λ r. ⌜ cursor-means r ≡ field z o n (fault-number fault) ok ⌝ }
 {
     if z < o + n {
         return Cursor::Wrong(Fault::Length, o);
@@ -87,7 +124,7 @@ fn field(z: usize, o: usize, n: usize, fault: Fault, ok: bool) -> Cursor
 // Are the three bytes of a language code, which the table has, all letters?
 pub fn code_letters(rules: &[u8], row: usize, o: usize) -> bool
     requires { ⌜ (o < size-limit) × (o + 3 ≤ length (drop row (now rules))) ⌝ }
-    ensures { λ r. ⌜ r ≡ code-letters (drop o (drop row (now (rules .entry)))) ⌝ }
+    ensures { λ r. ⌜ r ≡ code-small (drop o (drop row (now (rules .entry)))) ⌝ }
 {
     if table_blocks::small(base::at_there(rules, row, o)) {
         if table_blocks::small(base::at_there(rules, row, o + 1)) {
@@ -97,113 +134,90 @@ pub fn code_letters(rules: &[u8], row: usize, o: usize) -> bool
     false
 }
 
-// How many of `n` fields of three bytes from `o` on, or of one byte, lie in a row of size `z`.
-fn threes_there(z: usize, o: usize, n: usize) -> usize
-    requires { ⌜ o ≤ z ⌝ }
-    ensures { λ r. ⌜ (r ≤ n) × (o + 3 * r ≤ z) × (r < n → z < o + 3 * r + 3) ⌝ }
+// A kind's bytes, its fault, and whether such a field is right.
+fn kind_size(kind: Kind) -> usize
+    ensures { λ r. ⌜ (r ≡ kind-size kind) × (0 < r) × (r < 4) ⌝ }
 {
-    let room = (z - o) / 3;
-    if n <= room {
-        return n;
+    match kind {
+        Kind::Character => 3,
+        Kind::Code => 3,
+        Kind::TextByte => 1,
     }
-    room
 }
 
-fn ones_there(z: usize, o: usize, n: usize) -> usize
-    requires { ⌜ o ≤ z ⌝ }
-    ensures { λ r. ⌜ (r ≤ n) × (o + r ≤ z) × (r < n → z < o + r + 1) ⌝ }
+fn kind_fault(kind: Kind) -> Fault
+    ensures { λ r. ⌜ fault-number r ≡ kind-number kind ⌝ }
 {
-    let room = z - o;
-    if n <= room {
-        return n;
+    match kind {
+        Kind::Character => Fault::Letter,
+        Kind::Code => Fault::Letter,
+        Kind::TextByte => Fault::Byte,
     }
-    room
 }
 
-// As many characters of a source. Each of these loops reads those that lie in the row; then the first that does not is at
-// fault.
-fn read_characters(rules: &[u8], row: usize, z: usize, n: usize, o: usize) -> Cursor
+fn kind_right(rules: &[u8], row: usize, o: usize, kind: Kind) -> bool
+    requires { ⌜ (o < size-limit) × (o + kind-size kind ≤ length (drop row (now rules))) ⌝ }
+    ensures { λ r. ⌜ r ≡ kind-right kind (drop o (drop row (now (rules .entry)))) ⌝ }
+{
+    match kind {
+        Kind::Character => table_blocks::scalar(base::three_there(rules, row, o)),
+        Kind::Code => code_letters(rules, row, o),
+        Kind::TextByte => printable(base::at_there(rules, row, o)),
+    }
+}
+
+// As many fields of a kind.
+fn read_fields(rules: &[u8], row: usize, z: usize, n: usize, o: usize, kind: Kind) -> Cursor
     requires { ⌜ (z < size-limit) × (o ≤ z) × (z ≤ length (drop row (now rules))) ⌝ }
-    ensures { λ r. ⌜ r ≡ fields character-right 3 Fault.Letter z (drop row (now (rules .entry))) n o ⌝ }
+    ensures { λ r. ⌜ cursor-means r ≡ fields (kind-right kind) (kind-size kind) (kind-number kind) z (drop row (now (rules .entry))) n o ⌝ }
 {
-    let there = threes_there(z, o, n);
-    let end = o + 3 * there;
+    let size = kind_size(kind);
+    let mut left = n;
     let mut at = o;
-    while at < end {
-        if table_blocks::scalar(base::three_there(rules, row, at)) {
-            at += 3;
-        } else {
-            return Cursor::Wrong(Fault::Letter, at);
+    while 0 < left {
+        if z < at + size {
+            return Cursor::Wrong(Fault::Length, at);
         }
-    }
-    if there < n {
-        return Cursor::Wrong(Fault::Length, at);
+        if kind_right(rules, row, at, kind) {
+            at += size;
+            left -= 1;
+        } else {
+            return Cursor::Wrong(kind_fault(kind), at);
+        }
     }
     Cursor::Next(at)
 }
 
-// As many language codes.
-fn read_language_codes(rules: &[u8], row: usize, z: usize, n: usize, o: usize) -> Cursor
+// A count or a length byte, from `least` to `most`.
+fn read_count(rules: &[u8], row: usize, z: usize, o: usize, least: u32, most: u32) -> Cursor
     requires { ⌜ (z < size-limit) × (o ≤ z) × (z ≤ length (drop row (now rules))) ⌝ }
-    ensures { λ r. ⌜ r ≡ fields code-letters 3 Fault.Letter z (drop row (now (rules .entry))) n o ⌝ }
-{
-    let there = threes_there(z, o, n);
-    let end = o + 3 * there;
-    let mut at = o;
-    while at < end {
-        if code_letters(rules, row, at) {
-            at += 3;
-        } else {
-            return Cursor::Wrong(Fault::Letter, at);
-        }
-    }
-    if there < n {
-        return Cursor::Wrong(Fault::Length, at);
-    }
-    Cursor::Next(at)
-}
-
-// As many bytes of a target text.
-fn read_bytes(rules: &[u8], row: usize, z: usize, n: usize, o: usize) -> Cursor
-    requires { ⌜ (z < size-limit) × (o ≤ z) × (z ≤ length (drop row (now rules))) ⌝ }
-    ensures { λ r. ⌜ r ≡ fields byte-right 1 Fault.Byte z (drop row (now (rules .entry))) n o ⌝ }
-{
-    let there = ones_there(z, o, n);
-    let end = o + there;
-    let mut at = o;
-    while at < end {
-        if printable(base::at_there(rules, row, at)) {
-            at += 1;
-        } else {
-            return Cursor::Wrong(Fault::Byte, at);
-        }
-    }
-    if there < n {
-        return Cursor::Wrong(Fault::Length, at);
-    }
-    Cursor::Next(at)
-}
-
-// A text: its length byte, then its bytes. A fault of a field is the answer as it stands.
-fn read_text(rules: &[u8], row: usize, z: usize, o: usize) -> Cursor
-    requires { ⌜ (z < size-limit) × (o ≤ z) × (z ≤ length (drop row (now rules))) ⌝ }
-    ensures { λ r. ⌜ r ≡ read-text z (drop row (now (rules .entry))) o ⌝ }
+    ensures { λ r. ⌜ cursor-means r ≡ field z o 1 refused-range
+        (leb least (getD (drop row (now (rules .entry))) o 0) && leb (getD (drop row (now (rules .entry))) o 0) most) ⌝ }
 {
     if z <= o {
         return Cursor::Wrong(Fault::Length, o);
     }
     let n = base::at_there(rules, row, o);
-    let c = field(z, o, 1, Fault::Range, n <= MOST_TARGET);
+    field(z, o, 1, Fault::Range, between(least, n, most))
+}
+
+// A text: its length byte, then its bytes. A fault of a field is the answer as it stands.
+fn read_text(rules: &[u8], row: usize, z: usize, o: usize) -> Cursor
+    requires { ⌜ (z < size-limit) × (o ≤ z) × (z ≤ length (drop row (now rules))) ⌝ }
+    ensures { λ r. ⌜ cursor-means r ≡ read-text z (drop row (now (rules .entry))) o ⌝ }
+{
+    let c = read_count(rules, row, z, o, 0, MOST_TARGET);
     let Cursor::Next(next) = c else {
         return c;
     };
-    read_bytes(rules, row, z, n as usize, next)
+    let n = base::at(rules, row, o) as usize;
+    read_fields(rules, row, z, n, next, Kind::TextByte)
 }
 
 // As many texts.
 fn read_texts(rules: &[u8], row: usize, z: usize, n: usize, o: usize) -> Cursor
     requires { ⌜ (z < size-limit) × (o ≤ z) × (z ≤ length (drop row (now rules))) ⌝ }
-    ensures { λ r. ⌜ r ≡ read-texts z (drop row (now (rules .entry))) n o ⌝ }
+    ensures { λ r. ⌜ cursor-means r ≡ read-texts z (drop row (now (rules .entry))) n o ⌝ }
 {
     let mut left = n;
     let mut at = o;
@@ -221,7 +235,7 @@ fn read_texts(rules: &[u8], row: usize, z: usize, n: usize, o: usize) -> Cursor
 // A text, where the row has one.
 fn read_text_if(rules: &[u8], row: usize, z: usize, o: usize, there: bool) -> Cursor
     requires { ⌜ (z < size-limit) × (o ≤ z) × (z ≤ length (drop row (now rules))) ⌝ }
-    ensures { λ r. ⌜ r ≡ read-text-if there z (drop row (now (rules .entry))) o ⌝ }
+    ensures { λ r. ⌜ cursor-means r ≡ read-text-if there z (drop row (now (rules .entry))) o ⌝ }
 {
     if there {
         return read_text(rules, row, z, o);
@@ -232,7 +246,7 @@ fn read_text_if(rules: &[u8], row: usize, z: usize, o: usize, there: bool) -> Cu
 // The parts of a row: flags and restriction count.
 fn read_flags(rules: &[u8], row: usize, z: usize) -> Cursor
     requires { ⌜ z < size-limit ⌝ }
-    ensures { λ r. ⌜ r ≡ read-flags z (drop row (now (rules .entry))) ⌝ }
+    ensures { λ r. ⌜ cursor-means r ≡ read-flags z (drop row (now (rules .entry))) ⌝ }
 {
     let zero = rule_row::flag(rules, row, ZERO_BIT);
     let c = field(z, 2, 1, Fault::Range, !zero);
@@ -245,54 +259,45 @@ fn read_flags(rules: &[u8], row: usize, z: usize) -> Cursor
 // The source.
 fn read_source(rules: &[u8], row: usize, z: usize, o: usize) -> Cursor
     requires { ⌜ (z < size-limit) × (o ≤ z) × (z ≤ length (drop row (now rules))) ⌝ }
-    ensures { λ r. ⌜ r ≡ read-source z (drop row (now (rules .entry))) o ⌝ }
+    ensures { λ r. ⌜ cursor-means r ≡ read-source z (drop row (now (rules .entry))) o ⌝ }
 {
-    if z <= o {
-        return Cursor::Wrong(Fault::Length, o);
-    }
-    let n = base::at_there(rules, row, o);
-    let c = field(z, o, 1, Fault::Range, between(1, n, rule_row::MOST_SOURCE));
+    let c = read_count(rules, row, z, o, 1, rule_row::MOST_SOURCE);
     let Cursor::Next(next) = c else {
         return c;
     };
-    read_characters(rules, row, z, n as usize, next)
+    let n = base::at(rules, row, o) as usize;
+    read_fields(rules, row, z, n, next, Kind::Character)
 }
 
 // The language codes.
 fn read_codes(rules: &[u8], row: usize, z: usize, o: usize) -> Cursor
     requires { ⌜ (z < size-limit) × (o ≤ z) × (z ≤ length (drop row (now rules))) ⌝ }
-    ensures { λ r. ⌜ r ≡ read-codes z (drop row (now (rules .entry))) o ⌝ }
+    ensures { λ r. ⌜ cursor-means r ≡ read-codes z (drop row (now (rules .entry))) o ⌝ }
 {
-    if z <= o {
-        return Cursor::Wrong(Fault::Length, o);
-    }
-    let n = base::at_there(rules, row, o);
-    let c = field(z, o, 1, Fault::Range, n <= MOST_CODES);
+    let c = read_count(rules, row, z, o, 0, MOST_CODES);
     let Cursor::Next(next) = c else {
         return c;
     };
-    read_language_codes(rules, row, z, n as usize, next)
+    let n = base::at(rules, row, o) as usize;
+    read_fields(rules, row, z, n, next, Kind::Code)
 }
 
 // The alternatives.
 fn read_others(rules: &[u8], row: usize, z: usize, o: usize) -> Cursor
     requires { ⌜ (z < size-limit) × (o ≤ z) × (z ≤ length (drop row (now rules))) ⌝ }
-    ensures { λ r. ⌜ r ≡ read-others z (drop row (now (rules .entry))) o ⌝ }
+    ensures { λ r. ⌜ cursor-means r ≡ read-others z (drop row (now (rules .entry))) o ⌝ }
 {
-    if z <= o {
-        return Cursor::Wrong(Fault::Length, o);
-    }
-    let n = base::at_there(rules, row, o);
-    let c = field(z, o, 1, Fault::Range, n <= MOST_ALTERNATIVES);
+    let c = read_count(rules, row, z, o, 0, MOST_ALTERNATIVES);
     let Cursor::Next(next) = c else {
         return c;
     };
-    read_texts(rules, row, z, n as usize, next)
+    let n = base::at(rules, row, o) as usize;
+    read_texts(rules, row, z, n, next)
 }
 
 // Nothing is left over.
 fn read_end(z: usize, o: usize) -> Cursor
-    ensures { λ r. ⌜ r ≡ read-end z o ⌝ }
+    ensures { λ r. ⌜ cursor-means r ≡ read-end z o ⌝ }
 {
     if z <= o {
         return Cursor::Next(o);
@@ -303,7 +308,7 @@ fn read_end(z: usize, o: usize) -> Cursor
 // The texts of a row from its target on, and its end.
 fn read_tail(rules: &[u8], row: usize, z: usize, o: usize) -> Cursor
     requires { ⌜ (z < size-limit) × (o ≤ z) × (z ≤ length (drop row (now rules))) ⌝ }
-    ensures { λ r. ⌜ r ≡ read-tail z (drop row (now (rules .entry))) o ⌝ }
+    ensures { λ r. ⌜ cursor-means r ≡ read-tail z (drop row (now (rules .entry))) o ⌝ }
 {
     let target = read_text_if(
         rules,
@@ -335,7 +340,7 @@ fn read_tail(rules: &[u8], row: usize, z: usize, o: usize) -> Cursor
 // All parts of a row that lies in the table.
 fn read_parts(rules: &[u8], row: usize, z: usize) -> Cursor
     requires { ⌜ (z < size-limit) × (z ≤ length (drop row (now rules))) ⌝ }
-    ensures { λ r. ⌜ r ≡ read-parts z (drop row (now (rules .entry))) ⌝ }
+    ensures { λ r. ⌜ cursor-means r ≡ read-parts z (drop row (now (rules .entry))) ⌝ }
 {
     let flags = read_flags(rules, row, z);
     let Cursor::Next(source_at) = flags else {
@@ -355,7 +360,7 @@ fn read_parts(rules: &[u8], row: usize, z: usize) -> Cursor
 // All fields of the row at `row`. One past the table's end is a fault of length at its start.
 fn walk_row(rules: &[u8], row: usize) -> Cursor
     requires { ⌜ row ≤ length (now rules) ⌝ }
-    ensures { λ r. ⌜ r ≡ read-row (drop row (now (rules .entry))) ⌝ }
+    ensures { λ r. ⌜ cursor-means r ≡ read-row (drop row (now (rules .entry))) ⌝ }
 {
     let z = rule_row::size(rules, row);
     if rules.len() - row < z {

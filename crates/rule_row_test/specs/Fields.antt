@@ -24,7 +24,7 @@ use Rattle.definition.specs.RuleRows.{rule-right}
 use Rattle.definition.specs.Checked.{RuleChecked, rule-checked}
 use Rattle.definition.specs.Places.{Placed, rule-placed}
 use Rattle.table_blocks.specs.Held.{held}
-use Rattle.rule_row.specs.There.{three-there, byte-there}
+use Rattle.definition.specs.There.{three-there, byte-there}
 use Rattle.rule_row_test.specs.Texts.{Walked}
 
 -- yes to something of a row, or the row is not right

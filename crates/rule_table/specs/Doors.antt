@@ -12,7 +12,8 @@ use Rattle.base.specs.Alls.{All, All-map, All-append}
 use Rattle.definition.specs.Texts.{Text}
 use Rattle.definition.specs.Tables.{Rule}
 use Rattle.definition.specs.Blocks.{head-bytes}
-use Rattle.definition.specs.RuleRows.{rises, rule-size, rule-source, rule-of, rule-fault, rules-of}
+use Rattle.definition.specs.RuleRows.{rises, rule-size, rule-source, rule-of, rules-of}
+use Rattle.definition.specs.RuleFaults.{rule-fault}
 use Rattle.rule_table.specs.Order.{compared, equal-same, unlike, above-later, equal-starts, below-starts, above-starts}
 use Rattle.rule_table.specs.Sorted.{rules-from, Sorted, sorted-start, rules-from-start, rules-over, rules-next, sorted-next, sorted-later}
 use Rattle.rule_table.specs.declared.Order.the-variants.{Below, Equal, Above}

@@ -14,8 +14,9 @@ use Rattle.base.specs.Bools.{and-right}
 use Rattle.base.specs.Alls.{All, All-map, All-getD}
 use Rattle.definition.specs.Texts.{Text}
 use Rattle.definition.specs.Blocks.{head-bytes}
-use Rattle.definition.specs.RuleRows.{rule-size, rule-source, rule-fault}
-use Rattle.definition.specs.Accepted.{rule-moves}
+use Rattle.definition.specs.RuleRows.{rule-size, rule-source}
+use Rattle.definition.specs.RuleFaults.{rule-fault}
+use Rattle.definition.specs.RuleTurns.{rule-moves}
 use Rattle.rule_table.specs.Order.{below-earlier}
 use Rattle.rule_table.specs.Sorted.{Sorted, sorted-start, sorted-next, sorted-risen}
 use Rattle.rule_table.specs.Index.{index-step, index-entries, offsets-from, row-offsets, entered, indexed, index-of, Ready, offsets-over, offsets-next}

@@ -13,8 +13,9 @@ use Rattle.base.specs.Pick.{pick}
 use Rattle.base.specs.Rows.{rows, rows-nil, rows-cons}
 use Rattle.definition.specs.Limits.{most-rows}
 use Rattle.definition.specs.Blocks.{head-bytes}
-use Rattle.definition.specs.RuleRows.{rule-size, rule-fault}
-use Rattle.definition.specs.Accepted.{rule-moves}
+use Rattle.definition.specs.RuleRows.{rule-size}
+use Rattle.definition.specs.RuleFaults.{rule-fault}
+use Rattle.definition.specs.RuleTurns.{rule-moves}
 
 -- rows between two entries, and how many entries there are
 abbrev pub index-step : ℕ

@@ -15,7 +15,8 @@ use Rattle.base.specs.ListLaws.{any-append, any-none, same-true, starts-split}
 use Rattle.base.specs.Alls.{All-map, any-cong}
 use Rattle.definition.specs.Texts.{Text}
 use Rattle.definition.specs.Tables.{Rule}
-use Rattle.definition.specs.RuleRows.{rule-size, rule-source, rule-of, rule-fault, rules-of}
+use Rattle.definition.specs.RuleRows.{rule-size, rule-source, rule-of, rules-of}
+use Rattle.definition.specs.RuleFaults.{rule-fault}
 use Rattle.rule_table.specs.Index.{offsets-from}
 use Rattle.rule_table.specs.Order.{compared, compared-self, equal-same, equal-starts, below-starts}
 use Rattle.rule_table.specs.Sorted.{rules-from, Sorted, rules-over, rules-next, sorted-next}

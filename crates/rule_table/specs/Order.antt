@@ -18,7 +18,7 @@ use Rattle.base.specs.ListLaws.{same-true, starts-append}
 use Rattle.definition.specs.Texts.{Text}
 use Rattle.base.specs.Rows.{counted, counted-none, counted-some}
 use Rattle.definition.specs.RuleRows.{rises, three-at, source-count, rule-source}
-use Rattle.rule_row.specs.There.{three-there}
+use Rattle.definition.specs.There.{three-there}
 use Rattle.rule_table.specs.declared.Order.{Order}
 use Rattle.rule_table.specs.declared.Order.the-variants.{Below, Equal, Above}
 

@@ -14,8 +14,9 @@ use Rattle.base.specs.ListLaws.{same-true}
 use Rattle.definition.specs.Texts.{Text}
 use Rattle.definition.specs.Blocks.{head-bytes}
 use Rattle.definition.specs.BlockTurns.{Chain}
-use Rattle.definition.specs.RuleRows.{rises, rule-size, rule-source, rule-right, rule-of, rule-fault, rules-of}
-use Rattle.definition.specs.Accepted.{rule-moves}
+use Rattle.definition.specs.RuleRows.{rises, rule-size, rule-source, rule-right, rule-of, rules-of}
+use Rattle.definition.specs.RuleFaults.{rule-fault}
+use Rattle.definition.specs.RuleTurns.{rule-moves}
 use Rattle.rule_table.specs.Order.{compared, equal-same, risen-not-below, equal-starts}
 use Rattle.rule_table.specs.Sorted.{rules-from, Sorted, sorted-next, sorted-risen, rules-over, rules-next}
 use Rattle.rule_table.specs.Doors.{with-source, is-start, Sought, sought-start, sought-next, sought-source, sought-start-of, none-over, no-start-over, none-above, start-equal, start-above, one-equal}

@@ -13,10 +13,12 @@ use Rattle.definition.specs.Limits.{most-rows}
 use Rattle.definition.specs.Texts.{Text}
 use Rattle.definition.specs.Tables.{Rule}
 use Rattle.definition.specs.Blocks.{head-bytes}
-use Rattle.definition.specs.RuleRows.{rises, rule-size, rule-source, rule-right, rule-of, rule-fault, rules-of}
+use Rattle.definition.specs.RuleRows.{rises, rule-size, rule-source, rule-right, rule-of, rules-of}
+use Rattle.definition.specs.RuleFaults.{rule-fault}
 use Rattle.definition.specs.BlockTurns.{Chain, ended, linked, chain-ordered}
 use Rattle.definition.specs.Checked.{rule-checked}
-use Rattle.definition.specs.Accepted.{rule-moves, rules-chain}
+use Rattle.definition.specs.Accepted.{rules-chain}
+use Rattle.definition.specs.RuleTurns.{rule-moves}
 use Rattle.definition.specs.Places.{Placed, rule-placed}
 use Rattle.definition.specs.Risen.{rises-trans}
 

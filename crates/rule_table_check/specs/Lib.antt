@@ -1,3 +1,4 @@
+pub mod Told
 pub mod Marks
 pub mod Plain
 pub mod Walks

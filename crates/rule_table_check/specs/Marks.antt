@@ -14,9 +14,9 @@ use Rattle.definition.specs.Texts.{Text}
 use Rattle.definition.specs.RuleRows.{three-at, source-count, rule-size, rule-source, rises, rule-right}
 use Rattle.definition.specs.Checked.{rule-checked}
 use Rattle.definition.specs.Places.{rule-placed}
-use Rattle.rule_row.specs.There.{three-there}
-use Rattle.rule_row_faults.specs.Reading.{read-row, rightly}
-use Rattle.rule_row_faults.specs.Rightly.{row-rightly}
+use Rattle.definition.specs.There.{three-there}
+use Rattle.definition.specs.RuleFields.{read-row}
+use Rattle.definition.specs.FieldsRight.{rightly, row-rightly}
 
 unfoldable pub mark-of : List ℕ → ℕ → Bool → Text
 mark-of b old first = pick first [] (rule-source (drop old b))

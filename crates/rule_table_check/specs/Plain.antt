@@ -20,7 +20,7 @@ use Rattle.definition.specs.RuleRows.{end-target-bit, source-count, codes-at, c
 use Rattle.definition.specs.RuleRows.{rule-source, rule-codes, rule-fits, source-right, codes-right, target-right, end-target-right, rule-right}
 use Rattle.rule_table_check.specs.Marks.{Rising, Past, past-right}
 use Rattle.table_blocks.specs.Held.{held}
-use Rattle.rule_row.specs.There.{three-there, byte-there}
+use Rattle.definition.specs.There.{three-there, byte-there}
 
 -- a plain row, and its end
 pub record Plain (low : ℕ) (s : List ℕ) (row past : ℕ) : Type 0 where

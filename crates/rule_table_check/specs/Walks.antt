@@ -8,15 +8,17 @@ use native.Mathlib.Omega.{arith}
 use lib.ListN.{length, drop}
 use Rattle.base.specs.Big.{be3}
 use Rattle.definition.specs.Limits.{most-rows}
-use Rattle.definition.specs.RuleRows.{rule-size, rule-source, rule-right, rule-fault}
+use Rattle.definition.specs.Refusals.{Refusal}
+use Rattle.definition.specs.RuleRows.{rule-right}
+use Rattle.definition.specs.RuleFaults.{row-fault, rule-fault}
 use Rattle.definition.specs.Blocks.{version-1, headed}
-use Rattle.definition.specs.Checking.{from, started, over, next, spent, wrong}
-use Rattle.definition.specs.Accepted.{rule-moves}
+use Rattle.definition.specs.Checking.{walk-at}
+use Rattle.definition.specs.RuleTurns.{rules-from, rules-begun, rules-done, rules-onward, rules-spent, rules-wrong}
 use Rattle.rule_table_check.specs.Marks.{mark-at, no-mark, Rising, mark-after, rising-after, Past}
 
 -- the first fault from a row on
-unfoldable pub fault-at : List ℕ → ℕ → ℕ → ℕ → ℕ → Option ℕ
-fault-at b at left old low = from rule-size rule-source rule-right at left (mark-at b old low) b
+unfoldable pub fault-at : List ℕ → ℕ → ℕ → ℕ → ℕ → Option Refusal
+fault-at b at left old low = rules-from at left (mark-at b old low) b
 
 -- however many rows more there may be
 pub record Kept (b : List ℕ) (at most old low here left last least : ℕ) : Type 0 where
@@ -43,7 +45,7 @@ module _ (b : List ℕ) (at most old low here left last least : ℕ) (k : Kept b
       → (c : ℕ) → c ≡ be3 (drop here b) 6 + 1 → Kept b at most old low r (left - 1) here c
   unfolding fault-at
   row-on h l r p z c e = record {
-    same = λ more. next rule-size rule-source rule-right rule-moves b here (left + more) (mark-at b last least) h (omega arith) (p .right z)
+    same = λ more. rules-onward b here (left + more) (mark-at b last least) h (omega arith) (p .right z)
         r (left - 1 + more) (mark-at b here c) (p .ends z) (omega arith) (mark-after b here c e)
         ∙ k .same more;
     rising = rising-after b here c e;
@@ -57,24 +59,24 @@ begun h = record { same = λ more. refl; rising = h; few = omega arith }
 module _ (b : List ℕ) (hd : true ≡ headed version-1 b) (n at left old low : ℕ) (k : Kept b 5 n 5 0 at left old low)
     (two : n + n ≡ most-rows) (here rest last least : ℕ) (w : Stands b at (left + n) old low here rest last least) where
   all-rows : fault-at b here rest last least ≡ rule-fault b
-  unfolding fault-at rule-fault
+  unfolding fault-at
   all-rows =
       let x : rest + 0 ≡ rest = omega arith in
       let y : left + n + 0 ≡ left + n = omega arith in
       sym (ap (λ i. fault-at b here i last least) x) ∙ w .kept .same 0
       ∙ ap (λ i. fault-at b at i old low) y ∙ k .same n
       ∙ ap (λ i. fault-at b 5 i 5 0) two
-      ∙ ap (λ m. from rule-size rule-source rule-right 5 most-rows m b) (no-mark b 5)
-      ∙ started rule-size rule-source rule-right most-rows [] b hd
+      ∙ ap (λ m. rules-from 5 most-rows m b) (no-mark b 5)
+      ∙ rules-begun b hd
 
   pub sound : length b ≤ here → none ≡ rule-fault b
   unfolding fault-at
-  sound h = over rule-size rule-source rule-right rule-moves b here rest (mark-at b last least) h ∙ all-rows
+  sound h = rules-done b here rest (mark-at b last least) h ∙ all-rows
 
-  pub at-row : here < length b → some here ≡ rule-fault b
+  pub at-row : here < length b → row-fault (walk-at here rest (mark-at b last least) b) ≡ rule-fault b
   unfolding fault-at
   at-row h = go rest refl
     where
-      go : (n : ℕ) → rest ≡ n → some here ≡ rule-fault b
-      go zero e = spent rule-size rule-source rule-right rule-moves b here rest (mark-at b last least) h e ∙ all-rows
-      go (suc n) e = wrong rule-size rule-source rule-right rule-moves b here rest (mark-at b last least) h (w .fault (omega arith) h) ∙ all-rows
+      go : (n : ℕ) → rest ≡ n → row-fault (walk-at here rest (mark-at b last least) b) ≡ rule-fault b
+      go zero e = rules-spent b here rest (mark-at b last least) h e ∙ all-rows
+      go (suc n) e = rules-wrong b here rest (mark-at b last least) h (w .fault (omega arith) h) ∙ all-rows

@@ -1,13 +1,22 @@
-// The check of the rule table: its first fault, or none.
+// The check of the rule table: what is wrong with it first and where, or nothing.
 ghost use mathlib.Core.Path.{_≡_};
 ghost use Prim.Native.Nat.{_<_, _≤_};
 ghost use lib.ListN.{length, drop};
-ghost use Rattle.definition.specs.RuleRows.{rule-right, rule-fault};
-ghost use Rattle.table_blocks.specs.Faults.{table-means};
+ghost use Rattle.definition.specs.RuleRows.{rule-right};
+ghost use Rattle.definition.specs.RuleFaults.{row-fault, rule-fault};
+ghost use Rattle.definition.specs.Checking.{walk-at};
+ghost use Rattle.rule_table_check.specs.Told.{rules-means, by-order};
 ghost use Rattle.rule_table_check.specs.Marks.{mark-at, Rising, Past};
 ghost use Rattle.rule_table_check.specs.Walks.{Stands};
 ghost use Rattle.rule_table_check.specs.Plain.{Plain};
-use table_blocks::TableRead;
+use rule_row_faults::Fault;
+use rule_row_faults::RowRead;
+
+// What the check finds: nothing, or a fault and its offset in the table.
+pub enum RulesRead {
+    Valid,
+    Wrong(Fault, usize),
+}
 
 // Bytes of a target, at most.
 const MOST_TARGET: usize = rule_row_faults::MOST_TARGET as usize;
@@ -140,10 +149,37 @@ fn past_rows(rules: &[u8], at: usize, most: u32, old: usize, low: u32) -> Walk
     }
 }
 
-// The first fault of a rule table. No more than `MOST_ROWS` rows, and sources rise. The rows are walked in two halves: a
+// Whether the row at `at` rises over that at `old`, or is the first, where `low` is 0.
+fn order_fault(rules: &[u8], at: usize, old: usize, low: u32) -> RulesRead
+    ensures { λ r. ⌜ rules-means r ≡ by-order (mark-at (now (rules .entry)) old low) (drop at (now (rules .entry))) at ⌝ }
+{
+    if low == 0 {
+        return RulesRead::Valid;
+    }
+    if rule_row::sources_rise(rules, old, at) {
+        return RulesRead::Valid;
+    }
+    RulesRead::Wrong(Fault::Order, at)
+}
+
+// What is wrong with the row at `at`, after the one at `old`, if anything: that it is one too many, its fields, or its order.
+pub fn row_fault(rules: &[u8], at: usize, left: u32, old: usize, low: u32) -> RulesRead
+    requires { ⌜ at ≤ length (now rules) ⌝ }
+    ensures { λ r. ⌜ rules-means r ≡ row-fault (walk-at at left (mark-at (now (rules .entry)) old low) (now (rules .entry))) ⌝ }
+{
+    if left == 0 {
+        return RulesRead::Wrong(Fault::Rows, at);
+    }
+    match rule_row_faults::read_row(rules, at) {
+        RowRead::Parts(_) => order_fault(rules, at, old, low),
+        RowRead::Wrong(fault, o) => RulesRead::Wrong(fault, at + o),
+    }
+}
+
+// What is wrong with a rule table first. No more than `MOST_ROWS` rows, and sources rise. The rows are walked in two halves: a
 // function that is called twice stays one by itself, and its loop has all registers.
-pub fn check_rules(rules: &[u8]) -> TableRead
-    ensures { λ r. ⌜ table-means r ≡ rule-fault (now (rules .entry)) ⌝ }
+pub fn check_rules(rules: &[u8]) -> RulesRead
+    ensures { λ r. ⌜ rules-means r ≡ rule-fault (now (rules .entry)) ⌝ }
 {
     if table_blocks::headed(rules) {
         let half = past_rows(
@@ -155,9 +191,9 @@ pub fn check_rules(rules: &[u8]) -> TableRead
         );
         let whole = past_rows(rules, half.at, half.left + HALF, half.old, half.low);
         if whole.at < rules.len() {
-            return TableRead::Fault(whole.at);
+            return row_fault(rules, whole.at, whole.left, whole.old, whole.low);
         }
-        return TableRead::Valid;
+        return RulesRead::Valid;
     }
-    TableRead::Fault(0)
+    RulesRead::Wrong(Fault::Length, 0)
 }

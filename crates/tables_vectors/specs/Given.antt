@@ -7,21 +7,31 @@ use lib.Dec.{eqb, leb}
 use lib.ListN.{getD, take, drop}
 use Rattle.base.specs.Pick.{pick}
 use Rattle.base.specs.Big.{be3}
-use Rattle.definition.specs.RuleRows.{rule-fault}
+use Rattle.definition.specs.Refusals.{Refusal, refuse, placed, refused-classes, refused-vowels}
+use Rattle.definition.specs.RuleFaults.{rule-fault}
 use Rattle.definition.specs.ClassRows.{class-fault}
 use Rattle.definition.specs.VowelRows.{vowel-fault}
+use Rattle.tables_vectors.specs.declared.Judged.{Judged}
+use Rattle.tables_vectors.specs.declared.Judged.the-variants.{Valid, Wrong}
 
--- the first fault of a table: kind 0 rules, 1 classes, else vowels
-unfoldable pub fault-of : ℕ → List ℕ → Option ℕ
-fault-of kind table = pick (eqb kind 0) (rule-fault table) (pick (eqb kind 1) (class-fault table) (vowel-fault table))
+-- a refusal, or none
+abbrev pub judged-means : Judged → Option Refusal
+judged-means Valid = none
+judged-means (Wrong n p) = some (refuse n p)
 
--- an answer: 0 and no place, or 1 and the place of the fault
-unfoldable pub is-given : Option ℕ → ℕ → ℕ → Bool
-is-given none fault place = eqb fault 0 && eqb place 0
-is-given (some p) fault place = eqb fault 1 && eqb p place
+-- what refuses a table: kind 0 rules, 1 classes, else vowels
+unfoldable pub fault-of : ℕ → List ℕ → Option Refusal
+fault-of kind table =
+    pick (eqb kind 0) (rule-fault table)
+    (pick (eqb kind 1) (placed refused-classes (class-fault table)) (placed refused-vowels (vowel-fault table)))
 
--- The vector whose table stands at `at`, `len` bytes long: whether there is a fault and its place, three bytes, follow.
--- A fourth kind is never right
+-- an answer: 0 and no place, or the number that refuses and its place
+unfoldable pub is-given : Option Refusal → ℕ → ℕ → Bool
+is-given none number place = eqb number 0 && eqb place 0
+is-given (some r) number place = eqb (r .number) number && eqb (r .place) place
+
+-- The vector whose table stands at `at`, `len` bytes long: the number and its place, three bytes, follow. A fourth kind is
+-- never right
 unfoldable pub is-right : List ℕ → ℕ → ℕ → ℕ → Bool
 is-right s kind at len =
     leb kind 2

@@ -4,9 +4,23 @@ ghost use mathlib.Core.Path.{_≡_};
 ghost use Prim.Native.Nat.{_+_, _<_, _≤_};
 ghost use lib.ListN.{length, getD, drop};
 ghost use Rattle.base.specs.Big.{be3};
+ghost use Rattle.definition.specs.Refusals.{placed};
 ghost use Rattle.table_blocks.specs.Faults.{table-means};
-ghost use Rattle.tables_vectors.specs.Given.{fault-of, is-given, is-right};
+ghost use Rattle.rule_table_check.specs.Told.{rules-means};
+ghost use Rattle.tables_vectors.specs.Given.{judged-means, fault-of, is-given, is-right};
+use rule_table_check::RulesRead;
 use table_blocks::TableRead;
+
+// The numbers that refuse a class table and a vowel table.
+const REFUSED_CLASSES: u64 = 3;
+
+const REFUSED_VOWELS: u64 = 4;
+
+// What a check says of a table: nothing, or the number that refuses it and the place.
+enum Judged {
+    Valid,
+    Wrong(u64, usize),
+}
 
 // A vector that was run: how many bytes it takes, and whether all was as given.
 struct Ran {
@@ -34,32 +48,51 @@ fn three(input: &[u8], at: usize) -> usize
     base::three(input, at, 0) as usize
 }
 
-// What the check says of a table: 0 rules, 1 classes, 2 vowels.
-fn checked(kind: usize, table: &[u8]) -> TableRead
-    ensures { λ r. ⌜ table-means r ≡ fault-of kind (now (table .entry)) ⌝ }
-{
-    if kind == 0 {
-        return rule_table_check::check_rules(table);
-    }
-    if kind == 1 {
-        return table_classes::check_classes(table);
-    }
-    table_vowels::check_vowels(table)
-}
-
-// Is the answer the one given: 0 and no place, or 1 and the place of the fault?
-fn is_answer(read: TableRead, fault: usize, place: usize) -> bool
-    ensures { λ r. ⌜ r ≡ is-given (table-means read) fault place ⌝ }
+// A rule table has its faults' own numbers, another table one.
+fn of_rules(read: RulesRead) -> Judged
+    ensures { λ r. ⌜ judged-means r ≡ rules-means read ⌝ }
 {
     match read {
-        TableRead::Valid => {
-            if fault == 0 {
+        RulesRead::Valid => Judged::Valid,
+        RulesRead::Wrong(fault, at) => Judged::Wrong(rule_row_faults::fault_number(fault), at),
+    }
+}
+
+fn of_table(number: u64, read: TableRead) -> Judged
+    ensures { λ r. ⌜ judged-means r ≡ placed number (table-means read) ⌝ }
+{
+    match read {
+        TableRead::Valid => Judged::Valid,
+        TableRead::Fault(at) => Judged::Wrong(number, at),
+    }
+}
+
+// What the check says of a table: 0 rules, 1 classes, 2 vowels.
+fn checked(kind: usize, table: &[u8]) -> Judged
+    ensures { λ r. ⌜ judged-means r ≡ fault-of kind (now (table .entry)) ⌝ }
+{
+    if kind == 0 {
+        return of_rules(rule_table_check::check_rules(table));
+    }
+    if kind == 1 {
+        return of_table(REFUSED_CLASSES, table_classes::check_classes(table));
+    }
+    of_table(REFUSED_VOWELS, table_vowels::check_vowels(table))
+}
+
+// Is the answer the one given: 0 and no place, or the number that refuses and its place?
+fn is_answer(judged: Judged, number: usize, place: usize) -> bool
+    ensures { λ r. ⌜ r ≡ is-given (judged-means judged) number place ⌝ }
+{
+    match judged {
+        Judged::Valid => {
+            if number == 0 {
                 return place == 0;
             }
             return false;
         }
-        TableRead::Fault(at) => {
-            if fault == 1 {
+        Judged::Wrong(refused, at) => {
+            if refused == number as u64 {
                 return at == place;
             }
             return false;
@@ -75,9 +108,9 @@ fn is_right(input: &[u8], kind: usize, at: usize, len: usize) -> bool
     if 2 < kind {
         return false;
     }
-    let read = checked(kind, lent_bytes::part(input, at, len));
+    let judged = checked(kind, lent_bytes::part(input, at, len));
     let end = at + len;
-    is_answer(read, byte(input, end), three(input, end + 1))
+    is_answer(judged, byte(input, end), three(input, end + 1))
 }
 
 // One vector. Where it runs past the end it is not right, and it is the last.

@@ -17,7 +17,8 @@ use Rattle.definition.specs.Limits.{most-target}
 use Rattle.definition.specs.Texts.{Text, at}
 use Rattle.definition.specs.Tables.{Rule, Class}
 use Rattle.definition.specs.ClassRows.{classes-of}
-use Rattle.definition.specs.RuleRows.{rule-size, rule-flag, rule-of, rule-fault, rules-of, start-only-bit, target-bit, target-at, text-where, text-of}
+use Rattle.definition.specs.RuleRows.{rule-size, rule-flag, rule-of, rules-of, start-only-bit, target-bit, target-at, text-where, text-of}
+use Rattle.definition.specs.RuleFaults.{rule-fault}
 use Rattle.definition.specs.Classes.{alpha}
 use Rattle.definition.specs.Rules.{spans, is-prefix}
 use Rattle.definition.specs.Boundaries.{goes-on, word-end}

@@ -14,7 +14,8 @@ use Rattle.base.specs.Lists.{keep}
 use Rattle.base.specs.ListLaws.{any-implies}
 use Rattle.definition.specs.Texts.{Text, stands, begins}
 use Rattle.definition.specs.Tables.{Rule}
-use Rattle.definition.specs.RuleRows.{rule-fault, rules-of}
+use Rattle.definition.specs.RuleRows.{rules-of}
+use Rattle.definition.specs.RuleFaults.{rule-fault}
 use Rattle.definition.specs.Rules.{spans, is-prefix}
 use Rattle.rule_table.specs.Doors.{with-source, is-start}
 use Rattle.rule_table.specs.Seek.{first-at, equal-rows}

@@ -6,8 +6,8 @@ use mathlib.Core.Path.{ap, _∙_, sym}
 use native.Mathlib.Omega.{arith}
 use denote.Ref.{now}
 use Rattle.base.specs.ListLaws.{first-only}
-use Rattle.definition.specs.Refusals.{Refusal, placed, refused-rules, refused-classes, refused-vowels}
-use Rattle.definition.specs.RuleRows.{rule-fault}
+use Rattle.definition.specs.Refusals.{Refusal, placed, refused-classes, refused-vowels}
+use Rattle.definition.specs.RuleFaults.{rule-fault}
 use Rattle.definition.specs.ClassRows.{class-fault}
 use Rattle.definition.specs.VowelRows.{vowel-fault}
 use Rattle.definition.specs.Call.{before-text}
@@ -27,7 +27,7 @@ abbrev from-classes : List ℕ → List ℕ → List ℕ → List (Option Refusa
 from-classes classes vowels code = placed refused-classes (class-fault classes) ∷ from-vowels vowels code
 
 abbrev from-rules : List ℕ → List ℕ → List ℕ → List ℕ → List (Option Refusal)
-from-rules rules classes vowels code = placed refused-rules (rule-fault rules) ∷ from-classes classes vowels code
+from-rules rules classes vowels code = rule-fault rules ∷ from-classes classes vowels code
 
 returns : tie.Need-returns
 unfolding before-text
@@ -38,8 +38,8 @@ returns c =
 check-rules-requires : tie.Need-check-rules-requires
 check-rules-requires c κs = search needs
 
-of-table-requires : tie.Need-of-table-requires
-of-table-requires c κs = search needs
+of-rule-table-requires : tie.Need-of-rule-table-requires
+of-rule-table-requires c κs = search needs
 
 enum-told : tie.Need-enum-told
 enum-told c = search needs
@@ -52,16 +52,16 @@ unfolding before-text
 returns-2 c =
     let t = c .before .before in
     let a = t .before .before .before .before .before .before .before .args in
-    let told = t .of-table .ensures ∙ ap (placed refused-rules) (t .before .check-rules .ensures) in
+    let told = t .of-rule-table .ensures ∙ t .before .check-rules .ensures in
     let g = c .enum-told2 .given in
-    ends-here (t .of-table .result) _ (from-classes (now (a .classes)) (now (a .vowels)) (now (a .code))) told (g .0 .0) (g .0 .1 .0) (g .1)
+    ends-here (t .of-rule-table .result) _ (from-classes (now (a .classes)) (now (a .vowels)) (now (a .code))) told (g .0 .0) (g .0 .1 .0) (g .1)
     ∙ mode-right (a .mode) (from-rules (now (a .rules)) (now (a .classes)) (now (a .vowels)) (now (a .code))) (omega arith)
 
 check-classes-requires : tie.Need-check-classes-requires
 check-classes-requires c κs = search needs
 
-of-table-requires-2 : tie.Need-of-table-requires-2
-of-table-requires-2 c κs = search needs
+of-table-requires : tie.Need-of-table-requires
+of-table-requires c κs = search needs
 
 enum-told-3 : tie.Need-enum-told-3
 enum-told-3 c = search needs
@@ -75,18 +75,18 @@ returns-3 c =
     let u = c .before .before in
     let t = u .before .before .before .before in
     let a = t .before .before .before .before .before .before .before .args in
-    let ruled = t .of-table .ensures ∙ ap (placed refused-rules) (t .before .check-rules .ensures) in
-    let told = u .of-table2 .ensures ∙ ap (placed refused-classes) (u .before .check-classes .ensures) in
+    let ruled = t .of-rule-table .ensures ∙ t .before .check-rules .ensures in
+    let told = u .of-table .ensures ∙ ap (placed refused-classes) (u .before .check-classes .ensures) in
     let g = c .enum-told4 .given in
-    ends-here (u .of-table2 .result) _ (from-vowels (now (a .vowels)) (now (a .code))) told (g .0 .0) (g .0 .1 .0) (g .1)
-    ∙ goes-on (t .of-table .result) _ (from-classes (now (a .classes)) (now (a .vowels)) (now (a .code))) ruled (u .before .before .enum-told .given .1)
+    ends-here (u .of-table .result) _ (from-vowels (now (a .vowels)) (now (a .code))) told (g .0 .0) (g .0 .1 .0) (g .1)
+    ∙ goes-on (t .of-rule-table .result) _ (from-classes (now (a .classes)) (now (a .vowels)) (now (a .code))) ruled (u .before .before .enum-told .given .1)
     ∙ mode-right (a .mode) (from-rules (now (a .rules)) (now (a .classes)) (now (a .vowels)) (now (a .code))) (omega arith)
 
 check-vowels-requires : tie.Need-check-vowels-requires
 check-vowels-requires c κs = search needs
 
-of-table-requires-3 : tie.Need-of-table-requires-3
-of-table-requires-3 c κs = search needs
+of-table-requires-2 : tie.Need-of-table-requires-2
+of-table-requires-2 c κs = search needs
 
 enum-told-5 : tie.Need-enum-told-5
 enum-told-5 c = search needs
@@ -101,13 +101,13 @@ returns-4 c =
     let u = v .before .before .before .before in
     let t = u .before .before .before .before in
     let a = t .before .before .before .before .before .before .before .args in
-    let ruled = t .of-table .ensures ∙ ap (placed refused-rules) (t .before .check-rules .ensures) in
-    let classed = u .of-table2 .ensures ∙ ap (placed refused-classes) (u .before .check-classes .ensures) in
-    let told = v .of-table3 .ensures ∙ ap (placed refused-vowels) (v .before .check-vowels .ensures) in
+    let ruled = t .of-rule-table .ensures ∙ t .before .check-rules .ensures in
+    let classed = u .of-table .ensures ∙ ap (placed refused-classes) (u .before .check-classes .ensures) in
+    let told = v .of-table2 .ensures ∙ ap (placed refused-vowels) (v .before .check-vowels .ensures) in
     let g = c .enum-told6 .given in
-    ends-here (v .of-table3 .result) _ (from-code (now (a .code))) told (g .0 .0) (g .0 .1 .0) (g .1)
-    ∙ goes-on (u .of-table2 .result) _ (from-vowels (now (a .vowels)) (now (a .code))) classed (v .before .before .enum-told3 .given .1)
-    ∙ goes-on (t .of-table .result) _ (from-classes (now (a .classes)) (now (a .vowels)) (now (a .code))) ruled (u .before .before .enum-told .given .1)
+    ends-here (v .of-table2 .result) _ (from-code (now (a .code))) told (g .0 .0) (g .0 .1 .0) (g .1)
+    ∙ goes-on (u .of-table .result) _ (from-vowels (now (a .vowels)) (now (a .code))) classed (v .before .before .enum-told3 .given .1)
+    ∙ goes-on (t .of-rule-table .result) _ (from-classes (now (a .classes)) (now (a .vowels)) (now (a .code))) ruled (u .before .before .enum-told .given .1)
     ∙ mode-right (a .mode) (from-rules (now (a .rules)) (now (a .classes)) (now (a .vowels)) (now (a .code))) (omega arith)
 
 check-code-requires : tie.Need-check-code-requires
@@ -120,13 +120,13 @@ returns-5 c =
     let u = v .before .before .before .before in
     let t = u .before .before .before .before in
     let a = t .before .before .before .before .before .before .before .args in
-    let ruled = t .of-table .ensures ∙ ap (placed refused-rules) (t .before .check-rules .ensures) in
-    let classed = u .of-table2 .ensures ∙ ap (placed refused-classes) (u .before .check-classes .ensures) in
-    let voiced = v .of-table3 .ensures ∙ ap (placed refused-vowels) (v .before .check-vowels .ensures) in
+    let ruled = t .of-rule-table .ensures ∙ t .before .check-rules .ensures in
+    let classed = u .of-table .ensures ∙ ap (placed refused-classes) (u .before .check-classes .ensures) in
+    let voiced = v .of-table2 .ensures ∙ ap (placed refused-vowels) (v .before .check-vowels .ensures) in
     c .check-code .ensures ∙ sym (first-only (by-code (now (a .code))))
-    ∙ goes-on (v .of-table3 .result) _ (from-code (now (a .code))) voiced (c .before .enum-told5 .given .1)
-    ∙ goes-on (u .of-table2 .result) _ (from-vowels (now (a .vowels)) (now (a .code))) classed (v .before .before .enum-told3 .given .1)
-    ∙ goes-on (t .of-table .result) _ (from-classes (now (a .classes)) (now (a .vowels)) (now (a .code))) ruled (u .before .before .enum-told .given .1)
+    ∙ goes-on (v .of-table2 .result) _ (from-code (now (a .code))) voiced (c .before .enum-told5 .given .1)
+    ∙ goes-on (u .of-table .result) _ (from-vowels (now (a .vowels)) (now (a .code))) classed (v .before .before .enum-told3 .given .1)
+    ∙ goes-on (t .of-rule-table .result) _ (from-classes (now (a .classes)) (now (a .vowels)) (now (a .code))) ruled (u .before .before .enum-told .given .1)
     ∙ mode-right (a .mode) (from-rules (now (a .rules)) (now (a .classes)) (now (a .vowels)) (now (a .code))) (omega arith)
 
 pub check-spec : {M : Type 1} → statement M
@@ -135,17 +135,17 @@ check-spec =
     (tie.spec
     returns
     check-rules-requires
-    of-table-requires
+    of-rule-table-requires
     enum-told
     enum-told-2
     returns-2
     check-classes-requires
-    of-table-requires-2
+    of-table-requires
     enum-told-3
     enum-told-4
     returns-3
     check-vowels-requires
-    of-table-requires-3
+    of-table-requires-2
     enum-told-5
     enum-told-6
     returns-4

@@ -8,7 +8,7 @@ use denote.Ref.{now}
 use borrow.Author.Needs.{needs}
 use Rattle.base.specs.Rows.{counted}
 use Rattle.definition.specs.RuleRows.{three-at, source-count, rule-source}
-use Rattle.rule_row.specs.There.{three-there}
+use Rattle.definition.specs.There.{three-there}
 use Rattle.rule_table.specs.Order.{compared, source-longer, text-longer, both-end, lower, higher, same-character}
 use Rattle.rule_table.proofs.compare_source.Statement.{statement}
 use Rattle.rule_table.proofs.compare_source.Tie as tie

@@ -4,7 +4,7 @@ use native.Mathlib.Omega.{arith}
 use lib.ListN.{length, drop}
 use denote.Ref.{now}
 use borrow.Author.Needs.{needs}
-use Rattle.definition.specs.Accepted.{rule-moves}
+use Rattle.definition.specs.RuleTurns.{rule-moves}
 use Rattle.rule_table.specs.Index.{Filled, fill-begun, fill-over, fill-full, fill-next}
 use Rattle.rule_table.proofs.fill_index.Statement.{statement}
 use Rattle.rule_table.proofs.fill_index.Tie as tie

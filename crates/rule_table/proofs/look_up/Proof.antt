@@ -6,7 +6,7 @@ use lib.ListN.{length, drop}
 use denote.Ref.{now}
 use borrow.Author.Needs.{needs}
 use mathlib.Core.List.{List}
-use Rattle.definition.specs.Accepted.{rule-moves}
+use Rattle.definition.specs.RuleTurns.{rule-moves}
 use Rattle.rule_table.specs.Index.{offsets-from}
 use Rattle.rule_table.specs.Seek.{run, equal-rows, run-over, run-on, run-ends}
 use Rattle.rule_table.specs.Longer.{Passed, passed-first, passed-next, passed-here, passed-over}

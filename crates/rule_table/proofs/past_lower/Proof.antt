@@ -4,7 +4,7 @@ use Prim.Native.Nat.{_+_, _-_}
 use native.Mathlib.Omega.{arith}
 use lib.ListN.{length, drop}
 use denote.Ref.{now}
-use Rattle.definition.specs.Accepted.{rule-moves}
+use Rattle.definition.specs.RuleTurns.{rule-moves}
 use Rattle.rule_table.specs.Index.{offsets-from}
 use Rattle.rule_table.specs.Order.{first-lower}
 use Rattle.rule_table.specs.Seek.{is-below, order-at, seek, seek-past}

@@ -9,7 +9,7 @@ use mathlib.Core.List.{List}
 use Rattle.base.specs.Lists.{starts}
 use Rattle.base.specs.Rows.{counted}
 use Rattle.definition.specs.RuleRows.{three-at, source-count, rule-source}
-use Rattle.rule_row.specs.There.{three-there}
+use Rattle.definition.specs.There.{three-there}
 use Rattle.rule_table.specs.Starts.{text-over, source-over, another, same-letter}
 use Rattle.rule_table.proofs.starts_with.Statement.{statement}
 use Rattle.rule_table.proofs.starts_with.Tie as tie

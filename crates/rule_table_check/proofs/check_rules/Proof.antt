@@ -1,12 +1,8 @@
 -- `rule_table_check::check_rules`: both halves of the rows, one after the other.
 use native.Mathlib.Omega.{arith}
-use mathlib.Core.Path.{refl}
-use mathlib.Core.List.{[]}
+use mathlib.Core.Path.{refl, _∙_}
 use denote.Ref.{now}
-use Rattle.definition.specs.Limits.{most-rows}
-use Rattle.definition.specs.RuleRows.{rule-size, rule-source, rule-right, rule-fault}
-use Rattle.definition.specs.Checking.{no-header}
-use Rattle.table_blocks.specs.Faults.{table-means}
+use Rattle.definition.specs.RuleTurns.{rules-unheaded}
 use Rattle.rule_table_check.specs.Marks.{none-before}
 use Rattle.rule_table_check.specs.Walks.{sound, at-row}
 use borrow.Author.Needs.{needs}
@@ -25,16 +21,17 @@ add-past-rows c = let f = c .before .past-rows .ensures .kept .few in omega arit
 past-rows-requires-2 : tie.Need-past-rows-requires-2
 past-rows-requires-2 c κs = search needs
 
+row-fault-requires : tie.Need-row-fault-requires
+row-fault-requires c κs = omega arith
+
 returns : tie.Need-returns
-unfolding table-means
 returns c =
-    let w = c .before .before in
+    let w = c .before .before .before in
     let r = w .past-rows2 .ensures in
     let h = w .before .before .past-rows .ensures .kept in
-    at-row _ (cc) _ _ _ _ _ h refl _ _ _ _ r (omega arith)
+    c .row-fault .ensures ∙ at-row _ (cc) _ _ _ _ _ h refl _ _ _ _ r (omega arith)
 
 returns-2 : tie.Need-returns-2
-unfolding table-means
 returns-2 c =
     let w = c .before .before in
     let r = w .past-rows2 .ensures in
@@ -42,8 +39,7 @@ returns-2 c =
     sound _ (cc) _ _ _ _ _ h refl _ _ _ _ r (omega arith)
 
 returns-3 : tie.Need-returns-3
-unfolding table-means rule-fault
-returns-3 c = no-header rule-size rule-source rule-right most-rows [] (now (c .before .before .before .args .rules)) (cc)
+returns-3 c = rules-unheaded (now (c .before .before .before .args .rules)) (cc)
 
 pub check-rules-spec : {M : Type 1} → statement M
 check-rules-spec =
@@ -53,6 +49,7 @@ check-rules-spec =
     past-rows-requires
     add-past-rows
     past-rows-requires-2
+    row-fault-requires
     returns
     returns-2
     returns-3)

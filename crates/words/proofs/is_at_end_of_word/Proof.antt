@@ -9,7 +9,8 @@ use denote.Ref.{now}
 use Rattle.base.specs.Lists.{any}
 use Rattle.definition.specs.Texts.{at}
 use Rattle.definition.specs.Tables.{Rule}
-use Rattle.definition.specs.RuleRows.{rule-fault, rules-of}
+use Rattle.definition.specs.RuleRows.{rules-of}
+use Rattle.definition.specs.RuleFaults.{rule-fault}
 use Rattle.definition.specs.Classes.{alpha}
 use Rattle.definition.specs.Boundaries.{goes-on}
 use Rattle.definition.specs.Ranges.{rules-sourced}

@@ -1,4 +1,4 @@
--- A row that is read without fault is right, and a right row is read without fault, to its end.
+-- A row's fields are without fault just where all that is asked of the row holds, but for the order of rows.
 use mathlib.Core.Bool.{Bool, true, false, not, _&&_, _||_, true≢false}
 use mathlib.Core.Path.{_≡_, refl, sym, ap, _∙_}
 use mathlib.Core.List.{List, [], _∷_}
@@ -11,26 +11,23 @@ use borrow.Author.Tests.{leb-true, le-leb, eq-eqb, not-true}
 use Rattle.base.specs.Pick.{pick}
 use Rattle.base.specs.Bools.{and-left, and-right}
 use Rattle.base.specs.Lists.{all, holds}
-use Rattle.base.specs.ListLaws.{holds-length}
+use Rattle.base.specs.ListLaws.{holds-is, holds-length}
 use Rattle.base.specs.Rows.{counted}
 use Rattle.definition.specs.Limits.{most-source, most-codes, most-alternatives, most-target}
 use Rattle.definition.specs.Texts.{Text}
 use Rattle.definition.specs.Utf8.{scalar}
 use Rattle.definition.specs.Blocks.{small}
 use Rattle.definition.specs.RuleRows.{codes-count-from, codes-from, codes-right-from, end-target-from, end-target-right-from, fits-from, others-from, target-from, target-right-from}
 use Rattle.definition.specs.RuleRows.{printable, text-size, text-of, text-right, texts-size, texts-right, rule-size, rule-flag, zero-bit, target-bit}
 use Rattle.definition.specs.RuleRows.{end-target-bit, source-count, codes-at, codes-count, target-at, past-text, end-target-at, others-at, others-end}
 use Rattle.definition.specs.RuleRows.{others-right, three-at, code-of, rule-source, rule-codes, rises, rule-fits, source-right, codes-right, target-right}
 use Rattle.definition.specs.RuleRows.{end-target-right, rule-right}
 use Rattle.definition.specs.Checked.{rule-checked}
 use Rattle.definition.specs.Places.{rule-placed}
-use Rattle.table_blocks.specs.Held.{held}
-use Rattle.rule_row.specs.There.{byte-there}
-use Rattle.rule_row_faults.specs.Reading.{and-then, field, fields, character-right, code-letters, byte-right, read-text, read-texts, read-text-if, read-flags}
-use Rattle.rule_row_faults.specs.Reading.{read-source, read-codes, read-others, read-end, read-tail, read-parts, read-row, rightly}
-use Rattle.rule_row_faults.specs.declared.Fault.{Fault}
-use Rattle.rule_row_faults.specs.declared.Cursor.{Cursor}
-use Rattle.rule_row_faults.specs.declared.Cursor.the-variants.{Next, Wrong}
+use Rattle.definition.specs.There.{byte-there}
+use Rattle.definition.specs.Refusals.{refused-length, refused-range, refused-letter, refused-byte}
+use Rattle.definition.specs.RuleFields.{Cursor, next, wrong, and-then, field, fields, character-right, code-small, byte-right, read-text, read-texts}
+use Rattle.definition.specs.RuleFields.{read-text-if, read-flags, read-source, read-codes, read-others, read-end, read-tail, read-parts, read-row}
 
 -- Reading goes on past a field just where it lies in the row and passes
 pub record Passed (o n z e : ℕ) (ok : Bool) : Type 0 where
@@ -38,20 +35,20 @@ pub record Passed (o n z e : ℕ) (ok : Bool) : Type 0 where
   pub inside : e ≤ z
   pub right : ok ≡ true
 
-then-next : (c : Cursor) (f : ℕ → Cursor) (e : ℕ) → and-then c f ≡ Next e → (o : ℕ) × (c ≡ Next o) × (f o ≡ Next e)
+then-next : (c : Cursor) (f : ℕ → Cursor) (e : ℕ) → and-then c f ≡ next e → (o : ℕ) × (c ≡ next o) × (f o ≡ next e)
 unfolding and-then
-then-next (Next o) f e h = (o, refl, h)
-then-next (Wrong k o) f e h = absurd (let z : _≡_ {A = ℕ} 0 1 = cc in omega arith)
+then-next (next o) f e h = (o, refl, h)
+then-next (wrong k o) f e h = absurd (let z : _≡_ {A = ℕ} 0 1 = cc in omega arith)
 
-then-is : (c : Cursor) (f : ℕ → Cursor) (o e : ℕ) → c ≡ Next o → f o ≡ Next e → and-then c f ≡ Next e
+then-is : (c : Cursor) (f : ℕ → Cursor) (o e : ℕ) → c ≡ next o → f o ≡ next e → and-then c f ≡ next e
 unfolding and-then
 then-is c f o e p q = rw p q
 
-field-next : (z o n : ℕ) (k : Fault) (ok : Bool) (e : ℕ) → field z o n k ok ≡ Next e → Passed o n z e ok
+field-next : (z o n : ℕ) (k : ℕ) (ok : Bool) (e : ℕ) → field z o n k ok ≡ next e → Passed o n z e ok
 unfolding field pick
 field-next z o n k ok e h = go (leb (o + n) z) ok refl refl h
   where
-    go : (a b : Bool) → leb (o + n) z ≡ a → ok ≡ b → pick a (pick b (Next (o + n)) (Wrong k o)) (Wrong Fault.Length o) ≡ Next e → Passed o n z e ok
+    go : (a b : Bool) → leb (o + n) z ≡ a → ok ≡ b → pick a (pick b (next (o + n)) (wrong k o)) (wrong refused-length o) ≡ next e → Passed o n z e ok
     go true true p q h =
         let l = leb-true (o + n) z p in
         let i : o + n ≡ e = cc in
@@ -59,13 +56,13 @@ field-next z o n k ok e h = go (leb (o + n) z) ok refl refl h
     go true false p q h = absurd (let z : _≡_ {A = ℕ} 0 1 = cc in omega arith)
     go false b p q h = absurd (let z : _≡_ {A = ℕ} 0 1 = cc in omega arith)
 
-field-is : (z o n : ℕ) (k : Fault) (ok : Bool) (e : ℕ) → Passed o n z e ok → field z o n k ok ≡ Next e
+field-is : (z o n : ℕ) (k : ℕ) (ok : Bool) (e : ℕ) → Passed o n z e ok → field z o n k ok ≡ next e
 unfolding field pick
-field-is z o n k ok e p = let i = p .ends in let l = p .inside in rw (le-leb (o + n) z (omega arith), p .right) (ap Next (sym i))
+field-is z o n k ok e p = let i = p .ends in let l = p .inside in rw (le-leb (o + n) z (omega arith), p .right) (ap next (sym i))
 
 -- as many fields
-module _ {A : Type 0} (one : List ℕ → A) (f : A → Bool) (size : ℕ) (k : Fault) (z : ℕ) (s : List ℕ) where
-  fields-next : (n o e : ℕ) → o ≤ z → fields (λ x. f (one x)) size k z s n o ≡ Next e
+module _ {A : Type 0} (one : List ℕ → A) (f : A → Bool) (size : ℕ) (k : ℕ) (z : ℕ) (s : List ℕ) where
+  fields-next : (n o e : ℕ) → o ≤ z → fields (λ x. f (one x)) size k z s n o ≡ next e
       → (e ≡ o + size * n) × (e ≤ z) × (all f (counted one size n (drop o s)) ≡ true)
   unfolding fields counted all
   fields-next zero o e l h = let i : o ≡ e = cc in (omega arith, omega arith, refl)
@@ -81,9 +78,9 @@ module _ {A : Type 0} (one : List ℕ → A) (f : A → Bool) (size : ℕ) (k : 
       mul-suc m n = omega arith
 
   fields-is : (n o e : ℕ) → e ≡ o + size * n → e ≤ z → all f (counted one size n (drop o s)) ≡ true
-      → fields (λ x. f (one x)) size k z s n o ≡ Next e
+      → fields (λ x. f (one x)) size k z s n o ≡ next e
   unfolding fields counted all
-  fields-is zero o e i l h = let j : o ≡ e = omega arith in ap Next j
+  fields-is zero o e i l h = let j : o ≡ e = omega arith in ap next j
   fields-is (suc n) o e i l h =
       let m : size * suc n ≡ size + size * n = omega arith in
       then-is _ _ (o + size) e
@@ -106,14 +103,14 @@ module _ (z : ℕ) (s : List ℕ) (whole : z ≤ length s) where
       counted-take (getD s o 0) (drop (o + 1) s) (omega (arith, length-drop (o + 1) s))
       ∙ ap (λ n. take n (drop (o + 1) s)) (byte-there s o) ∙ ap (take (getD (drop o s) 0 0)) (sym (drop-drop 1 o s))
 
-  text-next : (o e : ℕ) → read-text z s o ≡ Next e
+  text-next : (o e : ℕ) → read-text z s o ≡ next e
       → (e ≡ o + text-size (drop o s)) × (e ≤ z) × (text-right (drop o s) ≡ true)
   unfolding read-text byte-right text-size text-right
   text-next o e h =
       let t = then-next _ _ e h in
-      let p = field-next z o 1 Fault.Range (leb (getD s o 0) most-target) (t .0) (t .1) in
+      let p = field-next z o 1 refused-range (leb (getD s o 0) most-target) (t .0) (t .1) in
       let i = p .ends in
-      let r = fields-next (λ x. getD x 0 0) printable 1 Fault.Byte z s (getD s o 0) (t .0) e (p .inside) (t .2) in
+      let r = fields-next (λ x. getD x 0 0) printable 1 refused-byte z s (getD s o 0) (t .0) e (p .inside) (t .2) in
       let f = sym (byte-there s o) in
       let q = r .0 in
       let l = r .1 in
@@ -121,17 +118,17 @@ module _ (z : ℕ) (s : List ℕ) (whole : z ≤ length s) where
       ap (all printable) (sym (text-bytes o (omega arith))) ∙ ap (λ j. all printable (counted (λ x. getD x 0 0) 1 (getD s o 0) (drop j s))) (sym i) ∙ r .2 in
       (omega arith, l, rw (f, p .right) b)
 
-  text-is : (o e : ℕ) → e ≡ o + text-size (drop o s) → e ≤ z → text-right (drop o s) ≡ true → read-text z s o ≡ Next e
+  text-is : (o e : ℕ) → e ≡ o + text-size (drop o s) → e ≤ z → text-right (drop o s) ≡ true → read-text z s o ≡ next e
   unfolding read-text byte-right text-size text-right
   text-is o e i l h =
       let f = sym (byte-there s o) in
       then-is _ _ (o + 1) e
-      (field-is z o 1 Fault.Range (leb (getD s o 0) most-target) (o + 1)
+      (field-is z o 1 refused-range (leb (getD s o 0) most-target) (o + 1)
       (record { ends = refl; inside = omega arith; right = ap (λ n. leb n most-target) (sym f) ∙ and-left _ _ h }))
-      (fields-is (λ x. getD x 0 0) printable 1 Fault.Byte z s (getD s o 0) (o + 1) e (omega arith) l
+      (fields-is (λ x. getD x 0 0) printable 1 refused-byte z s (getD s o 0) (o + 1) e (omega arith) l
       (ap (all printable) (text-bytes o (omega arith)) ∙ and-right (leb (getD (drop o s) 0 0) most-target) _ h))
 
-  texts-next : (n o e : ℕ) → o ≤ z → read-texts z s n o ≡ Next e
+  texts-next : (n o e : ℕ) → o ≤ z → read-texts z s n o ≡ next e
       → (e ≡ o + texts-size n (drop o s)) × (e ≤ z) × (texts-right n (drop o s) ≡ true)
   unfolding read-texts texts-size texts-right
   texts-next zero o e l h = let i : o ≡ e = cc in (omega arith, omega arith, refl)
@@ -144,9 +141,9 @@ module _ (z : ℕ) (s : List ℕ) (whole : z ≤ length s) where
       let q : e ≡ t .0 + texts-size n (drop (text-size (drop o s)) (drop o s)) = rw d (r .0) in
       (omega arith, r .1, rw (p .2, d) (r .2))
 
-  texts-is : (n o e : ℕ) → e ≡ o + texts-size n (drop o s) → e ≤ z → texts-right n (drop o s) ≡ true → read-texts z s n o ≡ Next e
+  texts-is : (n o e : ℕ) → e ≡ o + texts-size n (drop o s) → e ≤ z → texts-right n (drop o s) ≡ true → read-texts z s n o ≡ next e
   unfolding read-texts texts-size texts-right
-  texts-is zero o e i l h = let j : o ≡ e = omega arith in ap Next j
+  texts-is zero o e i l h = let j : o ≡ e = omega arith in ap next j
   texts-is (suc n) o e i l h =
       let d = drop-drop (text-size (drop o s)) o s in
       let g : e ≡ o + text-size (drop o s) + texts-size n (drop (o + text-size (drop o s)) s) = rw (← d) (omega arith) in
@@ -155,65 +152,65 @@ module _ (z : ℕ) (s : List ℕ) (whole : z ≤ length s) where
       (texts-is n (o + text-size (drop o s)) e g l (rw d at (and-right (text-right (drop o s)) _ h)))
 
   -- one that is there only where a flag is set
-  text-if-next : (b : Bool) (o e : ℕ) → o ≤ z → read-text-if b z s o ≡ Next e
+  text-if-next : (b : Bool) (o e : ℕ) → o ≤ z → read-text-if b z s o ≡ next e
       → (e ≡ past-text b o s) × (e ≤ z) × ((not b || text-right (drop o s)) ≡ true)
   unfolding read-text-if past-text pick
   text-if-next true o e l h = text-next o e h
   text-if-next false o e l h = let i : o ≡ e = cc in (omega arith, omega arith, refl)
 
   text-if-is : (b : Bool) (o e : ℕ) → e ≡ past-text b o s → e ≤ z → (not b || text-right (drop o s)) ≡ true
-      → read-text-if b z s o ≡ Next e
+      → read-text-if b z s o ≡ next e
   unfolding read-text-if past-text pick
   text-if-is true o e i l h = text-is o e i l h
-  text-if-is false o e i l h = ap Next (sym i)
+  text-if-is false o e i l h = ap next (sym i)
 
   -- The parts of a row, each from where the one before it ends
-  source-next : (e : ℕ) → read-source z s 5 ≡ Next e
+  source-next : (e : ℕ) → read-source z s 5 ≡ next e
       → (e ≡ codes-at s) × (e ≤ z) × ((leb 1 (source-count s) && leb (source-count s) most-source) ≡ true)
       × (all scalar (rule-source s) ≡ true)
   unfolding read-source character-right codes-at source-count rule-source
   source-next e h =
       let t = then-next _ _ e h in
-      let p = field-next z 5 1 Fault.Range (leb 1 (getD s 5 0) && leb (getD s 5 0) most-source) (t .0) (t .1) in
+      let p = field-next z 5 1 refused-range (leb 1 (getD s 5 0) && leb (getD s 5 0) most-source) (t .0) (t .1) in
       let i : t .0 ≡ 6 = p .ends in
-      let r = fields-next three-at scalar 3 Fault.Letter z s (getD s 5 0) (t .0) e (p .inside) (t .2) in
+      let r = fields-next three-at scalar 3 refused-letter z s (getD s 5 0) (t .0) e (p .inside) (t .2) in
       let q = r .0 in
       (omega arith, r .1, p .right, ap (λ j. all scalar (counted three-at 3 (getD s 5 0) (drop j s))) (sym i) ∙ r .2)
 
   source-is : (e : ℕ) → e ≡ codes-at s → e ≤ z → (leb 1 (source-count s) && leb (source-count s) most-source) ≡ true
-      → all scalar (rule-source s) ≡ true → read-source z s 5 ≡ Next e
+      → all scalar (rule-source s) ≡ true → read-source z s 5 ≡ next e
   unfolding read-source character-right codes-at source-count rule-source
   source-is e i l a b = then-is _ _ 6 e
-      (field-is z 5 1 Fault.Range (leb 1 (getD s 5 0) && leb (getD s 5 0) most-source) 6
+      (field-is z 5 1 refused-range (leb 1 (getD s 5 0) && leb (getD s 5 0) most-source) 6
       (record { ends = refl; inside = omega arith; right = a }))
-      (fields-is three-at scalar 3 Fault.Letter z s (getD s 5 0) 6 e (omega arith) l b)
+      (fields-is three-at scalar 3 refused-letter z s (getD s 5 0) 6 e (omega arith) l b)
 
-  codes-next : (e : ℕ) → read-codes z s (codes-at s) ≡ Next e → (e ≡ target-at s) × (e ≤ z) × (codes-right s ≡ true)
-  unfolding read-codes code-letters target-from codes-count-from codes-right-from codes-from
+  codes-next : (e : ℕ) → read-codes z s (codes-at s) ≡ next e → (e ≡ target-at s) × (e ≤ z) × (codes-right s ≡ true)
+  unfolding read-codes code-small target-from codes-count-from codes-right-from codes-from
   codes-next e h =
       let o = codes-at s in
       let t = then-next _ _ e h in
-      let p = field-next z o 1 Fault.Range (leb (getD s o 0) most-codes) (t .0) (t .1) in
+      let p = field-next z o 1 refused-range (leb (getD s o 0) most-codes) (t .0) (t .1) in
       let i = p .ends in
-      let r = fields-next code-of (all small) 3 Fault.Letter z s (getD s o 0) (t .0) e (p .inside) (t .2) in
+      let r = fields-next code-of (all small) 3 refused-letter z s (getD s o 0) (t .0) e (p .inside) (t .2) in
       let q = r .0 in
       (omega arith, r .1, rw (p .right) (ap (λ j. all (all small) (counted code-of 3 (getD s o 0) (drop j s))) (sym i) ∙ r .2))
 
-  codes-is : (e : ℕ) → e ≡ target-at s → e ≤ z → codes-right s ≡ true → read-codes z s (codes-at s) ≡ Next e
-  unfolding read-codes code-letters target-from codes-count-from codes-right-from codes-from
+  codes-is : (e : ℕ) → e ≡ target-at s → e ≤ z → codes-right s ≡ true → read-codes z s (codes-at s) ≡ next e
+  unfolding read-codes code-small target-from codes-count-from codes-right-from codes-from
   codes-is e i l h =
       let o = codes-at s in
       then-is _ _ (o + 1) e
-      (field-is z o 1 Fault.Range (leb (getD s o 0) most-codes) (o + 1)
+      (field-is z o 1 refused-range (leb (getD s o 0) most-codes) (o + 1)
       (record { ends = refl; inside = omega arith; right = and-left _ _ h }))
-      (fields-is code-of (all small) 3 Fault.Letter z s (getD s o 0) (o + 1) e (omega arith) l
+      (fields-is code-of (all small) 3 refused-letter z s (getD s o 0) (o + 1) e (omega arith) l
       (and-right (leb (getD s o 0) most-codes) _ h))
 
-  others-next : (o e : ℕ) → read-others z s o ≡ Next e → (e ≡ others-end o s) × (e ≤ z) × (others-right o s ≡ true)
+  others-next : (o e : ℕ) → read-others z s o ≡ next e → (e ≡ others-end o s) × (e ≤ z) × (others-right o s ≡ true)
   unfolding read-others others-end others-right
   others-next o e h =
       let t = then-next _ _ e h in
-      let p = field-next z o 1 Fault.Range (leb (getD s o 0) most-alternatives) (t .0) (t .1) in
+      let p = field-next z o 1 refused-range (leb (getD s o 0) most-alternatives) (t .0) (t .1) in
       let i = p .ends in
       let r = texts-next (getD s o 0) (t .0) e (p .inside) (t .2) in (
         r .0 ∙ ap (λ j. j + texts-size (getD s o 0) (drop j s)) i,
@@ -221,38 +218,38 @@ module _ (z : ℕ) (s : List ℕ) (whole : z ≤ length s) where
         rw (p .right) (ap (λ j. texts-right (getD s o 0) (drop j s)) (sym i) ∙ r .2),
       )
 
-  others-is : (o e : ℕ) → e ≡ others-end o s → e ≤ z → others-right o s ≡ true → read-others z s o ≡ Next e
+  others-is : (o e : ℕ) → e ≡ others-end o s → e ≤ z → others-right o s ≡ true → read-others z s o ≡ next e
   unfolding read-others others-end others-right
   others-is o e i l h = then-is _ _ (o + 1) e
-      (field-is z o 1 Fault.Range (leb (getD s o 0) most-alternatives) (o + 1)
+      (field-is z o 1 refused-range (leb (getD s o 0) most-alternatives) (o + 1)
       (record { ends = refl; inside = omega arith; right = and-left _ _ h }))
       (texts-is (getD s o 0) (o + 1) e i l (and-right (leb (getD s o 0) most-alternatives) _ h))
 
-  flags-next : (e : ℕ) → read-flags z s ≡ Next e → (e ≡ 5) × (e ≤ z) × (rule-flag s zero-bit ≡ false)
+  flags-next : (e : ℕ) → read-flags z s ≡ next e → (e ≡ 5) × (e ≤ z) × (rule-flag s zero-bit ≡ false)
   unfolding read-flags
   flags-next e h =
       let t = then-next _ _ e h in
-      let p = field-next z 2 1 Fault.Range (not (rule-flag s zero-bit)) (t .0) (t .1) in
-      let q = field-next z (t .0) 2 Fault.Range true e (t .2) in
+      let p = field-next z 2 1 refused-range (not (rule-flag s zero-bit)) (t .0) (t .1) in
+      let q = field-next z (t .0) 2 refused-range true e (t .2) in
       let i = p .ends in
       let j = q .ends in
       (omega arith, q .inside, not-true (rule-flag s zero-bit) (p .right))
 
-  flags-is : 5 ≤ z → rule-flag s zero-bit ≡ false → read-flags z s ≡ Next 5
+  flags-is : 5 ≤ z → rule-flag s zero-bit ≡ false → read-flags z s ≡ next 5
   unfolding read-flags
   flags-is l h = then-is _ _ 3 5
-      (field-is z 2 1 Fault.Range (not (rule-flag s zero-bit)) 3 (record { ends = refl; inside = omega arith; right = ap not h }))
-      (field-is z 3 2 Fault.Range true 5 (record { ends = refl; inside = l; right = refl }))
+      (field-is z 2 1 refused-range (not (rule-flag s zero-bit)) 3 (record { ends = refl; inside = omega arith; right = ap not h }))
+      (field-is z 3 2 refused-range true 5 (record { ends = refl; inside = l; right = refl }))
 
-  end-next : (o e : ℕ) → read-end z o ≡ Next e → (e ≡ o) × (z ≤ o)
+  end-next : (o e : ℕ) → read-end z o ≡ next e → (e ≡ o) × (z ≤ o)
   unfolding read-end pick
   end-next o e h = go (leb z o) refl h
     where
-      go : (b : Bool) → leb z o ≡ b → pick b (Next o) (Wrong Fault.Length o) ≡ Next e → (e ≡ o) × (z ≤ o)
+      go : (b : Bool) → leb z o ≡ b → pick b (next o) (wrong refused-length o) ≡ next e → (e ≡ o) × (z ≤ o)
       go true p h = let i : o ≡ e = cc in (sym i, leb-true z o p)
       go false p h = absurd (let w : _≡_ {A = ℕ} 0 1 = cc in omega arith)
 
-  end-is : read-end z z ≡ Next z
+  end-is : read-end z z ≡ next z
   unfolding read-end pick
   end-is = rw (le-leb z z (omega arith))
 
@@ -262,10 +259,15 @@ both-ways true y f g = sym (f refl)
 both-ways false true f g = g refl
 both-ways false false f g = refl
 
-rightly-next : (c : Cursor) → rightly c ≡ true → (e : ℕ) × (c ≡ Next e)
+-- is there no faulty field?
+unfoldable pub rightly : Cursor → Bool
+rightly (next o) = true
+rightly (wrong k o) = false
+
+rightly-next : (c : Cursor) → rightly c ≡ true → (e : ℕ) × (c ≡ next e)
 unfolding rightly
-rightly-next (Next e) h = (e, refl)
-rightly-next (Wrong k o) h = absurd (true≢false (sym h))
+rightly-next (next e) h = (e, refl)
+rightly-next (wrong k o) h = absurd (true≢false (sym h))
 
 -- what reading to the end has asked
 pub record Read (s : List ℕ) : Type 0 where
@@ -279,7 +281,7 @@ pub record Read (s : List ℕ) : Type 0 where
   pub end-target : end-target-right s ≡ true
   pub others : others-right (others-at s) s ≡ true
 
-parts-next : (s : List ℕ) (e : ℕ) → holds (rule-size s) s ≡ true → read-parts (rule-size s) s ≡ Next e → Read s
+parts-next : (s : List ℕ) (e : ℕ) → holds (rule-size s) s ≡ true → read-parts (rule-size s) s ≡ next e → Read s
 unfolding read-parts read-tail target-right-from end-target-right-from end-target-from others-from
 parts-next s e w h =
     let z = rule-size s in
@@ -311,22 +313,22 @@ parts-next s e w h =
       others = o .2;
     }
 
-row-next : (s : List ℕ) (e : ℕ) → read-row s ≡ Next e → Read s
+row-next : (s : List ℕ) (e : ℕ) → read-row s ≡ next e → Read s
 unfolding read-row pick
 row-next s e h = go (holds (rule-size s) s) refl h
   where
-    go : (b : Bool) → holds (rule-size s) s ≡ b → pick b (read-parts (rule-size s) s) (Wrong Fault.Length 0) ≡ Next e → Read s
+    go : (b : Bool) → holds (rule-size s) s ≡ b → pick b (read-parts (rule-size s) s) (wrong refused-length 0) ≡ next e → Read s
     go true w h = parts-next s e w h
     go false w h = absurd (let z : _≡_ {A = ℕ} 0 1 = cc in omega arith)
 
-row-is : (old : Text) (s : List ℕ) → rule-right old s ≡ true → read-row s ≡ Next (rule-size s)
+row-is : (old : Text) (s : List ℕ) → rule-right old s ≡ true → read-row s ≡ next (rule-size s)
 unfolding read-row read-parts read-tail target-right-from end-target-right-from pick
 row-is old s e =
     let z = rule-size s in
     let c = rule-checked old s e in
     let p = rule-placed old s e in
     let l = c .inside in
-    let w = held z s l in
+    let w = holds-is z s ∙ le-leb z (length s) l in
     let count : (leb 1 (source-count s) && leb (source-count s) most-source) ≡ true =
     rw (le-leb 1 (source-count s) (c .least), le-leb (source-count s) most-source (c .most)) refl in
     let codes : codes-right s ≡ true = unfold codes-right-from in rw (le-leb (codes-count s) most-codes (c .few-codes), c .codes) in

@@ -10,16 +10,13 @@ use borrow.Author.Tests.{leb-true}
 use Rattle.base.specs.Pick.{pick-ind, pick-all}
 use Rattle.base.specs.Lists.{holds}
 use Rattle.base.specs.ListLaws.{holds-length}
 use Rattle.definition.specs.RuleRows.{rule-size}
-use Rattle.rule_row_faults.specs.Reading.{and-then, field, fields, read-text, read-texts, read-text-if, read-flags, read-source, read-codes, read-others, read-end, read-tail, read-parts, read-row}
-use Rattle.rule_row_faults.specs.declared.Fault.{Fault}
-use Rattle.rule_row_faults.specs.declared.Cursor.{Cursor}
-use Rattle.rule_row_faults.specs.declared.Cursor.the-variants.{Next, Wrong}
+use Rattle.definition.specs.RuleFields.{Cursor, next, wrong, and-then, field, fields, read-text, read-texts, read-text-if, read-flags, read-source, read-codes, read-others, read-end, read-tail, read-parts, read-row}
 
 -- where a cursor stands
 unfoldable pub place : Cursor → ℕ
-place (Next o) = o
-place (Wrong k o) = o
+place (next o) = o
+place (wrong k o) = o
 
 module _ (z : ℕ) where
   -- not past the row's end
@@ -28,25 +25,25 @@ module _ (z : ℕ) where
 
   -- and not before it, where all was read
   unfoldable Full : Cursor → Type 0
-  Full (Next o) = z ≤ o
-  Full (Wrong k o) = Unit {0}
+  Full (next o) = z ≤ o
+  Full (wrong k o) = Unit {0}
 
   in-then : (c : Cursor) (f : ℕ → Cursor) → In c → ((o : ℕ) → o ≤ z → In (f o)) → In (and-then c f)
   unfolding place and-then
-  in-then (Next o) f h g = g o h
-  in-then (Wrong k o) f h g = h
+  in-then (next o) f h g = g o h
+  in-then (wrong k o) f h g = h
 
   full-then : (c : Cursor) (f : ℕ → Cursor) → ((o : ℕ) → Full (f o)) → Full (and-then c f)
   unfolding Full and-then
-  full-then (Next o) f g = g o
-  full-then (Wrong k o) f g = tt
+  full-then (next o) f g = g o
+  full-then (wrong k o) f g = tt
 
-  in-field : (o n : ℕ) (k : Fault) (ok : Bool) → o ≤ z → In (field z o n k ok)
+  in-field : (o n : ℕ) (k : ℕ) (ok : Bool) → o ≤ z → In (field z o n k ok)
   unfolding field place
   in-field o n k ok h = pick-ind In (leb (o + n) z) _ _ (λ e. pick-all In ok (leb-true (o + n) z e) h) (λ e. h)
 
   module _ (s : List ℕ) where
-    in-fields : (q : List ℕ → Bool) (size : ℕ) (k : Fault) (n o : ℕ) → o ≤ z → In (fields q size k z s n o)
+    in-fields : (q : List ℕ → Bool) (size : ℕ) (k : ℕ) (n o : ℕ) → o ≤ z → In (fields q size k z s n o)
     unfolding fields place
     in-fields q size k zero o h = h
     in-fields q size k (suc n) o h =
@@ -97,19 +94,19 @@ module _ (z : ℕ) where
     full-parts = full-then _ _ (λ o. full-then _ _ (λ o. full-then _ _ (λ o. full-tail o)))
 
 -- A row that the table has no room for is faulty at its start, so that no fault lies past the table's end
-pub fault-inside : (s : List ℕ) → place (read-row s) ≤ length s
+pub field-inside : (s : List ℕ) → place (read-row s) ≤ length s
 unfolding read-row rule-size place
-fault-inside s =
+field-inside s =
     pick-ind (λ c. place c ≤ length s) (holds (rule-size s) s) _ _
     (λ e. let l = holds-length (rule-size s) s e in let i = in-parts (rule-size s) s (omega arith) in omega arith)
     (λ e. omega arith)
 
 -- A row that is read ends at its size
-pub ends : (s : List ℕ) (o : ℕ) → read-row s ≡ Next o → o ≡ rule-size s
+pub ends : (s : List ℕ) (o : ℕ) → read-row s ≡ next o → o ≡ rule-size s
 unfolding read-row rule-size place Full
 ends s o h =
-    let i : place (Next o) ≤ rule-size s = subst (λ c. place c ≤ rule-size s) h
+    let i : place (next o) ≤ rule-size s = subst (λ c. place c ≤ rule-size s) h
     (pick-all (λ c. place c ≤ rule-size s) (holds (rule-size s) s) (in-parts (rule-size s) s (omega arith)) (omega arith)) in
-    let f : Full (rule-size s) (Next o) = subst (Full (rule-size s)) h
+    let f : Full (rule-size s) (next o) = subst (Full (rule-size s)) h
     (pick-all (Full (rule-size s)) (holds (rule-size s) s) (full-parts (rule-size s) s) tt) in
     omega arith
