@@ -1,6 +1,7 @@
 -- What a row that was read says, in the definition's terms.
 use mathlib.Core.Path.{_≡_}
 use mathlib.Core.List.{List}
+use Prim.Native.Nat.{ℕ}
 use Rattle.definition.specs.RuleRows.{source-count, target-at, end-target-at, others-at}
 use Rattle.definition.specs.RuleFields.{Cursor, next, wrong}
 use Rattle.rule_row_faults.specs.declared.RowRead.{RowRead}
