@@ -2,7 +2,7 @@
 use native.Mathlib.Omega.{arith}
 use borrow.Author.Tests.{le-leb, lt-leb}
 use Rattle.base.specs.Pick.{pick}
-use Rattle.rule_row_faults.specs.Reading.{read-end}
+use Rattle.definition.specs.RuleFields.{read-end}
 use Rattle.rule_row_faults.proofs.read_end.Statement.{statement}
 use Rattle.rule_row_faults.proofs.read_end.Tie as tie
 

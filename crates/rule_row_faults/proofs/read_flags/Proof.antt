@@ -3,8 +3,8 @@ use mathlib.Core.Path.{ap, _∙_}
 use mathlib.Core.Bool.{true, not}
 use native.Mathlib.Omega.{arith}
 use borrow.Author.Needs.{needs}
-use Rattle.rule_row_faults.specs.declared.Fault.the-variants.{Range}
-use Rattle.rule_row_faults.specs.Reading.{read-flags, field}
+use Rattle.definition.specs.Refusals.{refused-range}
+use Rattle.definition.specs.RuleFields.{read-flags, field}
 use Rattle.rule_row_faults.proofs.Inside.{onward, faulty, past-field}
 use Rattle.rule_row_faults.proofs.Chains.{by-test}
 use Rattle.rule_row_faults.proofs.read_flags.Statement.{statement}
@@ -27,8 +27,8 @@ unfolding read-flags
 returns c =
     let f = c .before .before in
     let z = f .before .before .before .args .z in
-    faulty _ _ _ _ (λ o. field z o 2 Range true)
-    (by-test _ _ _ _ _ _ _ (f .field .ensures) (ap not (f .before .flag .ensures))) (c .enum-told .given .1)
+    faulty _ _ (by-test _ _ _ _ _ _ _ (f .field .ensures) (ap not (f .before .flag .ensures))) _ _
+    (λ o. field z o 2 refused-range true) (c .enum-told .given .1)
 
 field-requires-2 : tie.Need-field-requires-2
 field-requires-2 c κs =
@@ -43,8 +43,8 @@ returns-2 c =
     let f = k .before .before in
     let z = f .before .before .before .args .z in
     c .field2 .ensures
-    ∙ onward _ _ _ (λ o. field z o 2 Range true)
-    (by-test _ _ _ _ _ _ _ (f .field .ensures) (ap not (f .before .flag .ensures))) (k .c .given .1)
+    ∙ onward _ _ (by-test _ _ _ _ _ _ _ (f .field .ensures) (ap not (f .before .flag .ensures))) _
+    (λ o. field z o 2 refused-range true) (k .c .given .1)
 
 pub read-flags-spec : {M : Type 1} → statement M
 read-flags-spec =

@@ -1,38 +1,24 @@
 -- `rule_row_faults::read_others`: a count, and as many texts.
-use mathlib.Core.Bool.{Bool}
 use Prim.Native.Nat.{ℕ}
 use native.Mathlib.Omega.{arith}
-use lib.Dec.{leb}
-use lib.ListN.{getD, drop, length-drop}
+use lib.ListN.{getD, drop}
 use borrow.Author.Needs.{needs}
 use denote.Ref.{now}
-use Rattle.rule_row_faults.specs.declared.Cursor.{Cursor}
-use Rattle.rule_row_faults.specs.Reading.{read-others, read-texts}
-use Rattle.rule_row_faults.proofs.Inside.{past-field}
-use Rattle.rule_row_faults.proofs.Chains.{count-past, count-faulty, count-onward}
+use Rattle.definition.specs.Limits.{most-alternatives}
+use Rattle.definition.specs.RuleFields.{Cursor, read-others, read-texts}
+use Rattle.rule_row_faults.proofs.Inside.{faulty, past-field}
+use Rattle.rule_row_faults.proofs.Chains.{up-to, counted}
 use Rattle.rule_row_faults.proofs.read_others.Statement.{statement}
 use Rattle.rule_row_faults.proofs.read_others.Tie as tie
 
-abbrev few : ℕ → Bool
-few n = leb n 8
+abbrev count : tie.Start → ℕ
+count t = getD (drop (t .args .row) (now (t .args .rules))) (t .args .o) 0
 
-abbrev body : tie.Start → ℕ → ℕ → Cursor
-body t = read-texts (t .args .z) (drop (t .args .row) (now (t .args .rules)))
+abbrev texts : tie.Start → ℕ → ℕ → Cursor
+texts t = read-texts (t .args .z) (drop (t .args .row) (now (t .args .rules)))
 
-returns : tie.Need-returns
-unfolding read-others
-returns c =
-    let t = c .before .before in
-    let a = t .args in
-    count-past _ _ few (body t) (getD (drop (a .row) (now (a .rules))) (a .o) 0) (omega arith)
-
-at-there-requires : tie.Need-at-there-requires
-at-there-requires c κs =
-    let a = c .before .before .args in
-    omega (arith, length-drop (a .row) (now (a .rules)))
-
-field-requires : tie.Need-field-requires
-field-requires c κs = search needs
+read-count-requires : tie.Need-read-count-requires
+read-count-requires c κs = search needs
 
 enum-known-c : tie.Need-enum-known-c
 enum-known-c c = search needs
@@ -40,40 +26,45 @@ enum-known-c c = search needs
 enum-told : tie.Need-enum-told
 enum-told c = search needs
 
-returns-2 : tie.Need-returns-2
+returns : tie.Need-returns
 unfolding read-others
-returns-2 c =
+returns c =
     let f = c .before .before in
-    count-faulty _ _ few (body (f .before .before .before .before)) _ _ (f .before .at-there .ensures .0) _
-    (f .field .ensures) _ _ (c .enum-told .given .1)
+    let t = f .before .before in
+    faulty _ _ (up-to _ _ (count t) most-alternatives _ (f .read-count .ensures)) _ _ (texts t (count t)) (c .enum-told .given .1)
 
-cast-read-texts : tie.Need-cast-read-texts
-cast-read-texts c = search needs
+at-requires : tie.Need-at-requires
+at-requires c κs = search needs
+
+cast-n : tie.Need-cast-n
+cast-n c = search needs
 
 read-texts-requires : tie.Need-read-texts-requires
 read-texts-requires c κs =
-    let f = c .before .before .before in
-    let h = past-field _ _ _ _ _ _ _ (f .field .ensures) (c .before .c .given .1) in
-    (omega arith, h, omega arith)
-
-returns-3 : tie.Need-returns-3
-unfolding read-others
-returns-3 c =
     let k = c .before .before in
     let f = k .before .before in
-    count-onward _ _ few (body (f .before .before .before .before)) _ _ (f .before .at-there .ensures .0) _
-    (f .field .ensures) _ _ (k .c .given .1) (c .read-texts .ensures)
+    let h = past-field _ _ _ _ _ _ _ (f .read-count .ensures) (k .c .given .1) in
+    (omega arith, h, omega arith)
+
+returns-2 : tie.Need-returns-2
+unfolding read-others
+returns-2 c =
+    let n = c .before in
+    let k = n .before .before in
+    let f = k .before .before in
+    let t = f .before .before in
+    counted _ _ _ (texts t) _ _ (n .at .ensures .0) _ _
+    (up-to _ _ (count t) most-alternatives _ (f .read-count .ensures)) (k .c .given .1) _ (c .read-texts .ensures)
 
 pub read-others-spec : {M : Type 1} → statement M
 read-others-spec =
     tie.close
     (tie.spec
-    returns
-    at-there-requires
-    field-requires
+    read-count-requires
     enum-known-c
     enum-told
-    returns-2
-    cast-read-texts
+    returns
+    at-requires
+    cast-n
     read-texts-requires
-    returns-3)
+    returns-2)

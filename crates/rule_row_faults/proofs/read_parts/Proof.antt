@@ -5,7 +5,7 @@ use native.Mathlib.Omega.{arith}
 use lib.ListN.{drop}
 use borrow.Author.Needs.{needs}
 use denote.Ref.{now}
-use Rattle.rule_row_faults.specs.Reading.{read-tail, read-parts}
+use Rattle.definition.specs.RuleFields.{read-tail, read-parts}
 use Rattle.rule_row_faults.proofs.Inside.{inside-at, inside-flags, inside-source, inside-codes}
 use Rattle.rule_row_faults.proofs.Chains.{in-first, in-second, in-third, past-third}
 use Rattle.rule_row_faults.proofs.read_parts.Statement.{statement}

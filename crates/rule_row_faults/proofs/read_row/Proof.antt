@@ -1,7 +1,8 @@
 -- `rule_row_faults::read_row`: the walk over its fields, with the places of its parts.
 use mathlib.Core.Path.{sym, ap, _∙_}
-use Rattle.rule_row_faults.specs.declared.Cursor.the-variants.{Next}
-use Rattle.rule_row_faults.specs.Row.{row-means, Parted}
+use Rattle.definition.specs.RuleFields.{next}
+use Rattle.rule_row_faults.specs.Kinds.{cursor-means}
+use Rattle.rule_row_faults.specs.Row.{Parted}
 use borrow.Author.Needs.{needs}
 use Rattle.rule_row_faults.proofs.read_row.Statement.{statement}
 use Rattle.rule_row_faults.proofs.read_row.Tie as tie
@@ -19,15 +20,18 @@ enum-known-fault : tie.Need-enum-known-fault
 enum-known-fault c = search needs
 
 returns : tie.Need-returns
-unfolding row-means Parted
+unfolding Parted
 returns c = let e = c .row-parts .ensures in (
-  ap Next (e .0) ∙ sym (c .before .before .size .given .1) ∙ c .before .before .before .before .walk-row .ensures,
+  ap next (e .0) ∙ sym (ap (λ x. cursor-means x) (c .before .before .size .given .1)) ∙ c .before .before .before .before .walk-row .ensures,
   (e .1, e .2, e .3, e .4),
 )
 
 returns-2 : tie.Need-returns-2
-unfolding row-means Parted
-returns-2 c = (sym (c .before .fault .given .1) ∙ c .before .before .before .walk-row .ensures, tt)
+unfolding Parted
+returns-2 c = (
+  sym (ap (λ x. cursor-means x) (c .before .fault .given .1)) ∙ c .before .before .before .walk-row .ensures,
+  tt,
+)
 
 pub read-row-spec : {M : Type 1} → statement M
 read-row-spec =

@@ -1,7 +1,7 @@
 -- `rule_row_faults::read_tail`: three parts and the end, each where the one before it ended.
 use native.Mathlib.Omega.{arith}
 use borrow.Author.Needs.{needs}
-use Rattle.rule_row_faults.specs.Reading.{read-tail}
+use Rattle.definition.specs.RuleFields.{read-tail}
 use Rattle.rule_row_faults.proofs.Chains.{text-by, past-text-if, in-first, in-second, in-third, past-third}
 use Rattle.rule_row_faults.proofs.read_tail.Statement.{statement}
 use Rattle.rule_row_faults.proofs.read_tail.Tie as tie

@@ -1,7 +1,7 @@
 -- `rule_row_faults::read_text_if`: by the flag.
 use borrow.Author.Needs.{needs}
 use Rattle.base.specs.Pick.{pick}
-use Rattle.rule_row_faults.specs.Reading.{read-text-if}
+use Rattle.definition.specs.RuleFields.{read-text-if}
 use Rattle.rule_row_faults.proofs.read_text_if.Statement.{statement}
 use Rattle.rule_row_faults.proofs.read_text_if.Tie as tie
 
