@@ -10,7 +10,7 @@ use Rattle.base.specs.Lists.{all}
 use Rattle.base.specs.Rows.{counted}
 use Rattle.definition.specs.Blocks.{small}
 use Rattle.definition.specs.RuleRows.{code-of}
-use Rattle.rule_row_faults.specs.Reading.{code-letters}
+use Rattle.definition.specs.RuleFields.{code-small}
 use Rattle.rule_row_test.specs.Threes.{threes-over, threes-other, threes-next}
 use Rattle.rule_row_test.proofs.all_codes.Statement.{statement}
 use Rattle.rule_row_test.proofs.all_codes.Tie as tie
@@ -41,7 +41,7 @@ loop-less : tie.Need-loop-less Inv-loop μ-loop
 loop-less c = omega arith
 
 loop-again : tie.Need-loop-again Inv-loop μ-loop
-unfolding code-letters
+unfolding code-small
 loop-again c =
     let l = c .before .before .before in
     let a = l .before .before .args in (
@@ -51,7 +51,7 @@ loop-again c =
     )
 
 returns : tie.Need-returns Inv-loop μ-loop
-unfolding code-letters
+unfolding code-small
 returns c =
     let l = c .before .before .before in
     let a = l .before .before .args in
