@@ -33,6 +33,17 @@ rules-means (Wrong k p) = some (refuse (fault-number k) p)
 unfoldable pub by-order : Text → List ℕ → ℕ → Option Refusal
 by-order old s at = pick (rises old (rule-source s)) none (some (refuse refused-order at))
 
+-- A field at fault lies in the table
+module _ (b : List ℕ) (at : ℕ) (r : RowRead) (e : row-means r ≡ read-row (drop at b)) (k : Fault) (o : ℕ) (q : r ≡ NotRead k o) where
+  found : read-row (drop at b) ≡ wrong (fault-number k) o
+  found = sym e ∙ ap row-means q
+
+  pub field-near : at ≤ length b → at + o ≤ length b
+  unfolding place
+  field-near l =
+      let i : o ≤ length (drop at b) = rw found at (field-inside (drop at b)) in
+      omega (arith, length-drop at b)
+
 -- What is wrong with a row, by what was read of it
 module _ (b : List ℕ) (at left : ℕ) (old : Text) where
   pub one-more : left ≡ 0 → some (refuse refused-rows at) ≡ row-fault (walk-at at left old b)
@@ -41,18 +52,8 @@ module _ (b : List ℕ) (at left : ℕ) (old : Text) where
   module _ (h : 0 < left) (r : RowRead) (e : row-means r ≡ read-row (drop at b)) where
     pub of-order : (p : RowParts) → r ≡ Parts p → by-order old (drop at b) at ≡ row-fault (walk-at at left old b)
     unfolding by-order
-    of-order p q = sym (turns.by-order (walk-at at left old b) h (p .size) (sym e ∙ ap row-means q) (rises old (rule-source (drop at b))) refl)
+    of-order p q =
+        sym (turns.by-order (walk-at at left old b) h (p .size) (sym e ∙ ap row-means q) (rises old (rule-source (drop at b))) refl)
 
-    module _ (k : Fault) (o : ℕ) (q : r ≡ NotRead k o) where
-      found : read-row (drop at b) ≡ wrong (fault-number k) o
-      found = sym e ∙ ap row-means q
-
-      pub of-field : some (refuse (fault-number k) (at + o)) ≡ row-fault (walk-at at left old b)
-      of-field = sym (turns.field-wrong (walk-at at left old b) h (fault-number k) o found)
-
-      -- its field lies in the table
-      pub field-near : at ≤ length b → at + o ≤ length b
-      unfolding place
-      field-near l =
-          let i : o ≤ length (drop at b) = rw found at (field-inside (drop at b)) in
-          omega (arith, length-drop at b)
+    pub of-field : (k : Fault) (o : ℕ) → r ≡ NotRead k o → some (refuse (fault-number k) (at + o)) ≡ row-fault (walk-at at left old b)
+    of-field k o q = sym (turns.field-wrong (walk-at at left old b) h (fault-number k) o (found b at r e k o q))

@@ -172,7 +172,10 @@ pub fn row_fault(rules: &[u8], at: usize, left: u32, old: usize, low: u32) -> Ru
     }
     match rule_row_faults::read_row(rules, at) {
         RowRead::Parts(_) => order_fault(rules, at, old, low),
-        RowRead::Wrong(fault, o) => RulesRead::Wrong(fault, at + o),
+        RowRead::Wrong(fault, o) => {
+            let place = at + o;
+            RulesRead::Wrong(fault, place)
+        }
     }
 }
 

@@ -24,21 +24,27 @@ first b at old low e = sym (rw (e, no-mark b old))
 compared : (b : List ℕ) (at old low : ℕ) → 0 < low → (x : Bool) → x ≡ rises (rule-source (drop old b)) (rule-source (drop at b))
     → pick x none (some (refuse refused-order at)) ≡ by-order (mark-at b old low) (drop at b) at
 unfolding by-order
-compared b at old low h x e = rw (mark-is b old low h, sym e) refl
+compared b at old low h x e = rw (mark-is b old low h, sym e)
 
 returns : tie.Need-returns
-returns c = first _ _ _ _ (omega arith)
+returns c = let a = c .before .before .args in first (now (a .rules)) (a .at) (a .old) (a .low) (omega arith)
 
 sources-rise-requires : tie.Need-sources-rise-requires
 sources-rise-requires c κs = search needs
 
 returns-2 : tie.Need-returns-2
 unfolding pick
-returns-2 c = compared _ _ _ _ (omega arith) true (cc)
+returns-2 c =
+    let k = c .before in
+    let a = k .before .before .before .args in
+    compared (now (a .rules)) (a .at) (a .old) (a .low) (omega arith) true (sym (c .if2 .taken) ∙ k .sources-rise .ensures)
 
 returns-3 : tie.Need-returns-3
 unfolding pick
-returns-3 c = compared _ _ _ _ (omega arith) false (cc)
+returns-3 c =
+    let k = c .before in
+    let a = k .before .before .before .args in
+    compared (now (a .rules)) (a .at) (a .old) (a .low) (omega arith) false (sym (c .if2 .left) ∙ k .sources-rise .ensures)
 
 pub order-fault-spec : {M : Type 1} → statement M
 order-fault-spec = tie.close (tie.spec returns sources-rise-requires returns-2 returns-3)
