@@ -5,8 +5,8 @@ use borrow.Author.Needs.{needs}
 use Rattle.jettyfig.proofs.of_rule_table.Statement.{statement}
 use Rattle.jettyfig.proofs.of_rule_table.Tie as tie
 
-enum-known-fault : tie.Need-enum-known-fault
-enum-known-fault c = search needs
+enum-known-read : tie.Need-enum-known-read
+enum-known-read c = search needs
 
 fault-number-requires : tie.Need-fault-number-requires
 fault-number-requires c κs = search needs
@@ -21,4 +21,4 @@ returns-2 : tie.Need-returns-2
 returns-2 c = cc
 
 pub of-rule-table-spec : {M : Type 1} → statement M
-of-rule-table-spec = tie.close (tie.spec enum-known-fault fault-number-requires enum-told returns returns-2)
+of-rule-table-spec = tie.close (tie.spec enum-known-read fault-number-requires enum-told returns returns-2)
