@@ -2,8 +2,7 @@
 use mathlib.Core.Path.{ap, _∙_}
 use native.Mathlib.Omega.{arith}
 use denote.Ref.{now}
-use Rattle.table_blocks.specs.Faults.{table-means}
-use Rattle.tables_vectors.specs.Given.{fault-of}
+use Rattle.tables_vectors.specs.Given.{judged-means, fault-of}
 use Rattle.tables_vectors.proofs.Cases.{fourth, by-answer}
 use borrow.Author.Needs.{needs}
 use Rattle.tables_vectors.proofs.is_right.Statement.{statement}
@@ -39,7 +38,7 @@ returns-2 c =
     let a = k .before .before .before .args in
     c .is-answer .ensures
     ∙ by-answer (now (a .input)) (a .kind) (a .at) (a .len) (omega arith)
-    (table-means (c .before .before .before .checked .result)) (c .before .before .byte .result) (c .before .three .result)
+    (judged-means (c .before .before .before .checked .result)) (c .before .before .byte .result) (c .before .three .result)
     (c .before .before .before .checked .ensures ∙ ap (fault-of (a .kind)) (k .part .ensures))
     (c .before .before .byte .ensures .0) (c .before .three .ensures .0)
 
