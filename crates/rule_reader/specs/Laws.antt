@@ -9,7 +9,7 @@ use native.Mathlib.Decide.{decLe}
 use native.Mathlib.Nat.{lt-of-not-le}
 use lib.ListN.{length, drop}
 use lib.Seq.{drop-drop}
-use Rattle.base.specs.Pick.{pick}
+use Rattle.base.specs.Pick.{pick, pick-all}
 use Rattle.base.specs.Rows.{rows, rows-nil, rows-cons}
 use Rattle.definition.specs.Limits.{most-rows}
 use Rattle.definition.specs.Refusals.{Refusal}
@@ -105,3 +105,17 @@ fault-from-there t f h e =
     let l = p .2 in
     let b = fault-behind t (p .0) h (p .1) in
     omega arith
+
+-- No more rows are counted than a table may have
+rights-few : (left : ℕ) (old : Text) (s : List ℕ) → rights left old s ≤ left
+unfolding rights
+rights-few zero old s = omega arith
+rights-few (suc left) old s = go (rule-right old s) refl (rights-few left (rule-source s) (drop (rule-size s) s))
+  where
+    go : (b : Bool) → rule-right old s ≡ b → rights left (rule-source s) (drop (rule-size s) s) ≤ left → rights (suc left) old s ≤ suc left
+    go true e h = let i = by-first old s left true e in omega arith
+    go false e h = let i = by-first old s left false e in omega arith
+
+pub few-rows : (t : List ℕ) → right-rows t ≤ most-rows
+unfolding right-rows
+few-rows t = pick-all (λ n. n ≤ most-rows) (headed version-1 t) (rights-few most-rows [] (drop head-bytes t)) (omega arith)
