@@ -7,8 +7,18 @@ ROOT = pathlib.Path(__file__).resolve().parents[2]
 sys.path.insert(0, str(ROOT / "tests" / "generate"))
 import sample
 
-# number, the kind in words, its place; rows that are right, where the row behind them begins; the lines of the rows that can be read
-Fault = collections.namedtuple("Fault", "table number kind place rows at listed")
+# what the programs call each number that refuses a rule table
+KINDS = {
+    20: "a length that does not fit",
+    21: "a flag or count out of its range",
+    22: "a source character or language code that is none",
+    23: "a byte of a target text that is not printable",
+    24: "a source below the one before it",
+    25: "a row too many",
+}
+
+# the number and its place; rows that are right, where the row behind them begins; the lines of the rows that can be read
+Fault = collections.namedtuple("Fault", "table number place rows at listed")
 
 # three rows behind the header, of 14 bytes the first two
 TABLE = sample.rules(("Ж", "ZH"), ("ж", "zh"), ("з", "z"))
@@ -27,39 +37,33 @@ def changed(at, byte):
     return TABLE[:SECOND + at] + bytes([byte]) + TABLE[SECOND + at + 1:]
 
 
-def faulty(number, kind, at, byte, place):
+def faulty(number, at, byte, place):
     """the second row can't be read"""
-    return Fault(changed(at, byte), number, kind, SECOND + place, 1, SECOND, FIRST_LINE)
+    return Fault(changed(at, byte), number, SECOND + place, 1, SECOND, FIRST_LINE)
 
 
 def too_many():
     """equal rows, one more than a table may have"""
     last = FIRST + MOST_ROWS * ROW
     lines = "".join('%d U+0416 "ZH" 20\n' % at for at in range(FIRST, last + 1, ROW))
-    return Fault(sample.block([sample.rule_row("Ж", "ZH")] * (MOST_ROWS + 1)), 25, "a row too many", last, MOST_ROWS, last, lines)
+    return Fault(sample.block([sample.rule_row("Ж", "ZH")] * (MOST_ROWS + 1)), 25, last, MOST_ROWS, last, lines)
 
-
-NO_LENGTH = "a length that does not fit"
-NO_RANGE = "a flag or count out of its range"
-NO_LETTER = "a source character or language code that is none"
-NO_BYTE = "a byte of a target text that is not printable"
-NO_ORDER = "a source below the one before it"
 
 FAULTS = [
     # the row runs past the table's end; it has no flags, or no count of alternatives; a byte is left over
-    faulty(20, NO_LENGTH, LENGTH, 200, 0),
-    faulty(20, NO_LENGTH, LENGTH, 0, FLAGS),
-    faulty(20, NO_LENGTH, LENGTH, ROW - 2 - 1, OTHERS),
-    faulty(20, NO_LENGTH, LENGTH, ROW - 2 + 1, ROW),
-    faulty(21, NO_RANGE, FLAGS, 0xA0, FLAGS),
-    faulty(21, NO_RANGE, COUNT, 0, COUNT),
-    faulty(21, NO_RANGE, TARGET, 65, TARGET),
-    faulty(21, NO_RANGE, OTHERS, 9, OTHERS),
-    faulty(22, NO_LETTER, CHARACTER, 0x11, CHARACTER),
-    faulty(22, NO_LETTER, CODES, 1, CODES + 1),
-    faulty(23, NO_BYTE, TEXT, 0x7F, TEXT),
-    faulty(23, NO_BYTE, TEXT + 1, 0x1F, TEXT + 1),
-    Fault(changed(LOWEST, 0x15), 24, NO_ORDER, SECOND, 1, SECOND, FIRST_LINE + SECOND_LINE.replace("36", "15") + THIRD_LINE),
+    faulty(20, LENGTH, 200, 0),
+    faulty(20, LENGTH, 0, FLAGS),
+    faulty(20, LENGTH, ROW - 2 - 1, OTHERS),
+    faulty(20, LENGTH, ROW - 2 + 1, ROW),
+    faulty(21, FLAGS, 0xA0, FLAGS),
+    faulty(21, COUNT, 0, COUNT),
+    faulty(21, TARGET, 65, TARGET),
+    faulty(21, OTHERS, 9, OTHERS),
+    faulty(22, CHARACTER, 0x11, CHARACTER),
+    faulty(22, CODES, 1, CODES + 1),
+    faulty(23, TEXT, 0x7F, TEXT),
+    faulty(23, TEXT + 1, 0x1F, TEXT + 1),
+    Fault(changed(LOWEST, 0x15), 24, SECOND, 1, SECOND, FIRST_LINE + SECOND_LINE.replace("36", "15") + THIRD_LINE),
     too_many(),
 ]
 

@@ -1,4 +1,4 @@
--- What the count of right rows says of a table: all of its rows, or how far its first fault is.
+-- What the count of right rows says of a table: all of its rows, or how far its first fault is; and that it is no large number.
 use mathlib.Core.Bool.{Bool, true, false}
 use mathlib.Core.Path.{_≡_, refl, sym, ap, _∙_}
 use mathlib.Core.List.{List, []}
@@ -98,9 +98,9 @@ module _ (t : List ℕ) (p : ℕ) where
       ∙ ap (λ b. past-rows t head-bytes (pick b (rights most-rows [] (drop head-bytes t)) 0)) (sym h)
 
 -- and a fault's place is not before it
-pub fault-from-there : (t : List ℕ) (f : Refusal) → headed version-1 t ≡ true → rule-fault t ≡ some f
+pub fault-not-before : (t : List ℕ) (f : Refusal) → headed version-1 t ≡ true → rule-fault t ≡ some f
     → past-rows t head-bytes (right-rows t) ≤ f .place
-fault-from-there t f h e =
+fault-not-before t f h e =
     let p = fault-placed t f e in
     let l = p .2 in
     let b = fault-behind t (p .0) h (p .1) in
