@@ -1,12 +1,12 @@
 // Lists the rows of the rule table on standard input through the reader: offset, source, target and flags, a line for each; then
-// how many rows are right, or the first fault.
+// how many rows are right, and the first fault where there is one.
 ghost use Prim.Native.Nat.{_<_};
 use libc::STDIN_FILENO;
 use libc::STDOUT_FILENO;
 use rule_reader::RowHere;
 use rule_row_faults::Fault;
 use rule_row_faults::RowParts;
-use table_blocks::TableRead;
+use rule_table_check::RulesRead;
 
 // The bit of a row's flags that says that it has a target.
 const TARGET_BIT: u32 = 5;
@@ -66,32 +66,14 @@ fn print_row(table: &[u8], at: usize, parts: RowParts) {
     print(b"\n");
 }
 
-// What a fault's kind means.
-fn print_kind(fault: Fault) {
-    match fault {
-        Fault::Length => print(b"a length that does not fit"),
-        Fault::Range => print(b"a number out of its range"),
-        Fault::Letter => print(b"a character or letter that is none"),
-        Fault::Byte => print(b"a byte of a text that is not printable"),
-    }
-}
-
-fn print_fault(fault: Fault, place: usize) {
-    print_kind(fault);
-    print(b" at ");
-    print_number(place);
-    print(b"\n");
-}
-
-// Lists what stands at an offset, and answers whether a row stood there.
+// Lists the row at an offset, and answers whether one stood there. What is wrong with it else is said at the end.
 fn list_row(table: &[u8], at: usize) -> bool {
     match rule_reader::read_at(table, at) {
         RowHere::Row(parts) => {
             print_row(table, at, parts);
             return true;
         }
-        RowHere::Wrong(fault, place) => {
-            print_fault(fault, place);
+        RowHere::Wrong(_, _) => {
             return false;
         }
         RowHere::End => {
@@ -110,18 +92,33 @@ fn list(table: &[u8]) {
     }
 }
 
-// How many rows are right, and where the first faulty one stands.
+// The first fault behind `rows` right rows: its kind, its place, and the row at `at`, in which it lies. No row stands before
+// `HEAD_BYTES`: a fault there is the header's.
+fn print_fault(rows: usize, at: usize, fault: Fault, place: usize) {
+    print_number(rows);
+    if place < table_blocks::HEAD_BYTES {
+        print(b" rows: the header is faulty\n");
+        return;
+    }
+    print(b" rows, then ");
+    rule_fault_words::print_fault(STDOUT_FILENO, fault);
+    print(b" at ");
+    print_number(place);
+    print(b", in the row at ");
+    print_number(at);
+    print(b"\n");
+}
+
+// How many rows are right, and the first fault.
 fn conclude(table: &[u8]) {
     let walked = rule_reader::walk_rules(table);
-    print_number(walked.rows);
     let read = walked.read;
     match read {
-        TableRead::Valid => print(b" rows\n"),
-        TableRead::Fault(at) => {
-            print(b" rows, then a faulty one at ");
-            print_number(at);
-            print(b"\n");
+        RulesRead::Valid => {
+            print_number(walked.rows);
+            print(b" rows\n");
         }
+        RulesRead::Wrong(fault, place) => print_fault(walked.rows, walked.at, fault, place),
     }
 }
 

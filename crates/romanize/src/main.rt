@@ -7,11 +7,14 @@ ghost use mathlib.Core.Path.{_≡_};
 ghost use Prim.Native.Nat.{_+_, _<_, _≤_};
 ghost use lib.ListN.{length};
 ghost use Rattle.io.specs.Counts.{Counts};
+ghost use Rattle.definition.specs.Limits.{most-rows};
 ghost use Rattle.romanize.specs.Arguments.{mode-of, is-dash, code-of, without-line-end};
 use jettyfig::Answer;
 use libc::STDERR_FILENO;
 use libc::STDIN_FILENO;
 use libc::STDOUT_FILENO;
+use rule_row_faults::Fault;
+use rule_table_check::RulesRead;
 
 // What an annotation is called, eight letters each: its number is its place.
 const NAMES: [u8; 120] =
@@ -190,17 +193,10 @@ fn print_output(mode: u8, written: &[u8]) {
     }
 }
 
-// What a refusal of mode, tables or code means, and what its place is.
+// What a refusal of mode, class table, vowel table or code means, and what its place is.
 fn say_given(number: u64) {
     if number == 1 {
         io::write_all(STDERR_FILENO, b"the mode is none of 0 to 3; place ");
-        return;
-    }
-    if number == 2 {
-        io::write_all(
-            STDERR_FILENO,
-            b"the rule table is faulty; offset of the first faulty row, 0 for the header: ",
-        );
         return;
     }
     if number == 3 {
@@ -261,25 +257,66 @@ fn say_room(number: u64) {
     io::write_all(STDERR_FILENO, b"the output is too short; bytes needed: ");
 }
 
-fn say_meaning(number: u64) {
+// What a refusal of anything but the rule table means, and its place.
+fn say_meaning(number: u64, place: u64) {
     if number < 6 {
         say_given(number);
-        return;
-    }
-    if number < 9 {
+    } else if number < 9 {
         say_text(number);
-        return;
+    } else {
+        say_room(number);
     }
-    say_room(number);
+    io::print_decimal(STDERR_FILENO, place);
 }
 
-// The line of a refusal: number, meaning and place.
-fn print_refusal(answer: Answer) {
+// An offset in the rule table, as those who make one count it.
+fn say_byte(at: usize) {
+    io::write_all(STDERR_FILENO, b" byte ");
+    io::print_decimal(STDERR_FILENO, at as u64);
+}
+
+// A fault of the rule table: its kind and place, and the row in which it lies, behind `rows` right ones. No row stands before
+// `HEAD_BYTES`: a fault there is the header's.
+fn say_fault(rows: usize, at: usize, fault: Fault, place: usize)
+    requires { ⌜ rows ≤ most-rows ⌝ }
+{
+    if place < table_blocks::HEAD_BYTES {
+        io::write_all(
+            STDERR_FILENO,
+            b"the rule table's header is faulty, or its length is not the file's",
+        );
+        return;
+    }
+    io::write_all(STDERR_FILENO, b"the rule table has ");
+    rule_fault_words::print_fault(STDERR_FILENO, fault);
+    io::write_all(STDERR_FILENO, b" at");
+    say_byte(place);
+    io::write_all(STDERR_FILENO, b", in row ");
+    io::print_decimal(STDERR_FILENO, rows as u64 + 1);
+    io::write_all(STDERR_FILENO, b", which begins at");
+    say_byte(at);
+}
+
+// What is wrong with the rule table. The call has said its number and place; the walk finds the row too.
+fn say_rules(rules: &[u8]) {
+    let walked = rule_reader::walk_rules(rules);
+    let read = walked.read;
+    match read {
+        RulesRead::Valid => {}
+        RulesRead::Wrong(fault, place) => say_fault(walked.rows, walked.at, fault, place),
+    }
+}
+
+// The line of a refusal: number, meaning and place. From `REFUSED_LENGTH` on it is the rule table's.
+fn print_refusal(answer: Answer, rules: &[u8]) {
     io::write_all(STDERR_FILENO, b"romanize: refusal ");
     io::print_decimal(STDERR_FILENO, answer.number);
     io::write_all(STDERR_FILENO, b": ");
-    say_meaning(answer.number);
-    io::print_decimal(STDERR_FILENO, answer.place);
+    if answer.number < rule_row_faults::REFUSED_LENGTH {
+        say_meaning(answer.number, answer.place);
+    } else {
+        say_rules(rules);
+    }
     io::write_all(STDERR_FILENO, b"\n");
 }
 
@@ -307,7 +344,7 @@ fn romanize<'a>(
         &mut out,
     );
     if answer.number != 0 {
-        print_refusal(answer);
+        print_refusal(answer, rules);
         return;
     }
     if answer.length < 16777216 {

@@ -5,20 +5,23 @@
 // inside, so that whoever calls them, as `walk_rules` does, needs no walk.
 ghost use mathlib.Core.Path.{_≡_};
 ghost use Prim.Native.Nat.{_-_};
-ghost use lib.ListN.{length, drop};
+ghost use lib.ListN.{length};
 ghost use Rattle.definition.specs.Blocks.{head-bytes};
-ghost use Rattle.definition.specs.RuleRows.{rule-right};
 ghost use Rattle.definition.specs.RuleFaults.{rule-fault};
-ghost use Rattle.table_blocks.specs.Faults.{table-means};
-ghost use Rattle.rule_table_check.specs.Marks.{mark-of};
-ghost use Rattle.rule_reader.specs.Rows.{row-here, next-row, right-rows};
+ghost use Rattle.rule_table_check.specs.Told.{rules-means};
+ghost use Rattle.rule_reader.specs.Rows.{here-means, row-here, next-row, past-rows, right-rows};
 use rule_row_faults::Fault;
 use rule_row_faults::RowParts;
 use rule_row_faults::RowRead;
-use table_blocks::TableRead;
+use rule_table_check::RulesRead;
 
 // Rows of a table at most (document 01).
-const MOST_ROWS: usize = table_blocks::MOST_ROWS as usize;
+const MOST_ROWS: u32 = table_blocks::MOST_ROWS;
+
+// The check of a row is told by 0 that it is the first, and by any other number that one comes before it.
+const FIRST: u32 = 0;
+
+const LATER: u32 = 1;
 
 // A rule table, and the offset of a row.
 pub struct RuleReader<'a> {
@@ -33,15 +36,17 @@ pub enum RowHere {
     End,
 }
 
-// What the walk over a table finds: how many rows are right one after another, and whether a fault follows them.
+// What the walk over a table finds: how many rows are right one after another, where the row behind them stands, and what is
+// wrong with it, if anything. A faulty header is a fault before any row.
 pub struct Walked {
     pub rows: usize,
-    pub read: TableRead,
+    pub at: usize,
+    pub read: RulesRead,
 }
 
 // What stands at an offset.
 pub fn row_at(table: &[u8], at: usize) -> RowHere
-    ensures { λ r. ⌜ r ≡ row-here (now (table .entry)) at ⌝ }
+    ensures { λ r. ⌜ here-means r ≡ row-here (now (table .entry)) at ⌝ }
 {
     if table.len() <= at {
         return RowHere::End;
@@ -88,7 +93,7 @@ pub fn first_row<'a>(table: &'a [u8]) -> RuleReader<'a>
 
 // The row at which a reader stands.
 pub fn row<'a>(r: RuleReader<'a>) -> RowHere
-    ensures { λ s. ⌜ s ≡ row-here (now (r .entry .table)) (r .entry .at) ⌝ }
+    ensures { λ s. ⌜ here-means s ≡ row-here (now (r .entry .table)) (r .entry .at) ⌝ }
 {
     row_at(r.table, r.at)
 }
@@ -119,7 +124,7 @@ pub fn start(table: &[u8]) -> usize
 
 // What a reader finds at an offset.
 pub fn read_at(table: &[u8], at: usize) -> RowHere
-    ensures { λ s. ⌜ s ≡ row-here (now (table .entry)) at ⌝ }
+    ensures { λ s. ⌜ here-means s ≡ row-here (now (table .entry)) at ⌝ }
 {
     row(RuleReader { table, at })
 }
@@ -131,63 +136,45 @@ pub fn step_from(table: &[u8], at: usize) -> usize
     past(RuleReader { table, at }).at
 }
 
-// Whether the row at `at` is right after the one at `old`, or as the first.
-fn is_right(table: &[u8], at: usize, old: usize, first: bool) -> bool
-    ensures { λ r. ⌜ r ≡ rule-right (mark-of (now (table .entry)) old first) (drop at (now (table .entry))) ⌝ }
-{
-    match read_at(table, at) {
-        RowHere::Row(_) => {
-            if first {
-                return true;
-            }
-            return rule_row::sources_rise(table, old, at);
-        }
-        RowHere::Wrong(_, _) => {
-            return false;
-        }
-        RowHere::End => {
-            return false;
-        }
-    }
-}
-
-// The whole table, row by row: the first fault, and how many rows are right before it. No more than `MOST_ROWS` rows, and sources
-// rise.
+// The whole table, row by row: the first fault, how many rows are right before it, and where the row behind them stands. No more
+// than `MOST_ROWS` rows, and sources rise.
 pub fn walk_rules(table: &[u8]) -> Walked
-    ensures { λ r. ⌜ (table-means (r .read) ≡ rule-fault (now (table .entry)))
-        × (r .rows ≡ right-rows (now (table .entry))) ⌝ }
+    ensures { λ r. ⌜ (rules-means (r .read) ≡ rule-fault (now (table .entry)))
+        × (r .rows ≡ right-rows (now (table .entry)))
+        × (r .at ≡ past-rows (now (table .entry)) head-bytes (right-rows (now (table .entry)))) ⌝ }
 {
     if table_blocks::headed(table) {
         let mut at = start(table);
-        let mut rows: usize = 0;
+        let mut rows: u32 = 0;
         let mut old = at;
-        let mut first = true;
+        let mut low = FIRST;
         while at < table.len() {
-            if rows == MOST_ROWS {
-                return Walked {
-                    rows,
-                    read: TableRead::Fault(at),
-                };
-            }
-            if is_right(table, at, old, first) {
-                old = at;
-                first = false;
-                at = step_from(table, at);
-                rows += 1;
-            } else {
-                return Walked {
-                    rows,
-                    read: TableRead::Fault(at),
-                };
+            let read = rule_table_check::row_fault(table, at, MOST_ROWS - rows, old, low);
+            match read {
+                RulesRead::Valid => {
+                    old = at;
+                    low = LATER;
+                    at = step_from(table, at);
+                    rows += 1;
+                }
+                RulesRead::Wrong(_, _) => {
+                    return Walked {
+                        rows: rows as usize,
+                        at,
+                        read,
+                    };
+                }
             }
         }
         return Walked {
-            rows,
-            read: TableRead::Valid,
+            rows: rows as usize,
+            at,
+            read: RulesRead::Valid,
         };
     }
     Walked {
         rows: 0,
-        read: TableRead::Fault(0),
+        at: table_blocks::HEAD_BYTES,
+        read: RulesRead::Wrong(Fault::Length, 0),
     }
 }

@@ -2,7 +2,7 @@
 use native.Mathlib.Omega.{arith}
 use denote.Ref.{now}
 use borrow.Author.Needs.{needs}
-use Rattle.rule_reader.specs.Here.{at-end, a-row, a-fault, fault-near}
+use Rattle.rule_reader.specs.Here.{at-end, row-read, fault-read, fault-near}
 use Rattle.rule_reader.proofs.row_at.Statement.{statement}
 use Rattle.rule_reader.proofs.row_at.Tie as tie
 
@@ -28,13 +28,13 @@ returns-2 : tie.Need-returns-2
 returns-2 c =
     let r = c .before .before .before in
     let a = r .before .before .before .args in
-    a-row (now (a .table)) (a .at) (omega arith) _ (r .read-row .ensures .0) (r .read-row .ensures .1) _ (c .before .parts .given .1)
+    row-read (now (a .table)) (a .at) (omega arith) _ (r .read-row .ensures .0) (r .read-row .ensures .1) _ (c .before .parts .given .1)
 
 returns-3 : tie.Need-returns-3
 returns-3 c =
     let r = c .before .before .before in
     let a = r .before .before .before .args in
-    a-fault (now (a .table)) (a .at) (omega arith) _ (r .read-row .ensures .0) _ _ (c .before .fault .given .1)
+    fault-read (now (a .table)) (a .at) (omega arith) _ (r .read-row .ensures .0) _ _ (c .before .fault .given .1)
 
 pub row-at-spec : {M : Type 1} → statement M
 row-at-spec =
