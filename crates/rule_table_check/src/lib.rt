@@ -1,11 +1,16 @@
 // The check of the rule table: what is wrong with it first and where, or nothing.
 ghost use mathlib.Core.Path.{_≡_};
+ghost use mathlib.Core.Bool.{not};
 ghost use Prim.Native.Nat.{_<_, _≤_};
+ghost use lib.Dec.{eqb};
 ghost use lib.ListN.{length, drop};
-ghost use Rattle.definition.specs.RuleRows.{rule-right};
-ghost use Rattle.definition.specs.RuleFaults.{row-fault, rule-fault};
+ghost use Rattle.base.specs.Lists.{or-else};
+ghost use Rattle.definition.specs.RuleRows.{rule-source, rises, rule-right};
+ghost use Rattle.definition.specs.RuleFields.{read-row};
+ghost use Rattle.definition.specs.RuleFaults.{field-fault, row-fault, rule-fault};
+ghost use Rattle.definition.specs.Refusals.{when, refused-rows, refused-order};
 ghost use Rattle.definition.specs.Checking.{walk-at};
-ghost use Rattle.rule_table_check.specs.Told.{rules-means, by-order};
+ghost use Rattle.rule_table_check.specs.Told.{rules-means};
 ghost use Rattle.rule_table_check.specs.Marks.{mark-at, Rising, Past};
 ghost use Rattle.rule_table_check.specs.Walks.{Stands};
 ghost use Rattle.rule_table_check.specs.Plain.{Plain};
@@ -149,9 +154,43 @@ fn past_rows(rules: &[u8], at: usize, most: u32, old: usize, low: u32) -> Walk
     }
 }
 
-// Whether the row at `at` rises over that at `old`, or is the first, where `low` is 0.
+// The first of two answers that tells of a fault.
+fn first_of(a: RulesRead, b: RulesRead) -> RulesRead
+    ensures { λ r. ⌜ rules-means r ≡ or-else (rules-means a) (rules-means b) ⌝ }
+{
+    match a {
+        RulesRead::Valid => b,
+        RulesRead::Wrong(_, _) => a,
+    }
+}
+
+// Whether the row at `at` is one too many, where `left` more may come.
+fn rows_fault(at: usize, left: u32) -> RulesRead
+    ensures { λ r. ⌜ rules-means r ≡ when (eqb left 0) refused-rows at ⌝ }
+{
+    if left == 0 {
+        return RulesRead::Wrong(Fault::Rows, at);
+    }
+    RulesRead::Valid
+}
+
+// The first field of the row at `at` that is faulty.
+fn fields_fault(rules: &[u8], at: usize) -> RulesRead
+    requires { ⌜ at ≤ length (now rules) ⌝ }
+    ensures { λ r. ⌜ rules-means r ≡ field-fault at (read-row (drop at (now (rules .entry)))) ⌝ }
+{
+    match rule_row_faults::read_row(rules, at) {
+        RowRead::Parts(_) => RulesRead::Valid,
+        RowRead::Wrong(fault, o) => {
+            let place = at + o;
+            RulesRead::Wrong(fault, place)
+        }
+    }
+}
+
+// Whether the row at `at` rises over that at `old`; where `low` is 0 it is the first, and does.
 fn order_fault(rules: &[u8], at: usize, old: usize, low: u32) -> RulesRead
-    ensures { λ r. ⌜ rules-means r ≡ by-order (mark-at (now (rules .entry)) old low) (drop at (now (rules .entry))) at ⌝ }
+    ensures { λ r. ⌜ rules-means r ≡ when (not (rises (mark-at (now (rules .entry)) old low) (rule-source (drop at (now (rules .entry)))))) refused-order at ⌝ }
 {
     if low == 0 {
         return RulesRead::Valid;
@@ -162,21 +201,16 @@ fn order_fault(rules: &[u8], at: usize, old: usize, low: u32) -> RulesRead
     RulesRead::Wrong(Fault::Order, at)
 }
 
-// What is wrong with the row at `at`, after the one at `old`, if anything: that it is one too many, its fields, or its order.
+// What is wrong with the row at `at`, after the one at `old`, if anything: first that it is one too many, then its fields, and
+// last its order.
 pub fn row_fault(rules: &[u8], at: usize, left: u32, old: usize, low: u32) -> RulesRead
     requires { ⌜ at ≤ length (now rules) ⌝ }
     ensures { λ r. ⌜ rules-means r ≡ row-fault (walk-at at left (mark-at (now (rules .entry)) old low) (now (rules .entry))) ⌝ }
 {
-    if left == 0 {
-        return RulesRead::Wrong(Fault::Rows, at);
-    }
-    match rule_row_faults::read_row(rules, at) {
-        RowRead::Parts(_) => order_fault(rules, at, old, low),
-        RowRead::Wrong(fault, o) => {
-            let place = at + o;
-            RulesRead::Wrong(fault, place)
-        }
-    }
+    let rows = rows_fault(at, left);
+    let fields = fields_fault(rules, at);
+    let order = order_fault(rules, at, old, low);
+    first_of(rows, first_of(fields, order))
 }
 
 // What is wrong with a rule table first. No more than `MOST_ROWS` rows, and sources rise. The rows are walked in two halves: a

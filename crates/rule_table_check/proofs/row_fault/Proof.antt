@@ -1,51 +1,65 @@
--- `rule_table_check::row_fault`: one row too many, a field at fault, or what the order says.
-use mathlib.Core.Path.{_∙_}
-use native.Mathlib.Omega.{arith}
+-- `rule_table_check::row_fault`: the first of three answers, in the definition's order.
+use mathlib.Core.Path.{_≡_, ap, _∙_, sym}
+use mathlib.Core.Bool.{not}
+use mathlib.Core.List.{[], _∷_}
+use mathlib.Core.Option.{Option}
+use lib.Dec.{eqb}
 use borrow.Author.Needs.{needs}
 use denote.Ref.{now}
+use Rattle.base.specs.Lists.{or-else, first-of}
+use Rattle.base.specs.ListLaws.{first-only}
+use Rattle.definition.specs.Refusals.{Refusal, when, refused-rows, refused-order}
+use Rattle.definition.specs.Texts.{Text}
+use Rattle.definition.specs.Blocks.{Walk}
+use Rattle.definition.specs.RuleRows.{rule-source, rises}
+use Rattle.definition.specs.RuleFields.{read-row}
+use Rattle.definition.specs.RuleFaults.{field-fault, row-fault}
+use Rattle.definition.specs.Checking.{walk-at}
 use Rattle.rule_table_check.specs.Marks.{mark-at}
-use Rattle.rule_table_check.specs.Told.{one-more, of-order, of-field, field-near}
 use Rattle.rule_table_check.proofs.row_fault.Statement.{statement}
 use Rattle.rule_table_check.proofs.row_fault.Tie as tie
 
-returns : tie.Need-returns
-returns c = one-more _ _ _ _ (omega arith)
+-- the first that there is of three
+of-three : (n f o : Option Refusal) → or-else n (or-else f o) ≡ first-of (n ∷ f ∷ o ∷ [])
+unfolding first-of
+of-three n f o = ap (λ y. or-else n (or-else f y)) (sym (first-only o))
 
-read-row-requires : tie.Need-read-row-requires
-read-row-requires c κs = search needs
+in-order : (x : Walk Text) (n f o m r : Option Refusal) → n ≡ when (eqb (x .left) 0) refused-rows (x .at)
+    → f ≡ field-fault (x .at) (read-row (x .rest)) → o ≡ when (not (rises (x .mark) (rule-source (x .rest)))) refused-order (x .at)
+    → m ≡ or-else f o → r ≡ or-else n m → r ≡ row-fault x
+unfolding row-fault
+in-order x n f o m r a b c d e = e ∙ ap (or-else n) d ∙ of-three n f o ∙ rw (a, b, c)
 
-enum-told : tie.Need-enum-told
-enum-told c = search needs
+rows-fault-requires : tie.Need-rows-fault-requires
+rows-fault-requires c κs = search needs
+
+fields-fault-requires : tie.Need-fields-fault-requires
+fields-fault-requires c κs = search needs
 
 order-fault-requires : tie.Need-order-fault-requires
 order-fault-requires c κs = search needs
 
-enum-known-fault : tie.Need-enum-known-fault
-enum-known-fault c = search needs
+first-of-requires : tie.Need-first-of-requires
+first-of-requires c κs = search needs
 
-add-place : tie.Need-add-place
-add-place c =
-    let k = c .before .before .before in
-    let a = k .before .before .before .args in
-    let g = c .before .fault .given in
-    let l = field-near (now (a .rules)) (a .at) (k .read-row .result) (k .read-row .ensures .0) (g .0 .0) (g .0 .1 .0) (g .1) (omega arith) in
-    omega arith
+first-of-requires-2 : tie.Need-first-of-requires-2
+first-of-requires-2 c κs = search needs
 
-returns-2 : tie.Need-returns-2
-returns-2 c =
-    let k = c .before .before .before in
-    let a = k .before .before .before .args in
-    let g = c .before .enum-told .given in
-    c .order-fault .ensures
-    ∙ of-order (now (a .rules)) (a .at) (a .left) (mark-at (now (a .rules)) (a .old) (a .low)) (omega arith) (k .read-row .result) (k .read-row .ensures .0) (g .0 .0) (g .1)
-
-returns-3 : tie.Need-returns-3
-returns-3 c =
-    let k = c .before .before .before in
-    let a = k .before .before .before .args in
-    let g = c .before .fault .given in
-    of-field (now (a .rules)) (a .at) (a .left) (mark-at (now (a .rules)) (a .old) (a .low)) (omega arith) (k .read-row .result) (k .read-row .ensures .0)
-    (g .0 .0) (g .0 .1 .0) (g .1)
+returns : tie.Need-returns
+returns c =
+    let o = c .before .before in
+    let f = o .before in
+    let n = f .before in
+    let a = n .before .before .args in
+    in-order (walk-at (a .at) (a .left) (mark-at (now (a .rules)) (a .old) (a .low)) (now (a .rules))) _ _ _ _ _ (n .rows-fault .ensures) (f .fields-fault .ensures) (o .order-fault .ensures) (c .before .first-of .ensures) (c .first-of2 .ensures)
 
 pub row-fault-spec : {M : Type 1} → statement M
-row-fault-spec = tie.close (tie.spec returns read-row-requires enum-told order-fault-requires enum-known-fault add-place returns-2 returns-3)
+row-fault-spec =
+    tie.close
+    (tie.spec
+    rows-fault-requires
+    fields-fault-requires
+    order-fault-requires
+    first-of-requires
+    first-of-requires-2
+    returns)
