@@ -18,7 +18,7 @@ use Rattle.definition.specs.RuleFields.{Cursor, next, wrong, read-row}
 use Rattle.definition.specs.RuleFaults.{row-fault, rule-fault}
 use Rattle.definition.specs.BlockTurns.{fine, offset-tells, none-found, one-found, fault-next, fault-here, found-at, fault-none, fault-sound, fault-headed}
 use Rattle.definition.specs.FieldsWithin.{place, field-inside}
-use Rattle.definition.specs.RuleTurns.{rule-moves, row-tells, too-many, field-wrong, by-order}
+use Rattle.definition.specs.RuleTurns.{rule-moves, row-tells, found-ind}
 
 -- The first row that is not right after the one before it, or is one too many: its offset, 0 for the header
 abbrev pub first-row : List ℕ → Option ℕ
@@ -51,31 +51,17 @@ pub record Near (x : Walk Text) (f : Refusal) : Type 0 where
 same : {A : Type 0} {x y : A} → some x ≡ some y → x ≡ y
 same e = cc
 
-module _ (x : Walk Text) (f : Refusal) (e : row-fault x ≡ some f) where
-  at-place : (p : ℕ) (k : ℕ) → row-fault x ≡ some (refuse k p) → f .place ≡ p
-  at-place p k h = sym (ap (λ (r : Refusal). r .place) (same (sym h ∙ e)))
-
-  found-near : Near x f
-  unfolding pick place
-  found-near = go (x .left) refl
-    where
-      at-start : (k : ℕ) → row-fault x ≡ some (refuse k (x .at)) → Near x f
-      at-start k h = let p = at-place (x .at) k h in record { behind = omega arith; inside = omega arith }
-
-      by-order-found : 0 < x .left → (o : ℕ) → read-row (x .rest) ≡ next o → (b : Bool) → rises (x .mark) (rule-source (x .rest)) ≡ b → Near x f
-      by-order-found h o p true r = absurd (let n = by-order x h o p true r in let w : _≡_ {A = ℕ} 0 1 = cc in omega arith)
-      by-order-found h o p false r = at-start refused-order (by-order x h o p false r)
-
-      by-fields : 0 < x .left → (c : Cursor) → read-row (x .rest) ≡ c → Near x f
-      by-fields h (next o) p = by-order-found h o p (rises (x .mark) (rule-source (x .rest))) refl
-      by-fields h (wrong k o) p =
-          let i : o ≤ length (x .rest) = rw p at (field-inside (x .rest)) in
-          let q = at-place (x .at + o) k (field-wrong x h k o p) in
-          record { behind = omega arith; inside = omega arith }
-
-      go : (n : ℕ) → x .left ≡ n → Near x f
-      go zero p = at-start _ (too-many x p)
-      go (suc n) p = by-fields (omega arith) (read-row (x .rest)) refl
+found-near : (x : Walk Text) (f : Refusal) → row-fault x ≡ some f → Near x f
+unfolding place
+found-near x f e =
+    found-ind x (Near x) at-start
+    (λ k o p.
+    let i : o ≤ length (x .rest) = rw p at (field-inside (x .rest)) in
+    record { behind = omega arith; inside = omega arith })
+    at-start f e
+  where
+    at-start : {k : ℕ} → Near x (refuse k (x .at))
+    at-start = record { behind = omega arith; inside = omega arith }
 
 -- A fault lies in the first faulty row, and in the table or at its end
 module _ (b : List ℕ) (f : Refusal) where

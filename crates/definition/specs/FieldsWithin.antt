@@ -1,4 +1,4 @@
--- The fields of a row lie in it: a fault's offset is at most the row's size, and a row that is read ends at its size.
+-- The fields of a row lie in it: where the walk over them stands is at most the row's size, and a row that is read ends at its size.
 use mathlib.Core.Bool.{Bool}
 use mathlib.Core.Path.{_≡_, subst}
 use mathlib.Core.List.{List}
@@ -20,7 +20,7 @@ place (wrong k o) = o
 
 module _ (z : ℕ) where
   -- not past the row's end
-  abbrev In : Cursor → Type 0
+  abbrev pub In : Cursor → Type 0
   In c = place c ≤ z
 
   -- and not before it, where all was read
@@ -38,7 +38,7 @@ module _ (z : ℕ) where
   full-then (next o) f g = g o
   full-then (wrong k o) f g = tt
 
-  in-field : (o n : ℕ) (k : ℕ) (ok : Bool) → o ≤ z → In (field z o n k ok)
+  pub in-field : (o n : ℕ) (k : ℕ) (ok : Bool) → o ≤ z → In (field z o n k ok)
   unfolding field place
   in-field o n k ok h = pick-ind In (leb (o + n) z) _ _ (λ e. pick-all In ok (leb-true (o + n) z e) h) (λ e. h)
 
@@ -50,7 +50,7 @@ module _ (z : ℕ) where
         in-then (field z o size k (q (drop o s))) (fields q size k z s n) (in-field o size k (q (drop o s)) h)
         (λ p l. in-fields q size k n p l)
 
-    in-text : (o : ℕ) → o ≤ z → In (read-text z s o)
+    pub in-text : (o : ℕ) → o ≤ z → In (read-text z s o)
     unfolding read-text
     in-text o h = in-then _ _ (in-field o 1 _ _ h) (λ p l. in-fields _ 1 _ (getD s o 0) p l)
 
@@ -59,7 +59,7 @@ module _ (z : ℕ) where
     in-texts zero o h = h
     in-texts (suc n) o h = in-then (read-text z s o) (read-texts z s n) (in-text o h) (λ p l. in-texts n p l)
 
-    in-text-if : (b : Bool) (o : ℕ) → o ≤ z → In (read-text-if b z s o)
+    pub in-text-if : (b : Bool) (o : ℕ) → o ≤ z → In (read-text-if b z s o)
     unfolding read-text-if place
     in-text-if b o h = pick-all In b (in-text o h) h
 
@@ -82,12 +82,22 @@ module _ (z : ℕ) where
     unfolding read-tail
     full-tail o = full-then _ _ (λ o. full-then _ _ (λ o. full-then _ _ (λ o. full-end o)))
 
+    pub in-flags : 2 ≤ z → In (read-flags z s)
+    unfolding read-flags
+    in-flags h = in-then _ _ (in-field 2 1 _ _ h) (λ p l. in-field p 2 _ _ l)
+
+    pub in-source : (o : ℕ) → o ≤ z → In (read-source z s o)
+    unfolding read-source
+    in-source o h = in-then _ _ (in-field o 1 _ _ h) (λ p l. in-fields _ 3 _ (getD s o 0) p l)
+
+    pub in-codes : (o : ℕ) → o ≤ z → In (read-codes z s o)
+    unfolding read-codes
+    in-codes o h = in-then _ _ (in-field o 1 _ _ h) (λ p l. in-fields _ 3 _ (getD s o 0) p l)
+
     in-parts : 2 ≤ z → In (read-parts z s)
-    unfolding read-parts read-flags read-source read-codes
+    unfolding read-parts
     in-parts h =
-        in-then _ _ (in-then _ _ (in-field 2 1 _ _ h) (λ p l. in-field p 2 _ _ l)) (λ o h.
-        in-then _ _ (in-then _ _ (in-field o 1 _ _ h) (λ p l. in-fields _ 3 _ (getD s o 0) p l)) (λ o h.
-        in-then _ _ (in-then _ _ (in-field o 1 _ _ h) (λ p l. in-fields _ 3 _ (getD s o 0) p l)) (λ o h. in-tail o h)))
+        in-then _ _ (in-flags h) (λ o h. in-then _ _ (in-source o h) (λ o h. in-then _ _ (in-codes o h) (λ o h. in-tail o h)))
 
     full-parts : Full (read-parts z s)
     unfolding read-parts

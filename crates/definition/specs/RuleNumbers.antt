@@ -16,7 +16,7 @@ use Rattle.definition.specs.RuleFields.{Cursor, next, wrong, and-then, f
 use Rattle.definition.specs.RuleFields.{read-codes, read-others, read-end, read-tail, read-parts, read-row}
 use Rattle.definition.specs.RuleFaults.{row-fault, rule-fault}
 use Rattle.definition.specs.BlockTurns.{found-at}
-use Rattle.definition.specs.RuleTurns.{rule-moves, too-many, field-wrong, by-order}
+use Rattle.definition.specs.RuleTurns.{rule-moves, found-ind}
 
 -- `Q` holds of each of the six
 pub record Six (Q : ℕ → Type 0) : Type 0 where
@@ -84,25 +84,10 @@ module _ (Q : ℕ → Type 0) (six : Six Q) where
   known-row s = pick-all Known _ (known-parts (rule-size s) s) (six .of-length)
 
   -- the number of what is found of a row
-  module _ (x : Walk Text) (f : Refusal) (e : row-fault x ≡ some f) where
-    as-found : (k p : ℕ) → row-fault x ≡ some (refuse k p) → Q k → Q (f .number)
-    as-found k p h q = subst Q (let i : refuse k p ≡ f = cc in ap (λ (r : Refusal). r .number) i) q
-
-    row-number : Q (f .number)
-    unfolding pick Known
-    row-number = go (x .left) refl
-      where
-        by-rise : 0 < x .left → (o : ℕ) → read-row (x .rest) ≡ next o → (b : Bool) → rises (x .mark) (rule-source (x .rest)) ≡ b → Q (f .number)
-        by-rise h o p true r = absurd (let n = by-order x h o p true r in let w : _≡_ {A = ℕ} 0 1 = cc in omega arith)
-        by-rise h o p false r = as-found _ _ (by-order x h o p false r) (six .of-order)
-
-        by-fields : 0 < x .left → (c : Cursor) → read-row (x .rest) ≡ c → Q (f .number)
-        by-fields h (next o) p = by-rise h o p (rises (x .mark) (rule-source (x .rest))) refl
-        by-fields h (wrong k o) p = as-found _ _ (field-wrong x h k o p) (rw p at (known-row (x .rest)))
-
-        go : (n : ℕ) → x .left ≡ n → Q (f .number)
-        go zero p = as-found _ _ (too-many x p) (six .of-rows)
-        go (suc n) p = by-fields (omega arith) (read-row (x .rest)) refl
+  row-number : (x : Walk Text) (f : Refusal) → row-fault x ≡ some f → Q (f .number)
+  unfolding Known
+  row-number x =
+      found-ind x (λ f. Q (f .number)) (six .of-rows) (λ k o p. rw p at (known-row (x .rest))) (six .of-order)
 
   -- and of a table's fault
   pub fault-number : (b : List ℕ) (f : Refusal) → rule-fault b ≡ some f → Q (f .number)

@@ -1,6 +1,6 @@
 -- A rule table checked row by row: what is found of a row, case by case, and that nothing is found just where it is right.
 use mathlib.Core.Bool.{Bool, true, false, not, _&&_, true≢false}
-use mathlib.Core.Path.{_≡_, refl, sym, ap, _∙_}
+use mathlib.Core.Path.{_≡_, refl, sym, ap, _∙_, subst}
 use mathlib.Core.List.{List, [], _∷_}
 use mathlib.Core.Option.{Option, none, some}
 use Prim.Native.Nat.{ℕ, zero, suc, _+_, _-_, _≤_, _<_}
@@ -44,8 +44,30 @@ module _ (x : Walk Text) where
     by-order o e true r = rw (ne-eqb (x .left) 0 (λ z. omega arith), e, r)
     by-order o e false r = rw (ne-eqb (x .left) 0 (λ z. omega arith), e, r)
 
+  -- so what holds of a row too many, of each faulty field and of the order holds of whatever is found
+  pub found-ind : (P : Refusal → Type 0) → P (refuse refused-rows (x .at))
+      → ((k o : ℕ) → read-row (x .rest) ≡ wrong k o → P (refuse k (x .at + o))) → P (refuse refused-order (x .at))
+      → (f : Refusal) → row-fault x ≡ some f → P f
+  unfolding pick
+  found-ind P rows fields order f e = go (x .left) refl
+    where
+      is : (g : Refusal) → row-fault x ≡ some g → P g → P f
+      is g h p = subst P (let i : g ≡ f = cc in i) p
+
+      by-rise : 0 < x .left → (o : ℕ) → read-row (x .rest) ≡ next o → (b : Bool) → rises (x .mark) (rule-source (x .rest)) ≡ b → P f
+      by-rise h o p true r = absurd (let n = by-order h o p true r in let w : _≡_ {A = ℕ} 0 1 = cc in omega arith)
+      by-rise h o p false r = is _ (by-order h o p false r) order
+
+      by-fields : 0 < x .left → (c : Cursor) → read-row (x .rest) ≡ c → P f
+      by-fields h (next o) p = by-rise h o p (rises (x .mark) (rule-source (x .rest))) refl
+      by-fields h (wrong k o) p = is _ (field-wrong h k o p) (fields k o p)
+
+      go : (n : ℕ) → x .left ≡ n → P f
+      go zero p = is _ (too-many p) rows
+      go (suc n) p = by-fields (omega arith) (read-row (x .rest)) refl
+
   -- whether it is right, by its fields and its order
-  fine-by : (c : Cursor) → read-row (x .rest) ≡ c → 0 < x .left
+  pub fine-by : (c : Cursor) → read-row (x .rest) ≡ c → 0 < x .left
       → fine rule-right x ≡ (rightly c && rises (x .mark) (rule-source (x .rest)))
   fine-by c e h = rw (lt-ltb 0 (x .left) h) (row-rightly (x .mark) (x .rest) ∙ ap (λ d. rightly d && rises (x .mark) (rule-source (x .rest))) e)
 
@@ -104,17 +126,7 @@ module _ (b : List ℕ) where
           (row-tells .nothing (walk-at at left old b) (rw (lt-ltb 0 left k) (sym e)))
 
       -- what is found of a row that is not right, or of one too many, is found of the table
-      rules-halted : fine rule-right (walk-at at left old b) ≡ false → row-fault (walk-at at left old b) ≡ rules-from at left old b
+      pub rules-halted : fine rule-right (walk-at at left old b) ≡ false → row-fault (walk-at at left old b) ≡ rules-from at left old b
       rules-halted e =
           let s = row-tells .something (walk-at at left old b) e in
           s .1 ∙ halted rule-size rule-source row-fault rule-moves b at left old h (s .0) (s .1)
-
-      pub rules-spent : left ≡ 0 → row-fault (walk-at at left old b) ≡ rules-from at left old b
-      rules-spent e = rules-halted (rw (le-ltb 0 left (omega arith)) refl)
-
-      pub rules-wrong : false ≡ rule-right old (drop at b) → row-fault (walk-at at left old b) ≡ rules-from at left old b
-      rules-wrong e = rules-halted (go (ltb 0 left) (rule-right old (drop at b)) (sym e))
-        where
-          go : (c d : Bool) → d ≡ false → (c && d) ≡ false
-          go true d f = f
-          go false d f = refl

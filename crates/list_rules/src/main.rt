@@ -92,6 +92,13 @@ fn list(table: &[u8]) {
     }
 }
 
+// What a fault is called.
+fn print_kind(fault: Fault) {
+    let words = rule_fault_words::fault_words(fault);
+    let bytes = words.bytes;
+    print(lent_bytes::part_or_none(&bytes, 0, words.len));
+}
+
 // The first fault behind `rows` right rows: its kind, its place, and the row at `at`, in which it lies. No row stands before
 // `HEAD_BYTES`: a fault there is the header's.
 fn print_fault(rows: usize, at: usize, fault: Fault, place: usize) {
@@ -101,7 +108,7 @@ fn print_fault(rows: usize, at: usize, fault: Fault, place: usize) {
         return;
     }
     print(b" rows, then ");
-    rule_fault_words::print_fault(STDOUT_FILENO, fault);
+    print_kind(fault);
     print(b" at ");
     print_number(place);
     print(b", in the row at ");

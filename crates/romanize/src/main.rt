@@ -275,6 +275,16 @@ fn say_byte(at: usize) {
     io::print_decimal(STDERR_FILENO, at as u64);
 }
 
+// What a fault of the rule table is called.
+fn say_kind(fault: Fault) {
+    let words = rule_fault_words::fault_words(fault);
+    let bytes = words.bytes;
+    io::write_all(
+        STDERR_FILENO,
+        lent_bytes::part_or_none(&bytes, 0, words.len),
+    );
+}
+
 // A fault of the rule table: its kind and place, and the row in which it lies, behind `rows` right ones. No row stands before
 // `HEAD_BYTES`: a fault there is the header's.
 fn say_fault(rows: usize, at: usize, fault: Fault, place: usize)
@@ -288,7 +298,7 @@ fn say_fault(rows: usize, at: usize, fault: Fault, place: usize)
         return;
     }
     io::write_all(STDERR_FILENO, b"the rule table has ");
-    rule_fault_words::print_fault(STDERR_FILENO, fault);
+    say_kind(fault);
     io::write_all(STDERR_FILENO, b" at");
     say_byte(place);
     io::write_all(STDERR_FILENO, b", in row ");

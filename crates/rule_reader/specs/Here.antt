@@ -11,8 +11,8 @@ use Rattle.definition.specs.Texts.{Text}
 use Rattle.definition.specs.Refusals.{refuse}
 use Rattle.definition.specs.RuleRows.{rule-size, rule-right, source-count, target-at, end-target-at, others-at}
 use Rattle.definition.specs.Checked.{rule-checked}
-use Rattle.definition.specs.RuleFields.{next, wrong, read-row}
-use Rattle.definition.specs.FieldsWithin.{place, field-inside, ends}
+use Rattle.definition.specs.RuleFields.{next, read-row}
+use Rattle.definition.specs.FieldsWithin.{ends}
 use Rattle.definition.specs.RuleTurns.{rule-moves}
 use Rattle.rule_row_faults.specs.Kinds.{fault-number}
 use Rattle.rule_row_faults.specs.Row.{row-means, Parted}
@@ -47,20 +47,9 @@ module _ (t : List ℕ) (at : ℕ) where
           ap a-row (parts-are (drop at t) p (ends (drop at t) (p .size) (sym n)) (f .0) (f .1) (f .2) (f .3))
           ∙ ap (told at (drop at t)) n ∙ before-end
 
-      module _ (k : Fault) (o : ℕ) (q : r ≡ NotRead k o) where
-        found : wrong (fault-number k) o ≡ read-row (drop at t)
-        found = sym (ap row-means q) ∙ e
-
-        pub fault-read : a-fault (refuse (fault-number k) (at + o)) ≡ row-here t at
-        unfolding told
-        fault-read = ap (told at (drop at t)) found ∙ before-end
-
-        -- it lies in the table
-        pub fault-near : at + o ≤ length t
-        unfolding place
-        fault-near =
-            let i : o ≤ length (drop at t) = rw (← found) at (field-inside (drop at t)) in
-            omega (arith, length-drop at t)
+      pub fault-read : (k : Fault) (o : ℕ) → r ≡ NotRead k o → a-fault (refuse (fault-number k) (at + o)) ≡ row-here t at
+      unfolding told
+      fault-read k o q = ap (told at (drop at t)) (sym (ap row-means q) ∙ e) ∙ before-end
 
   -- the next row: nowhere from the end on, at the end, or past this one
   pub none-next : length t ≤ at → at ≡ next-row t at

@@ -5,19 +5,21 @@ use mathlib.Core.List.{List}
 use Prim.Native.Nat.{ℕ, zero, suc, _-_, _<_, _≤_}
 use native.Mathlib.Omega.{arith}
 use lib.Dec.{leb}
-use lib.ListN.{length}
+use lib.ListN.{length, getD}
 use borrow.Author.Tests.{le-leb, lt-leb}
 use Rattle.base.specs.Pick.{pick}
 use Rattle.base.specs.ListLaws.{holds-is}
 use Rattle.definition.specs.Refusals.{refused-length, refused-range}
 use Rattle.definition.specs.RuleRows.{rule-size}
 use Rattle.definition.specs.RuleFields as definition
-use Rattle.definition.specs.RuleFields.{next, wrong, and-then, field, read-text, read-texts, read-text-if, read-parts, read-row}
+use Rattle.definition.specs.RuleFields.{next, wrong, and-then, field, fields, read-text, read-texts, read-text-if, read-parts, read-row}
 use Rattle.rule_row_faults.specs.declared.Fault.{Fault}
 use Rattle.rule_row_faults.specs.declared.Cursor.{Cursor}
 use Rattle.rule_row_faults.specs.declared.Cursor.the-variants.{Next, Wrong}
-use Rattle.rule_row_faults.specs.Kinds.{cursor-means}
-use Rattle.rule_row_faults.proofs.Inside.{onward, faulty, inside-at, inside-text, inside-text-if}
+use Rattle.rule_row_faults.specs.declared.Kind.{Kind}
+use Rattle.rule_row_faults.specs.Kinds.{kind-size, kind-right, kind-number, read-counted, cursor-means}
+use Rattle.definition.specs.FieldsWithin.{in-text, in-text-if}
+use Rattle.rule_row_faults.proofs.Inside.{onward, faulty, at-most}
 
 -- Texts one after another: reading those that are left leads where all lead
 pub record Left (z : ℕ) (s : List ℕ) (n o left at : ℕ) : Type 0 where
@@ -48,7 +50,7 @@ module _ {z : ℕ} {s : List ℕ} {n o left at : ℕ} (w : Left z s n o left at)
     text-passed p f = record {
       leads =
           onward r (read-text z s at) e p (read-texts z s (left - 1)) f ∙ sym (first z s left at h) ∙ w .leads;
-      inside = inside-at z r (read-text z s at) p (inside-text z s at) e f;
+      inside = at-most r (read-text z s at) e z p (in-text z s at (w .inside)) f;
     }
 
 -- a field whose test the code has asked, `x` being its answer
@@ -56,9 +58,13 @@ pub by-test : (z o n k : ℕ) (x b : Bool) (c : definition.Cursor) → c ≡ fie
 by-test z o n k x b c e f = e ∙ ap (field z o n k) f
 
 -- a count that may be 0 is only asked whether it is too large
-pub up-to : (z o n most : ℕ) (c : definition.Cursor) → c ≡ field z o 1 refused-range (leb 0 n && leb n most)
-    → c ≡ field z o 1 refused-range (leb n most)
-up-to z o n most c e = by-test z o 1 refused-range (leb 0 n && leb n most) (leb n most) c e (rw (le-leb 0 n (omega arith)))
+pub up-to : (n most : ℕ) → (leb 0 n && leb n most) ≡ leb n most
+up-to n most = rw (le-leb 0 n (omega arith))
+
+pub any-count : (kind : Kind) (most z : ℕ) (s : List ℕ) (o : ℕ) (c : definition.Cursor) → c ≡ read-counted kind 0 most z s o
+    → c ≡ and-then (field z o 1 refused-range (leb (getD s o 0) most)) (fields (kind-right kind) (kind-size kind) (kind-number kind) z s (getD s o 0))
+any-count kind most z s o c e =
+    e ∙ ap (λ b. and-then (field z o 1 refused-range b) (fields (kind-right kind) (kind-size kind) (kind-number kind) z s (getD s o 0))) (up-to (getD s o 0) most)
 
 -- A count and as many of what it counts: `r` is the cursor past the count, `n` the count as it was read, `x` what was read then
 pub counted : (z o : ℕ) (right : Bool) (body : ℕ → ℕ → definition.Cursor) (n m : ℕ) → n ≡ m
@@ -98,7 +104,7 @@ text-by x b z s o c e f = e ∙ ap (λ y. read-text-if y z s o) f
 
 pub past-text-if : (x : Bool) (z : ℕ) (s : List ℕ) (o : ℕ) (r : Cursor) (p : ℕ) → o ≤ z
     → cursor-means r ≡ read-text-if x z s o → r ≡ Next p → p ≤ z
-past-text-if x z s o r p h e f = inside-at z r (read-text-if x z s o) p (inside-text-if z s x o h) e f
+past-text-if x z s o r p h e f = at-most r (read-text-if x z s o) e z p (in-text-if z s x o h) f
 
 -- A row that the table does not hold, and one that it does
 module _ (s : List ℕ) (z : ℕ) (e : z ≡ rule-size s) where

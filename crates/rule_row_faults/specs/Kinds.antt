@@ -1,10 +1,12 @@
 -- What the kinds of fields and faults stand for in the definition.
-use mathlib.Core.Bool.{Bool}
+use mathlib.Core.Bool.{Bool, _&&_}
 use mathlib.Core.List.{List}
 use Prim.Native.Nat.{ℕ}
+use lib.Dec.{leb}
+use lib.ListN.{getD}
 use Rattle.definition.specs.Refusals.{refused-length, refused-range, refused-letter, refused-byte, refused-order, refused-rows}
 use Rattle.definition.specs.RuleFields as definition
-use Rattle.definition.specs.RuleFields.{character-right, code-small, byte-right}
+use Rattle.definition.specs.RuleFields.{and-then, field, fields, character-right, code-small, byte-right}
 use Rattle.rule_row_faults.specs.declared.Fault.{Fault}
 use Rattle.rule_row_faults.specs.declared.Fault.the-variants.{Length, Range, Letter, Byte, Order, Rows}
 use Rattle.rule_row_faults.specs.declared.Kind.{Kind}
@@ -36,6 +38,12 @@ abbrev pub kind-number : Kind → ℕ
 kind-number Character = refused-letter
 kind-number Code = refused-letter
 kind-number TextByte = refused-byte
+
+-- a count at `o`, from `least` to `most`, and as many fields of a kind
+abbrev pub read-counted : Kind → ℕ → ℕ → ℕ → List ℕ → ℕ → definition.Cursor
+read-counted kind least most z s o =
+    and-then (field z o 1 refused-range (leb least (getD s o 0) && leb (getD s o 0) most))
+    (fields (kind-right kind) (kind-size kind) (kind-number kind) z s (getD s o 0))
 
 -- where the walk over a row's fields stands
 abbrev pub cursor-means : Cursor → definition.Cursor

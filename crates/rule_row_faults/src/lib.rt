@@ -10,7 +10,7 @@ ghost use Rattle.definition.specs.RuleRows.{target-at, end-target-at, others-at
 ghost use Rattle.definition.specs.RuleFields.{field, fields, code-small, read-text, read-texts, read-text-if, read-flags};
 ghost use Rattle.definition.specs.RuleFields.{read-source, read-codes, read-others, read-end, read-tail, read-parts, read-row};
 ghost use Rattle.rule_row.specs.Sizes.{size-limit};
-ghost use Rattle.rule_row_faults.specs.Kinds.{fault-number, kind-size, kind-right, kind-number, cursor-means};
+ghost use Rattle.rule_row_faults.specs.Kinds.{fault-number, kind-size, kind-right, kind-number, read-counted, cursor-means};
 ghost use Rattle.rule_row_faults.specs.Row.{row-means, Parted};
 
 // What a row may hold at most (document 01).
@@ -201,17 +201,33 @@ fn read_count(rules: &[u8], row: usize, z: usize, o: usize, least: u32, most: u3
     field(z, o, 1, Fault::Range, between(least, n, most))
 }
 
-// A text: its length byte, then its bytes. A fault of a field is the answer as it stands.
-fn read_text(rules: &[u8], row: usize, z: usize, o: usize) -> Cursor
+// A count and as many fields of a kind. A fault is the answer as it stands.
+fn read_counted(
+    rules: &[u8],
+    row: usize,
+    z: usize,
+    o: usize,
+    least: u32,
+    most: u32,
+    kind: Kind,
+) -> Cursor
     requires { ⌜ (z < size-limit) × (o ≤ z) × (z ≤ length (drop row (now rules))) ⌝ }
-    ensures { λ r. ⌜ cursor-means r ≡ read-text z (drop row (now (rules .entry))) o ⌝ }
+    ensures { λ r. ⌜ cursor-means r ≡ read-counted kind least most z (drop row (now (rules .entry))) o ⌝ }
 {
-    let c = read_count(rules, row, z, o, 0, MOST_TARGET);
+    let c = read_count(rules, row, z, o, least, most);
     let Cursor::Next(next) = c else {
         return c;
     };
     let n = base::at(rules, row, o) as usize;
-    read_fields(rules, row, z, n, next, Kind::TextByte)
+    read_fields(rules, row, z, n, next, kind)
+}
+
+// A text: its length byte, then its bytes.
+fn read_text(rules: &[u8], row: usize, z: usize, o: usize) -> Cursor
+    requires { ⌜ (z < size-limit) × (o ≤ z) × (z ≤ length (drop row (now rules))) ⌝ }
+    ensures { λ r. ⌜ cursor-means r ≡ read-text z (drop row (now (rules .entry))) o ⌝ }
+{
+    read_counted(rules, row, z, o, 0, MOST_TARGET, Kind::TextByte)
 }
 
 // As many texts.
@@ -245,7 +261,7 @@ fn read_text_if(rules: &[u8], row: usize, z: usize, o: usize, there: bool) -> Cu
 
 // The parts of a row: flags and restriction count.
 fn read_flags(rules: &[u8], row: usize, z: usize) -> Cursor
-    requires { ⌜ z < size-limit ⌝ }
+    requires { ⌜ (2 ≤ z) × (z < size-limit) ⌝ }
     ensures { λ r. ⌜ cursor-means r ≡ read-flags z (drop row (now (rules .entry))) ⌝ }
 {
     let zero = rule_row::flag(rules, row, ZERO_BIT);
@@ -261,12 +277,7 @@ fn read_source(rules: &[u8], row: usize, z: usize, o: usize) -> Cursor
     requires { ⌜ (z < size-limit) × (o ≤ z) × (z ≤ length (drop row (now rules))) ⌝ }
     ensures { λ r. ⌜ cursor-means r ≡ read-source z (drop row (now (rules .entry))) o ⌝ }
 {
-    let c = read_count(rules, row, z, o, 1, rule_row::MOST_SOURCE);
-    let Cursor::Next(next) = c else {
-        return c;
-    };
-    let n = base::at(rules, row, o) as usize;
-    read_fields(rules, row, z, n, next, Kind::Character)
+    read_counted(rules, row, z, o, 1, rule_row::MOST_SOURCE, Kind::Character)
 }
 
 // The language codes.
@@ -274,12 +285,7 @@ fn read_codes(rules: &[u8], row: usize, z: usize, o: usize) -> Cursor
     requires { ⌜ (z < size-limit) × (o ≤ z) × (z ≤ length (drop row (now rules))) ⌝ }
     ensures { λ r. ⌜ cursor-means r ≡ read-codes z (drop row (now (rules .entry))) o ⌝ }
 {
-    let c = read_count(rules, row, z, o, 0, MOST_CODES);
-    let Cursor::Next(next) = c else {
-        return c;
-    };
-    let n = base::at(rules, row, o) as usize;
-    read_fields(rules, row, z, n, next, Kind::Code)
+    read_counted(rules, row, z, o, 0, MOST_CODES, Kind::Code)
 }
 
 // The alternatives.
@@ -339,7 +345,7 @@ fn read_tail(rules: &[u8], row: usize, z: usize, o: usize) -> Cursor
 
 // All parts of a row that lies in the table.
 fn read_parts(rules: &[u8], row: usize, z: usize) -> Cursor
-    requires { ⌜ (z < size-limit) × (z ≤ length (drop row (now rules))) ⌝ }
+    requires { ⌜ (2 ≤ z) × (z < size-limit) × (z ≤ length (drop row (now rules))) ⌝ }
     ensures { λ r. ⌜ cursor-means r ≡ read-parts z (drop row (now (rules .entry))) ⌝ }
 {
     let flags = read_flags(rules, row, z);

@@ -1,6 +1,13 @@
 -- What the check's answers say in the definition's terms.
+use mathlib.Core.Bool.{Bool, not}
+use mathlib.Core.List.{List, [], _∷_}
 use mathlib.Core.Option.{Option, none, some}
-use Rattle.definition.specs.Refusals.{Refusal, refuse}
+use Prim.Native.Nat.{ℕ}
+use lib.Dec.{eqb}
+use Rattle.base.specs.Lists.{first-of}
+use Rattle.definition.specs.Refusals.{Refusal, refuse, when, refused-order, refused-rows}
+use Rattle.definition.specs.RuleFields.{read-row}
+use Rattle.definition.specs.RuleFaults.{field-fault}
 use Rattle.rule_row_faults.specs.Kinds.{fault-number}
 use Rattle.rule_table_check.specs.declared.RulesRead.{RulesRead}
 use Rattle.rule_table_check.specs.declared.RulesRead.the-variants.{Valid, Wrong}
@@ -9,3 +16,8 @@ use Rattle.rule_table_check.specs.declared.RulesRead.the-variants.{Valid
 abbrev pub rules-means : RulesRead → Option Refusal
 rules-means Valid = none
 rules-means (Wrong k p) = some (refuse (fault-number k) p)
+
+-- what is wrong with the row that `s` begins with, by whether its source rises
+abbrev pub told-of : ℕ → ℕ → List ℕ → Bool → Option Refusal
+told-of at left s rises = first-of
+    (when (eqb left 0) refused-rows at ∷ field-fault at (read-row s) ∷ when (not rises) refused-order at ∷ [])

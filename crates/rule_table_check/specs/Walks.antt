@@ -1,19 +1,27 @@
 -- A walk over rows that has come to a row: what is left of it finds the fault that the whole finds.
-use mathlib.Core.Bool.{true, false}
+use mathlib.Core.Bool.{Bool, true, false, true≢false}
 use mathlib.Core.Path.{_≡_, refl, sym, ap, _∙_}
 use mathlib.Core.List.{List, []}
 use mathlib.Core.Option.{Option, none, some}
 use Prim.Native.Nat.{ℕ, zero, suc, _+_, _-_, _<_, _≤_}
 use native.Mathlib.Omega.{arith}
 use lib.ListN.{length, drop}
+use borrow.Author.Tests.{eq-eqb, ne-eqb, lt-ltb, le-ltb}
+use Rattle.base.specs.Pick.{pick}
+use Rattle.base.specs.Lists.{first-of}
 use Rattle.base.specs.Big.{be3}
 use Rattle.definition.specs.Limits.{most-rows}
-use Rattle.definition.specs.Refusals.{Refusal}
-use Rattle.definition.specs.RuleRows.{rule-right}
-use Rattle.definition.specs.RuleFaults.{row-fault, rule-fault}
-use Rattle.definition.specs.Blocks.{version-1, headed}
+use Rattle.definition.specs.Refusals.{Refusal, when}
+use Rattle.definition.specs.Texts.{Text}
+use Rattle.definition.specs.RuleRows.{rule-source, rises, rule-right}
+use Rattle.definition.specs.RuleFields.{Cursor, next, wrong, read-row}
+use Rattle.definition.specs.RuleFaults.{field-fault, row-fault, rule-fault}
+use Rattle.definition.specs.Blocks.{Walk, version-1, headed}
+use Rattle.definition.specs.BlockTurns.{fine}
+use Rattle.definition.specs.FieldsRight.{rightly}
 use Rattle.definition.specs.Checking.{walk-at}
-use Rattle.definition.specs.RuleTurns.{rules-from, rules-begun, rules-done, rules-onward, rules-spent, rules-wrong}
+use Rattle.definition.specs.RuleTurns.{fine-by, rules-from, rules-begun, rules-done, rules-onward, rules-halted}
+use Rattle.rule_table_check.specs.Told.{told-of}
 use Rattle.rule_table_check.specs.Marks.{mark-at, no-mark, Rising, mark-after, rising-after, Past}
 
 -- the first fault from a row on
@@ -55,28 +63,58 @@ module _ (b : List ℕ) (at most old low here left last least : ℕ) (k : Kept b
 pub begun : {b : List ℕ} {at most old low : ℕ} → Rising (mark-at b old low) low → Kept b at most old low at most old low
 begun h = record { same = λ more. refl; rising = h; few = omega arith }
 
--- both halves of a table
-module _ (b : List ℕ) (hd : true ≡ headed version-1 b) (n at left old low : ℕ) (k : Kept b 5 n 5 0 at left old low)
-    (two : n + n ≡ most-rows) (here rest last least : ℕ) (w : Stands b at (left + n) old low here rest last least) where
-  all-rows : fault-at b here rest last least ≡ rule-fault b
+-- Where the walk stops its order is not asked: nothing else being wrong, that is
+module _ (x : Walk Text) (e : fine rule-right x ≡ false) where
+  abbrev stop : Option Refusal
+  stop = told-of (x .at) (x .left) (x .rest) false
+
+  pub at-stop : stop ≡ row-fault x
+  unfolding row-fault field-fault first-of when pick
+  at-stop = go (rises (x .mark) (rule-source (x .rest))) refl
+    where
+      fields : 0 < x .left → rises (x .mark) (rule-source (x .rest)) ≡ true → (c : Cursor) → read-row (x .rest) ≡ c → stop ≡ row-fault x
+      fields h r (wrong k o) p = rw (ne-eqb (x .left) 0 (λ z. omega arith), p)
+      fields h r (next o) p = absurd (true≢false (sym (fine-by x (next o) p h ∙ (unfold rightly in r)) ∙ e))
+
+      rows : rises (x .mark) (rule-source (x .rest)) ≡ true → (n : ℕ) → x .left ≡ n → stop ≡ row-fault x
+      rows r zero p = rw (eq-eqb (x .left) 0 p)
+      rows r (suc n) p = fields (omega arith) r (read-row (x .rest)) refl
+
+      go : (b : Bool) → rises (x .mark) (rule-source (x .rest)) ≡ b → stop ≡ row-fault x
+      go true r = rows r (x .left) refl
+      go false r = sym (ap (told-of (x .at) (x .left) (x .rest)) r)
+
+-- What is left of the walk over a table, from `here` on, finds the table's fault
+module _ (b : List ℕ) (here rest last least : ℕ) (e : fault-at b here rest last least ≡ rule-fault b) where
+  pub sound : length b ≤ here → none ≡ rule-fault b
   unfolding fault-at
-  all-rows =
-      let x : rest + 0 ≡ rest = omega arith in
-      let y : left + n + 0 ≡ left + n = omega arith in
-      sym (ap (λ i. fault-at b here i last least) x) ∙ w .kept .same 0
-      ∙ ap (λ i. fault-at b at i old low) y ∙ k .same n
+  sound h = rules-done b here rest (mark-at b last least) h ∙ e
+
+  pub at-row : here < length b → (0 < rest → false ≡ rule-right (mark-at b last least) (drop here b))
+      → told-of here rest (drop here b) false ≡ rule-fault b
+  unfolding fault-at
+  at-row h w =
+      let f = not-fine rest refl in
+      at-stop (walk-at here rest (mark-at b last least) b) f ∙ rules-halted b here rest (mark-at b last least) h f ∙ e
+    where
+      not-fine : (n : ℕ) → rest ≡ n → fine rule-right (walk-at here rest (mark-at b last least) b) ≡ false
+      not-fine zero p = rw (le-ltb 0 rest (omega arith)) refl
+      not-fine (suc n) p = rw (lt-ltb 0 rest (omega arith)) (sym (w (omega arith)))
+
+-- The first half of a table leads there, and then the second
+module _ (b : List ℕ) (hd : true ≡ headed version-1 b) (n at left old low : ℕ) (k : Kept b 5 n 5 0 at left old low)
+    (two : n + n ≡ most-rows) where
+  pub first-half : fault-at b at (left + n) old low ≡ rule-fault b
+  unfolding fault-at
+  first-half =
+      k .same n
       ∙ ap (λ i. fault-at b 5 i 5 0) two
       ∙ ap (λ m. rules-from 5 most-rows m b) (no-mark b 5)
       ∙ rules-begun b hd
 
-  pub sound : length b ≤ here → none ≡ rule-fault b
-  unfolding fault-at
-  sound h = rules-done b here rest (mark-at b last least) h ∙ all-rows
-
-  pub at-row : here < length b → row-fault (walk-at here rest (mark-at b last least) b) ≡ rule-fault b
-  unfolding fault-at
-  at-row h = go rest refl
-    where
-      go : (n : ℕ) → rest ≡ n → row-fault (walk-at here rest (mark-at b last least) b) ≡ rule-fault b
-      go zero e = rules-spent b here rest (mark-at b last least) h e ∙ all-rows
-      go (suc n) e = rules-wrong b here rest (mark-at b last least) h (w .fault (omega arith) h) ∙ all-rows
+  pub second-half : (here rest last least : ℕ) → Kept b at (left + n) old low here rest last least
+      → fault-at b here rest last least ≡ rule-fault b
+  second-half here rest last least w =
+      let x : rest + 0 ≡ rest = omega arith in
+      let y : left + n + 0 ≡ left + n = omega arith in
+      sym (ap (λ i. fault-at b here i last least) x) ∙ w .same 0 ∙ ap (λ i. fault-at b at i old low) y ∙ first-half

@@ -10,7 +10,7 @@ ghost use Rattle.definition.specs.RuleFields.{read-row};
 ghost use Rattle.definition.specs.RuleFaults.{field-fault, row-fault, rule-fault};
 ghost use Rattle.definition.specs.Refusals.{when, refused-rows, refused-order};
 ghost use Rattle.definition.specs.Checking.{walk-at};
-ghost use Rattle.rule_table_check.specs.Told.{rules-means};
+ghost use Rattle.rule_table_check.specs.Told.{rules-means, told-of};
 ghost use Rattle.rule_table_check.specs.Marks.{mark-at, Rising, Past};
 ghost use Rattle.rule_table_check.specs.Walks.{Stands};
 ghost use Rattle.rule_table_check.specs.Plain.{Plain};
@@ -188,33 +188,48 @@ fn fields_fault(rules: &[u8], at: usize) -> RulesRead
     }
 }
 
-// Whether the row at `at` rises over that at `old`; where `low` is 0 it is the first, and does.
-fn order_fault(rules: &[u8], at: usize, old: usize, low: u32) -> RulesRead
-    ensures { λ r. ⌜ rules-means r ≡ when (not (rises (mark-at (now (rules .entry)) old low) (rule-source (drop at (now (rules .entry)))))) refused-order at ⌝ }
+// Whether the row at `at` is out of order, where `rises` says that its source rises.
+fn order_fault(at: usize, rises: bool) -> RulesRead
+    ensures { λ r. ⌜ rules-means r ≡ when (not rises) refused-order at ⌝ }
 {
-    if low == 0 {
-        return RulesRead::Valid;
-    }
-    if rule_row::sources_rise(rules, old, at) {
+    if rises {
         return RulesRead::Valid;
     }
     RulesRead::Wrong(Fault::Order, at)
 }
 
-// What is wrong with the row at `at`, after the one at `old`, if anything: first that it is one too many, then its fields, and
-// last its order.
+// What is wrong with the row at `at`, if anything: first that it is one too many, then its fields, and last its order.
+fn told(rules: &[u8], at: usize, left: u32, rises: bool) -> RulesRead
+    requires { ⌜ at ≤ length (now rules) ⌝ }
+    ensures { λ r. ⌜ rules-means r ≡ told-of at left (drop at (now (rules .entry))) rises ⌝ }
+{
+    let rows = rows_fault(at, left);
+    let fields = fields_fault(rules, at);
+    let order = order_fault(at, rises);
+    first_of(rows, first_of(fields, order))
+}
+
+// Whether the row at `at` rises over that at `old`; where `low` is 0 it is the first, and does.
+fn rises_over(rules: &[u8], at: usize, old: usize, low: u32) -> bool
+    ensures { λ r. ⌜ r ≡ rises (mark-at (now (rules .entry)) old low) (rule-source (drop at (now (rules .entry)))) ⌝ }
+{
+    if low == 0 {
+        return true;
+    }
+    rule_row::sources_rise(rules, old, at)
+}
+
+// What is wrong with the row at `at`, after the one at `old`, if anything.
 pub fn row_fault(rules: &[u8], at: usize, left: u32, old: usize, low: u32) -> RulesRead
     requires { ⌜ at ≤ length (now rules) ⌝ }
     ensures { λ r. ⌜ rules-means r ≡ row-fault (walk-at at left (mark-at (now (rules .entry)) old low) (now (rules .entry))) ⌝ }
 {
-    let rows = rows_fault(at, left);
-    let fields = fields_fault(rules, at);
-    let order = order_fault(rules, at, old, low);
-    first_of(rows, first_of(fields, order))
+    told(rules, at, left, rises_over(rules, at, old, low))
 }
 
-// What is wrong with a rule table first. No more than `MOST_ROWS` rows, and sources rise. The rows are walked in two halves: a
-// function that is called twice stays one by itself, and its loop has all registers.
+// What is wrong with a rule table first. No more than `MOST_ROWS` rows, and sources rise. Of a row at which the walk stops the
+// order is not asked again: where nothing else is wrong, that is. The rows are walked in two halves: a function that is called
+// twice stays one by itself, and the loop has all registers.
 pub fn check_rules(rules: &[u8]) -> RulesRead
     ensures { λ r. ⌜ rules-means r ≡ rule-fault (now (rules .entry)) ⌝ }
 {
@@ -226,11 +241,17 @@ pub fn check_rules(rules: &[u8]) -> RulesRead
             table_blocks::HEAD_BYTES,
             0,
         );
-        let whole = past_rows(rules, half.at, half.left + HALF, half.old, half.low);
-        if whole.at < rules.len() {
-            return row_fault(rules, whole.at, whole.left, whole.old, whole.low);
+        if rules.len() <= half.at {
+            return RulesRead::Valid;
         }
-        return RulesRead::Valid;
+        if 0 < half.left {
+            return told(rules, half.at, half.left + HALF, false);
+        }
+        let whole = past_rows(rules, half.at, half.left + HALF, half.old, half.low);
+        if rules.len() <= whole.at {
+            return RulesRead::Valid;
+        }
+        return told(rules, whole.at, whole.left, false);
     }
     RulesRead::Wrong(Fault::Length, 0)
 }

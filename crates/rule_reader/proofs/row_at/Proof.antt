@@ -2,7 +2,8 @@
 use native.Mathlib.Omega.{arith}
 use denote.Ref.{now}
 use borrow.Author.Needs.{needs}
-use Rattle.rule_reader.specs.Here.{at-end, row-read, fault-read, fault-near}
+use Rattle.rule_row_faults.specs.Row.{fault-near}
+use Rattle.rule_reader.specs.Here.{at-end, row-read, fault-read}
 use Rattle.rule_reader.proofs.row_at.Statement.{statement}
 use Rattle.rule_reader.proofs.row_at.Tie as tie
 

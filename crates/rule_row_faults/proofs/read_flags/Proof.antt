@@ -33,7 +33,7 @@ returns c =
 field-requires-2 : tie.Need-field-requires-2
 field-requires-2 c κs =
     let f = c .before .before .before in
-    let h = past-field _ _ _ _ _ _ _ (f .field .ensures) (c .before .c .given .1) in
+    let h = past-field _ _ _ _ _ _ _ (f .before .before .before .pre .0) (f .field .ensures) (c .before .c .given .1) in
     (omega arith, omega arith)
 
 returns-2 : tie.Need-returns-2

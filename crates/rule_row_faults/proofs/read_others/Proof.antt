@@ -7,7 +7,7 @@ use denote.Ref.{now}
 use Rattle.definition.specs.Limits.{most-alternatives}
 use Rattle.definition.specs.RuleFields.{Cursor, read-others, read-texts}
 use Rattle.rule_row_faults.proofs.Inside.{faulty, past-field}
-use Rattle.rule_row_faults.proofs.Chains.{up-to, counted}
+use Rattle.rule_row_faults.proofs.Chains.{by-test, up-to, counted}
 use Rattle.rule_row_faults.proofs.read_others.Statement.{statement}
 use Rattle.rule_row_faults.proofs.read_others.Tie as tie
 
@@ -31,7 +31,7 @@ unfolding read-others
 returns c =
     let f = c .before .before in
     let t = f .before .before in
-    faulty _ _ (up-to _ _ (count t) most-alternatives _ (f .read-count .ensures)) _ _ (texts t (count t)) (c .enum-told .given .1)
+    faulty _ _ (by-test _ _ _ _ _ _ _ (f .read-count .ensures) (up-to (count t) most-alternatives)) _ _ (texts t (count t)) (c .enum-told .given .1)
 
 at-requires : tie.Need-at-requires
 at-requires c κs = search needs
@@ -43,7 +43,7 @@ read-texts-requires : tie.Need-read-texts-requires
 read-texts-requires c κs =
     let k = c .before .before in
     let f = k .before .before in
-    let h = past-field _ _ _ _ _ _ _ (f .read-count .ensures) (k .c .given .1) in
+    let h = past-field _ _ _ _ _ _ _ (f .before .before .pre .1) (f .read-count .ensures) (k .c .given .1) in
     (omega arith, h, omega arith)
 
 returns-2 : tie.Need-returns-2
@@ -54,7 +54,7 @@ returns-2 c =
     let f = k .before .before in
     let t = f .before .before in
     counted _ _ _ (texts t) _ _ (n .at .ensures .0) _ _
-    (up-to _ _ (count t) most-alternatives _ (f .read-count .ensures)) (k .c .given .1) _ (c .read-texts .ensures)
+    (by-test _ _ _ _ _ _ _ (f .read-count .ensures) (up-to (count t) most-alternatives)) (k .c .given .1) _ (c .read-texts .ensures)
 
 pub read-others-spec : {M : Type 1} → statement M
 read-others-spec =

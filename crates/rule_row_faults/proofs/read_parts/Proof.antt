@@ -6,7 +6,8 @@ use lib.ListN.{drop}
 use borrow.Author.Needs.{needs}
 use denote.Ref.{now}
 use Rattle.definition.specs.RuleFields.{read-tail, read-parts}
-use Rattle.rule_row_faults.proofs.Inside.{inside-at, inside-flags, inside-source, inside-codes}
+use Rattle.definition.specs.FieldsWithin.{in-flags, in-source, in-codes}
+use Rattle.rule_row_faults.proofs.Inside.{at-most}
 use Rattle.rule_row_faults.proofs.Chains.{in-first, in-second, in-third, past-third}
 use Rattle.rule_row_faults.proofs.read_parts.Statement.{statement}
 use Rattle.rule_row_faults.proofs.read_parts.Tie as tie
@@ -34,7 +35,7 @@ read-source-requires c κs =
     let f = c .before .before .before in
     let t = f .before .before in
     let z = t .args .z in
-    (omega arith, inside-at z _ _ _ (inside-flags z (S t)) (f .read-flags .ensures) (c .before .flags .given .1), omega arith)
+    (omega arith, at-most _ _ (f .read-flags .ensures) z _ (in-flags z (S t) (t .pre .0)) (c .before .flags .given .1), omega arith)
 
 enum-known-source : tie.Need-enum-known-source
 enum-known-source c = search needs
@@ -58,8 +59,9 @@ read-codes-requires c κs =
     let f = k .before .before in
     let t = f .before .before in
     let z = t .args .z in
-    let h = inside-at z _ _ _ (inside-source z (S t) _) (g .read-source .ensures) (c .before .source .given .1) in
-    (omega arith, h, omega arith)
+    let h = at-most _ _ (f .read-flags .ensures) z _ (in-flags z (S t) (t .pre .0)) (k .flags .given .1) in
+    let i = at-most _ _ (g .read-source .ensures) z _ (in-source z (S t) _ h) (c .before .source .given .1) in
+    (omega arith, i, omega arith)
 
 enum-known-codes : tie.Need-enum-known-codes
 enum-known-codes c = search needs
@@ -82,11 +84,15 @@ returns-3 c =
 read-tail-requires : tie.Need-read-tail-requires
 read-tail-requires c κs =
     let i = c .before .before .before in
-    let g = i .before .before .before .before in
-    let f = g .before .before .before .before in
+    let m = i .before .before in
+    let g = m .before .before in
+    let k = g .before .before in
+    let f = k .before .before in
     let t = f .before .before in
     let z = t .args .z in
-    (omega arith, inside-at z _ _ _ (inside-codes z (S t) _) (i .read-codes .ensures) (c .before .codes .given .1), omega arith)
+    let h = at-most _ _ (f .read-flags .ensures) z _ (in-flags z (S t) (t .pre .0)) (k .flags .given .1) in
+    let j = at-most _ _ (g .read-source .ensures) z _ (in-source z (S t) _ h) (m .source .given .1) in
+    (omega arith, at-most _ _ (i .read-codes .ensures) z _ (in-codes z (S t) _ j) (c .before .codes .given .1), omega arith)
 
 returns-4 : tie.Need-returns-4
 unfolding read-parts read-tail

@@ -3,6 +3,7 @@ use native.Mathlib.Omega.{arith}
 use lib.ListN.{drop, length-drop}
 use borrow.Author.Needs.{needs}
 use denote.Ref.{now}
+use Rattle.definition.specs.RuleRows.{rule-size}
 use Rattle.rule_row_faults.proofs.Chains.{row-past, row-read}
 use Rattle.rule_row_faults.proofs.walk_row.Statement.{statement}
 use Rattle.rule_row_faults.proofs.walk_row.Tie as tie
@@ -21,10 +22,11 @@ returns c =
     row-past s _ (c .before .size .ensures .0) (omega arith)
 
 read-parts-requires : tie.Need-read-parts-requires
+unfolding rule-size
 read-parts-requires c κs =
     let a = c .before .before .before .args in
     let l = length-drop (a .row) (now (a .rules)) in
-    (omega arith, omega arith)
+    (omega arith, omega arith, omega arith)
 
 returns-2 : tie.Need-returns-2
 returns-2 c =
