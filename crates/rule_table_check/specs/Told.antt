@@ -1,9 +1,11 @@
 -- What the check's answers say in the definition's terms.
-use mathlib.Core.Bool.{Bool, not}
+use mathlib.Core.Bool.{Bool, false, not}
 use mathlib.Core.List.{List, [], _∷_}
 use mathlib.Core.Option.{Option, none, some}
 use Prim.Native.Nat.{ℕ}
-use lib.Dec.{eqb}
+use lib.Dec.{eqb, leb}
+use lib.ListN.{length, drop}
+use Rattle.base.specs.Pick.{pick}
 use Rattle.base.specs.Lists.{first-of}
 use Rattle.definition.specs.Refusals.{Refusal, refuse, when, refused-order, refused-rows}
 use Rattle.definition.specs.RuleFields.{read-row}
@@ -21,3 +23,8 @@ rules-means (Wrong k p) = some (refuse (fault-number k) p)
 abbrev pub told-of : ℕ → ℕ → List ℕ → Bool → Option Refusal
 told-of at left s rises = first-of
     (when (eqb left 0) refused-rows at ∷ field-fault at (read-row s) ∷ when (not rises) refused-order at ∷ [])
+
+-- what is found where the walk over a table stops: its end, or a row that is not right, and so by its order where nothing else is
+-- wrong with it
+unfoldable pub stopped-at : List ℕ → ℕ → ℕ → Option Refusal
+stopped-at b at left = pick (leb (length b) at) none (told-of at left (drop at b) false)

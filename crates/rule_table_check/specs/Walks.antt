@@ -6,8 +6,9 @@ use mathlib.Core.Option.{Option, none, some}
 use Prim.Native.Nat.{ℕ, zero, suc, _+_, _-_, _<_, _≤_}
 use native.Mathlib.Omega.{arith}
 use lib.ListN.{length, drop}
-use borrow.Author.Tests.{eq-eqb, ne-eqb, lt-ltb, le-ltb}
-use Rattle.base.specs.Pick.{pick}
+use lib.Dec.{leb}
+use borrow.Author.Tests.{eq-eqb, ne-eqb, lt-ltb, le-ltb, leb-true, leb-false}
+use Rattle.base.specs.Pick.{pick, pick-ind}
 use Rattle.base.specs.Lists.{first-of}
 use Rattle.base.specs.Big.{be3}
 use Rattle.definition.specs.Limits.{most-rows}
@@ -21,7 +22,7 @@ use Rattle.definition.specs.BlockTurns.{fine}
 use Rattle.definition.specs.FieldsRight.{rightly}
 use Rattle.definition.specs.Checking.{walk-at}
 use Rattle.definition.specs.RuleTurns.{fine-by, rules-from, rules-begun, rules-done, rules-onward, rules-halted}
-use Rattle.rule_table_check.specs.Told.{told-of}
+use Rattle.rule_table_check.specs.Told.{told-of, stopped-at}
 use Rattle.rule_table_check.specs.Marks.{mark-at, no-mark, Rising, mark-after, rising-after, Past}
 
 -- the first fault from a row on
@@ -63,7 +64,7 @@ module _ (b : List ℕ) (at most old low here left last least : ℕ) (k : Kept b
 pub begun : {b : List ℕ} {at most old low : ℕ} → Rising (mark-at b old low) low → Kept b at most old low at most old low
 begun h = record { same = λ more. refl; rising = h; few = omega arith }
 
--- Where the walk stops its order is not asked: nothing else being wrong, that is
+-- Of a row that is not right, or too many, the order need not be asked: where nothing else is wrong with it, the order is
 module _ (x : Walk Text) (e : fine rule-right x ≡ false) where
   abbrev stop : Option Refusal
   stop = told-of (x .at) (x .left) (x .rest) false
@@ -86,11 +87,7 @@ module _ (x : Walk Text) (e : fine rule-right x ≡ false) where
 
 -- What is left of the walk over a table, from `here` on, finds the table's fault
 module _ (b : List ℕ) (here rest last least : ℕ) (e : fault-at b here rest last least ≡ rule-fault b) where
-  pub sound : length b ≤ here → none ≡ rule-fault b
-  unfolding fault-at
-  sound h = rules-done b here rest (mark-at b last least) h ∙ e
-
-  pub at-row : here < length b → (0 < rest → false ≡ rule-right (mark-at b last least) (drop here b))
+  at-row : here < length b → (0 < rest → false ≡ rule-right (mark-at b last least) (drop here b))
       → told-of here rest (drop here b) false ≡ rule-fault b
   unfolding fault-at
   at-row h w =
@@ -100,6 +97,13 @@ module _ (b : List ℕ) (here rest last least : ℕ) (e : fault-at b here rest l
       not-fine : (n : ℕ) → rest ≡ n → fine rule-right (walk-at here rest (mark-at b last least) b) ≡ false
       not-fine zero p = rw (le-ltb 0 rest (omega arith)) refl
       not-fine (suc n) p = rw (lt-ltb 0 rest (omega arith)) (sym (w (omega arith)))
+
+  pub stops : (0 < rest → here < length b → false ≡ rule-right (mark-at b last least) (drop here b)) → stopped-at b here rest ≡ rule-fault b
+  unfolding fault-at stopped-at
+  stops w =
+      pick-ind (λ f. f ≡ rule-fault b) (leb (length b) here) _ _
+      (λ l. rules-done b here rest (mark-at b last least) (leb-true (length b) here l) ∙ e)
+      (λ l. let h : here < length b = leb-false (length b) here l in at-row h (λ z. w z h))
 
 -- The first half of a table leads there, and then the second
 module _ (b : List ℕ) (hd : true ≡ headed version-1 b) (n at left old low : ℕ) (k : Kept b 5 n 5 0 at left old low)

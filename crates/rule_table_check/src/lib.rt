@@ -10,7 +10,7 @@ ghost use Rattle.definition.specs.RuleFields.{read-row};
 ghost use Rattle.definition.specs.RuleFaults.{field-fault, row-fault, rule-fault};
 ghost use Rattle.definition.specs.Refusals.{when, refused-rows, refused-order};
 ghost use Rattle.definition.specs.Checking.{walk-at};
-ghost use Rattle.rule_table_check.specs.Told.{rules-means, told-of};
+ghost use Rattle.rule_table_check.specs.Told.{rules-means, told-of, stopped-at};
 ghost use Rattle.rule_table_check.specs.Marks.{mark-at, Rising, Past};
 ghost use Rattle.rule_table_check.specs.Walks.{Stands};
 ghost use Rattle.rule_table_check.specs.Plain.{Plain};
@@ -227,9 +227,19 @@ pub fn row_fault(rules: &[u8], at: usize, left: u32, old: usize, low: u32) -> Ru
     told(rules, at, left, rises_over(rules, at, old, low))
 }
 
-// What is wrong with a rule table first. No more than `MOST_ROWS` rows, and sources rise. Of a row at which the walk stops the
-// order is not asked again: where nothing else is wrong, that is. The rows are walked in two halves: a function that is called
-// twice stays one by itself, and the loop has all registers.
+// What a walk finds where it stops: the table's end, or a row that is not right. Its order is not asked again: where nothing
+// else is wrong with the row, the order is.
+fn stopped(rules: &[u8], at: usize, left: u32) -> RulesRead
+    ensures { λ r. ⌜ rules-means r ≡ stopped-at (now (rules .entry)) at left ⌝ }
+{
+    if rules.len() <= at {
+        return RulesRead::Valid;
+    }
+    told(rules, at, left, false)
+}
+
+// What is wrong with a rule table first. No more than `MOST_ROWS` rows, and sources rise. The rows are walked in two halves: a
+// function that is called twice stays one by itself, and its loop has all registers.
 pub fn check_rules(rules: &[u8]) -> RulesRead
     ensures { λ r. ⌜ rules-means r ≡ rule-fault (now (rules .entry)) ⌝ }
 {
@@ -241,17 +251,11 @@ pub fn check_rules(rules: &[u8]) -> RulesRead
             table_blocks::HEAD_BYTES,
             0,
         );
-        if rules.len() <= half.at {
-            return RulesRead::Valid;
-        }
         if 0 < half.left {
-            return told(rules, half.at, half.left + HALF, false);
+            return stopped(rules, half.at, half.left + HALF);
         }
         let whole = past_rows(rules, half.at, half.left + HALF, half.old, half.low);
-        if rules.len() <= whole.at {
-            return RulesRead::Valid;
-        }
-        return told(rules, whole.at, whole.left, false);
+        return stopped(rules, whole.at, whole.left);
     }
     RulesRead::Wrong(Fault::Length, 0)
 }
