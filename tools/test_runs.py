@@ -70,10 +70,16 @@ class Runs(unittest.TestCase):
             for code, mode, shown in (("-", "0", "kat\n"), ("san", "0", "kata\n"), ("-", "1", "0 1 core     1 ka\n1 2 rom      0 t\n")):
                 done = subprocess.run([PROGRAM, *names, code, mode], input="कत".encode(), capture_output=True, check=True)
                 self.assertEqual(done.stdout.decode(), shown)
-            # the rows of क and त exchanged
-            names[0].write_bytes(tables.block([made[0][5:27], made[0][40:], made[0][27:40]]))
-            done = subprocess.run([PROGRAM, *names, "-", "0"], input=b"", capture_output=True)
-            self.assertRegex(done.stderr.decode(), "refusal 24: .*: 40\n")
+            # the page's faults: the rows of क and त exchanged; in the row of ж another code, target's length and length
+            rules = made[0]
+            exchanged = tables.block([rules[5:27], rules[40:], rules[27:40]])
+            faults = [(exchanged, 24, 40)] + [(rules[:at] + new + rules[at + len(new):], number, place) for at, new, number, place in (
+                (15, b"RUS", 22, 15), (18, b"\x41", 21, 18), (6, b"\x13", 20, 26), (6, b"\x15", 20, 27))]
+            for table, number, place in faults:
+                self.assertIn("%d at %d" % (number, place), page)
+                names[0].write_bytes(table)
+                done = subprocess.run([PROGRAM, *names, "-", "0"], input=b"", capture_output=True)
+                self.assertRegex(done.stderr.decode(), "refusal %d: .* at byte %d, in row " % (number, place))
 
 
 if __name__ == "__main__":

@@ -39,7 +39,7 @@ pub mod Checking
 pub mod Checked
 pub mod Places
 pub mod There
--- a rule table's faults: no field of a right row is at fault, and none of another; a walk over the rows; where a fault lies
+-- a rule table's faults: a row's fields have none just where the row is right; the walk over rows; where a fault lies
 pub mod FieldsRight
 pub mod FieldsWithin
 pub mod FirstFields
