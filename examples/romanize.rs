@@ -7,7 +7,7 @@
 #[path = "../include/jettyfig.rs"]
 mod jettyfig;
 
-use jettyfig::{MOST_CHARACTERS, Refusal, Rooms, SHOW_STRING, Tables, room_for, slots_for, string_for};
+use jettyfig::{Choices, MOST_CHARACTERS, Refusal, Rooms, SHOW_STRING, Tables, room_for, slots_for, string_for};
 use std::io::{Read, Write};
 use std::process::ExitCode;
 
@@ -23,7 +23,7 @@ fn string(tables: Tables, code: &[u8], text: &[u8]) -> Result<Vec<u8>, (Refusal,
     let n = text.len().min(MOST_CHARACTERS);
     let (mut slots, mut room, mut out) = (vec![0; slots_for(n)], vec![0; room_for(n)], vec![0; string_for(n)]);
     let rooms = Rooms { slots: &mut slots, room: &mut room, out: &mut out };
-    let answer = jettyfig::romanize(SHOW_STRING, tables, code, text, rooms);
+    let answer = jettyfig::romanize(SHOW_STRING, Choices::default(), tables, code, text, rooms);
     if let Some(refusal) = answer.refusal() {
         return Err((refusal, answer.place));
     }

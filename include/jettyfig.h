@@ -19,8 +19,8 @@ extern "C" {
 #endif
 
 /* The version of this header and its library: as text, and as a number that rises. */
-#define JETTYFIG_VERSION "2.0.0"
-#define JETTYFIG_VERSION_NUMBER 20000 /* 10000 for the first part, 100 for the second, 1 for the third */
+#define JETTYFIG_VERSION "3.0.0"
+#define JETTYFIG_VERSION_NUMBER 30000 /* 10000 for the first part, 100 for the second, 1 for the third */
 
 /* What a call shows: its argument `mode`. */
 enum jettyfig_show {
@@ -28,6 +28,15 @@ enum jettyfig_show {
     JETTYFIG_SHOW_PATH = 1,         /* a listing of the path's edges */
     JETTYFIG_SHOW_ALTERNATIVES = 2, /* a listing of the path's edges, then its alternatives */
     JETTYFIG_SHOW_ALL_EDGES = 3     /* a listing of all edges: by start, longer first, then as added */
+};
+
+/* Choices: arguments of their own behind the mode, each off by default. */
+
+/* `capitals`: what becomes of a romanization in upper case, with a letter A-Z and none a-z, of one character before another of
+ * lower case (class flag 7). U+0416 by the rule "ZH" and U+0436 by "zh" are an example. */
+enum jettyfig_capitals {
+    JETTYFIG_CAPITALS_OFF = 0, /* it stays: "ZHzh" */
+    JETTYFIG_CAPITALS_ON = 1   /* its first byte stays, and its later letters become small: "Zhzh" */
 };
 
 /* A listing is a version byte 1, a 4-byte length of all that follows, and a row for each edge: the length of the rest of the
@@ -57,24 +66,25 @@ enum jettyfig_edge {
  * or a byte of a text. An offset counts from the table's first byte. */
 enum jettyfig_number {
     JETTYFIG_DONE = 0,
-    JETTYFIG_REFUSED_MODE = 1,     /* the mode is above 3; 0 */
-    JETTYFIG_REFUSED_LENGTH = 20,  /* the rule table's header; 0. A row that the table ends in; its offset. A field that its row
-                                    * ends before or in; the field's offset. Bytes that a row has left over; the first's */
-    JETTYFIG_REFUSED_RANGE = 21,   /* a rule's flag bit 7, or a count or a text's length out of its range; its offset */
-    JETTYFIG_REFUSED_LETTER = 22,  /* a character of a source that is no scalar value, or a language code of a rule that is not
-                                    * three letters a to z; its offset */
-    JETTYFIG_REFUSED_BYTE = 23,    /* a byte of a rule's target or alternative outside 0x20 to 0x7E; its offset */
-    JETTYFIG_REFUSED_ORDER = 24,   /* a rule whose source is below that of the row before; the row's offset */
-    JETTYFIG_REFUSED_ROWS = 25,    /* over 8,192 rules; the offset of the first that is too many */
-    JETTYFIG_REFUSED_CLASSES = 3,  /* the class table is faulty; the offset of its first faulty row, 0 for the header */
-    JETTYFIG_REFUSED_VOWELS = 4,   /* the vowel table is faulty; likewise */
-    JETTYFIG_REFUSED_CODE = 5,     /* the language code is neither empty nor three letters a to z; 0 */
-    JETTYFIG_REFUSED_UTF8 = 6,     /* the text is not UTF-8 (RFC 3629); the offset of the first bad sequence */
-    JETTYFIG_REFUSED_TOO_LONG = 7, /* the text has over 512 characters; 512 */
-    JETTYFIG_REFUSED_LEFT_OUT = 8, /* a Tibetan, Braille or Hangul character; its position in characters */
-    JETTYFIG_REFUSED_SLOTS = 9,    /* an edge finds no slot; the edge's start */
-    JETTYFIG_REFUSED_ROOM = 10,    /* an edge finds a slot, but too little text room; the edge's start */
-    JETTYFIG_REFUSED_OUTPUT = 11   /* the output is too short; the bytes that it needs */
+    JETTYFIG_REFUSED_MODE = 1,      /* the mode is above 3; 0 */
+    JETTYFIG_REFUSED_CAPITALS = 12, /* the choice of capitals is above 1; 0 */
+    JETTYFIG_REFUSED_LENGTH = 20,   /* the rule table's header; 0. A row that the table ends in; its offset. A field that its row
+                                     * ends before or in; the field's offset. Bytes that a row has left over; the first's */
+    JETTYFIG_REFUSED_RANGE = 21,    /* a rule's flag bit 7, or a count or a text's length out of its range; its offset */
+    JETTYFIG_REFUSED_LETTER = 22,   /* a character of a source that is no scalar value, or a language code of a rule that is not
+                                     * three letters a to z; its offset */
+    JETTYFIG_REFUSED_BYTE = 23,     /* a byte of a rule's target or alternative outside 0x20 to 0x7E; its offset */
+    JETTYFIG_REFUSED_ORDER = 24,    /* a rule whose source is below that of the row before; the row's offset */
+    JETTYFIG_REFUSED_ROWS = 25,     /* over 8,192 rules; the offset of the first that is too many */
+    JETTYFIG_REFUSED_CLASSES = 3,   /* the class table is faulty; the offset of its first faulty row, 0 for the header */
+    JETTYFIG_REFUSED_VOWELS = 4,    /* the vowel table is faulty; likewise */
+    JETTYFIG_REFUSED_CODE = 5,      /* the language code is neither empty nor three letters a to z; 0 */
+    JETTYFIG_REFUSED_UTF8 = 6,      /* the text is not UTF-8 (RFC 3629); the offset of the first bad sequence */
+    JETTYFIG_REFUSED_TOO_LONG = 7,  /* the text has over 512 characters; 512 */
+    JETTYFIG_REFUSED_LEFT_OUT = 8,  /* a Tibetan, Braille or Hangul character; its position in characters */
+    JETTYFIG_REFUSED_SLOTS = 9,     /* an edge finds no slot; the edge's start */
+    JETTYFIG_REFUSED_ROOM = 10,     /* an edge finds a slot, but too little text room; the edge's start */
+    JETTYFIG_REFUSED_OUTPUT = 11    /* the output is too short; the bytes that it needs */
 };
 
 /* What a call returns. After a refusal length and edges are 0. */
@@ -116,7 +126,7 @@ typedef struct {
  * length says can be read there, and in slots, room and output written; these three overlap no other slice, nor each other;
  * no other thread writes any of the eight, or reads these three, before the call returns; and there are JETTYFIG_STACK bytes of
  * stack. */
-jettyfig_answer jettyfig_romanize(uint8_t mode,
+jettyfig_answer jettyfig_romanize(uint8_t mode, uint8_t capitals,
                                   const uint8_t *rules, size_t rules_length,
                                   const uint8_t *classes, size_t classes_length,
                                   const uint8_t *vowels, size_t vowels_length,

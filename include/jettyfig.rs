@@ -5,14 +5,18 @@
 #![allow(dead_code)]
 
 /// The version of this file and its library: as text, and as a number that rises.
-pub const VERSION: &str = "2.0.0";
-pub const VERSION_NUMBER: u32 = 20000;
+pub const VERSION: &str = "3.0.0";
+pub const VERSION_NUMBER: u32 = 30000;
 
 /// What a call shows: its mode. The string, the path, the path and its alternatives, all edges.
 pub const SHOW_STRING: u8 = 0;
 pub const SHOW_PATH: u8 = 1;
 pub const SHOW_ALTERNATIVES: u8 = 2;
 pub const SHOW_ALL_EDGES: u8 = 3;
+
+/// The choice of capitals; `jettyfig.h` explains both.
+pub const CAPITALS_OFF: u8 = 0;
+pub const CAPITALS_ON: u8 = 1;
 
 /// What an edge is: the annotation of its row in a listing; `jettyfig.h` explains each.
 pub const EDGE_ROM: u8 = 1;
@@ -36,6 +40,7 @@ pub const DONE: u64 = 0;
 #[derive(Clone, Copy, Debug, PartialEq, Eq)]
 pub enum Refusal {
     Mode = 1,
+    Capitals = 12,
     Length = 20,
     Range = 21,
     Letter = 22,
@@ -58,6 +63,7 @@ impl Refusal {
     pub const fn from_number(number: u64) -> Option<Refusal> {
         Some(match number {
             1 => Refusal::Mode,
+            12 => Refusal::Capitals,
             20 => Refusal::Length,
             21 => Refusal::Range,
             22 => Refusal::Letter,
@@ -124,6 +130,12 @@ pub const fn all_edges_for(n: usize) -> usize {
 /// Bytes of stack that are enough for a call, on x86-64 as the library is built there, whatever text and tables.
 pub const STACK: usize = 24576;
 
+/// What a call may choose; all of it is off by default.
+#[derive(Clone, Copy, Debug, Default, PartialEq, Eq)]
+pub struct Choices {
+    pub capitals: u8,
+}
+
 /// Tables that are lent to calls. They need not be right: a call checks them.
 #[derive(Clone, Copy)]
 pub struct Tables<'a> {
@@ -143,6 +155,7 @@ pub struct Rooms<'a> {
 unsafe extern "C" {
     fn jettyfig_romanize(
         mode: u8,
+        capitals: u8,
         rules: *const u8,
         rules_length: usize,
         classes: *const u8,
@@ -163,11 +176,12 @@ unsafe extern "C" {
 }
 
 /// The call. Its borrows say what C can't: no slice is null, and those that are written overlap no other.
-pub fn romanize(mode: u8, tables: Tables, code: &[u8], text: &[u8], rooms: Rooms) -> Answer {
+pub fn romanize(mode: u8, choices: Choices, tables: Tables, code: &[u8], text: &[u8], rooms: Rooms) -> Answer {
     // SAFETY: each pointer comes with the length of its slice, and the borrows last through the call.
     unsafe {
         jettyfig_romanize(
             mode,
+            choices.capitals,
             tables.rules.as_ptr(),
             tables.rules.len(),
             tables.classes.as_ptr(),

@@ -12,19 +12,19 @@ use Rattle.base.specs.Pick.{pick}
 use Rattle.base.specs.Lists.{keep, all, head, tail, or-else, is, maybe, bind, same}
 use Rattle.base.specs.Alls.{All, Opt, head-keep}
 use Rattle.definition.specs.Texts.{Text, among, at, prev, consonants, last-is, without-last, the-space, letter-i, khmer-yo}
-use Rattle.definition.specs.Tables.{Rule, Class, Vowel, Lexicon, script-thai}
+use Rattle.definition.specs.Tables.{Choices, Rule, Class, Vowel, Lexicon, script-thai}
 use Rattle.definition.specs.Notes.{note-exp}
 use Rattle.definition.specs.Classes.{class, alpha, mark, script}
 use Rattle.definition.specs.Edges.{View, M, ret}
 use Rattle.definition.specs.Rules.{first-rule}
 use Rattle.definition.specs.Syllables.{vowel-test, syllable-at}
 use Rattle.definition.specs.Vowels.{vowel-row, before-yo, bare}
-use Rattle.definition.specs.Expansion.{Work, work, doubled, small-tsu, double, framed, widen, around-by, around, pre-vowel, o-ang-side, between, small-ya, small-target, trim-front, trim-back}
+use Rattle.definition.specs.Expansion.{Work, work, upper-case, capitalizes, doubled, small-tsu, double, framed, widen, around-by, around, pre-vowel, o-ang-side, between, small-ya, small-target, trim-front, trim-back}
 use Rattle.definition.specs.Call.{Inputs, tables-of, tables, refusal}
 use Rattle.definition.specs.Accepted.{accepted-of}
 use Rattle.definition.specs.Risen.{vowels-scripted}
 use Rattle.definition.specs.Blank.{Blank, blank, blank-alpha, blank-mark}
-use Rattle.definition.specs.Outside.{char-at, char-before, read, at-read, prev-read, none-sign, none-virama, none-pre, none-script-is, none-script-differs, none-space, stands-there}
+use Rattle.definition.specs.Outside.{char-at, char-before, read, at-read, prev-read, none-sign, none-lowercase, none-virama, none-pre, none-script-is, none-script-differs, none-space, stands-there}
 
 -- What the laws take for granted of the space and of the vowel rows, an accepted call has
 pub accepted-blank : (i : Inputs) → refusal i ≡ none → Blank (class (tables i .classes) the-space)
@@ -81,6 +81,14 @@ module _ (ks : List Class) (w : Blank (class ks the-space)) (t : Text) where
     pub script-same : eqb (script ks (at t p)) k ≡ is (λ c. eqb (script ks c) k) (char-at t p)
     script-same =
         ap (λ c. eqb (script ks c) k) (at-read t p) ∙ none-script-is ks w k (row-script vs scripted k y row) (char-at t p)
+
+  -- Capitals: `next_char.is_some_and(|nc| nc.is_lowercase())`
+  pub capitalizes-there : (c : Choices) (x : Work) → capitalizes c ks t x
+      ≡ (eqb (c .capitals) 1 && eqb (x .from + 1) (x .to) && upper-case (x .rom) && is (λ d. class ks d .lowercase) (char-at t (x .to)))
+  unfolding capitalizes
+  capitalizes-there c x =
+      ap (λ b. eqb (c .capitals) 1 && eqb (x .from + 1) (x .to) && upper-case (x .rom) && b)
+      (ap (λ d. class ks d .lowercase) (at-read t (x .to)) ∙ none-lowercase ks w (char-at t (x .to)))
 
   -- Doubling: `if let Some(pc) = prev_char`
   pub double-there : (o : ℕ) (x : Work) → double ks t o x ≡ maybe (char-before t o) x (λ c.

@@ -1,4 +1,4 @@
--- What a call has checked when it refuses nothing of 1 to 8: its tables' rows are right, and its text is short enough.
+-- What a call has checked when it refuses nothing of 1 to 8 and 12: its tables' rows are right, and its text is short enough.
 use mathlib.Core.Bool.{Bool, true, false}
 use mathlib.Core.Path.{_≡_, refl}
 use mathlib.Core.List.{List, []}
@@ -12,7 +12,7 @@ use Rattle.base.specs.Lists.{first-of}
 use Rattle.base.specs.ListLaws.{or-none}
 use Rattle.base.specs.Rows.{Each, each-map}
 use Rattle.base.specs.Alls.{All, rows-all}
-use Rattle.definition.specs.Limits.{most-mode, most-characters, most-rows, most-script}
+use Rattle.definition.specs.Limits.{most-mode, most-choice, most-characters, most-rows, most-script}
 use Rattle.definition.specs.Texts.{Text}
 use Rattle.definition.specs.Utf8.{bad-sequence}
 use Rattle.definition.specs.Tables.{Rule, Class, Vowel}
@@ -95,6 +95,7 @@ vowels-placed b e =
 -- All that an accepted call has passed
 pub record Accepted (i : Inputs) : Type 0 where
   pub mode : i .mode ≤ most-mode
+  pub capitals : i .choices .capitals ≤ most-choice
   pub rules : rule-fault (i .rules) ≡ none
   pub classes : class-fault (i .classes) ≡ none
   pub vowels : vowel-fault (i .vowels) ≡ none
@@ -118,7 +119,8 @@ unfolding refusal before-text text-refusal first-of characters
 accepted-of i e =
     let both = or-none _ _ e in
     let a = or-none _ _ (both .0) in
-    let b = or-none _ _ (a .1) in
+    let m = or-none _ _ (a .1) in
+    let b = or-none _ _ (m .1) in
     let c = or-none _ _ (b .1) in
     let d = or-none _ _ (c .1) in
     let f = or-none _ _ (d .1) in
@@ -127,6 +129,7 @@ accepted-of i e =
     let k = or-none _ _ (h .1) in
     record {
       mode = ltb-false most-mode (i .mode) (when-none _ _ _ (a .0));
+      capitals = ltb-false most-choice (i .choices .capitals) (when-none _ _ _ (m .0));
       rules = b .0;
       classes = placed-none _ _ (c .0);
       vowels = placed-none _ _ (d .0);
@@ -141,6 +144,7 @@ pub refusal-of : (i : Inputs) → Accepted i → refusal i ≡ none
 unfolding refusal before-text text-refusal first-of characters when placed pick
 refusal-of i a = rw (
   le-ltb most-mode (i .mode) (a .mode),
+  le-ltb most-choice (i .choices .capitals) (a .capitals),
   a .rules,
   a .classes,
   a .vowels,

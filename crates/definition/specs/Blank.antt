@@ -28,6 +28,7 @@ pub record Blank (k : Class) : Type 0 where
   pub vocalic : k .vocalic ≡ false
   pub tone : k .tone ≡ false
   pub pre : k .pre ≡ false
+  pub lowercase : k .lowercase ≡ false
 
 blank-row : (low : ℕ) (s : List ℕ) → class-right low s ≡ true → class-of s .char ≡ the-space → Blank (class-of s)
 unfolding class-of class-by
@@ -44,6 +45,7 @@ blank-row low s e q =
       vocalic = unset 4;
       tone = unset 5;
       pre = unset 6;
+      lowercase = unset 7;
     }
 
 blank-in : (ks : List Class) → All (λ k. k .char ≡ the-space → Blank k) ks → Blank (class ks the-space)
@@ -58,6 +60,7 @@ blank-in [] h = record {
   vocalic = refl;
   tone = refl;
   pre = refl;
+  lowercase = refl;
 }
 blank-in (k ∷ ks) h = go (eqb (k .char) the-space) refl (blank-in ks (h .1))
   where

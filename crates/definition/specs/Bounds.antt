@@ -75,8 +75,8 @@ module _ (D : Tables) (ok : Bounded D) (t : Text) where
       post-bind (Voiced rom) _ (vowel-step-voiced (lexicon D) t v (D .vowels) b rom s e (ok .vowels) (h .low))
       (λ new q.
       let r = h .long in
-      let w = expand-held (lexicon D) t (ok .rules) (ok .virama) v new s e l k (short-wide (length rom + most-vowel) (omega arith) (q .short)) in
-      post-bind (λ x. Held (length t) most-bytes x × Kept new x) _ (both w (expand-kept (lexicon D) t new v s e))
+      let w = expand-held (lexicon D) t (ok .rules) (ok .virama) v (D .choices) new s e l k (short-wide (length rom + most-vowel) (omega arith) (q .short)) in
+      post-bind (λ x. Held (length t) most-bytes x × Kept new x) _ (both w (expand-kept (lexicon D) t new v (D .choices) s e))
       (λ x z. post-ret _ (unfold as-edge in (
         sound-of (as-edge b rom new x) (z .0 .forward) (z .0 .inside) (z .0 .short)
             (let y = edge-known b rom new x (z .1) in omega arith) (edge-cored b rom new x q (z .1)),

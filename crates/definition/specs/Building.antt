@@ -86,7 +86,7 @@ module _ (D : Tables) (t : Text) where
     unfoldable pub edge-of : Bool → Text → ℕ → ℕ → M Edge
     edge-of tail-edge rom s e = do
       new ← vowel-step (lexicon D) t v (D .vowels) tail-edge rom s e
-      x ← expand (lexicon D) t v new s e
+      x ← expand (lexicon D) t v (D .choices) new s e
       ret (as-edge tail-edge rom new x)
 
     -- the edge of a span: what full search answers, without the + of a tail, through vowel step and expansion

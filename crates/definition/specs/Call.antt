@@ -2,16 +2,16 @@
 use mathlib.Core.Bool.{Bool, not, _&&_, _||_}
 use mathlib.Core.List.{List, [], _∷_, _++_}
 use mathlib.Core.Option.{Option, none, some}
-use Prim.Native.Nat.{ℕ, zero, _+_, _-_, _/_}
+use Prim.Native.Nat.{ℕ, _+_, _-_, _/_}
 use lib.Dec.{eqb, leb, ltb}
 use lib.ListN.{length, replicate}
 use Rattle.base.specs.Pick.{pick}
 use Rattle.base.specs.Lists.{all, or-else, first-of, same}
-use Rattle.definition.specs.Limits.{most-mode, code-letters, most-characters, slot-bytes}
-use Rattle.definition.specs.Refusals.{Refusal, refuse, when, placed, refused-mode, refused-classes, refused-vowels, refused-code}
+use Rattle.definition.specs.Limits.{most-mode, most-choice, code-letters, most-characters, slot-bytes}
+use Rattle.definition.specs.Refusals.{Refusal, refuse, when, placed, refused-mode, refused-capitals, refused-classes, refused-vowels, refused-code}
 use Rattle.definition.specs.Refusals.{refused-utf8, refused-too-long, refused-left-out, refused-output}
 use Rattle.definition.specs.Texts.{Text}
-use Rattle.definition.specs.Tables.{Tables}
+use Rattle.definition.specs.Tables.{Choices, Tables}
 use Rattle.definition.specs.Blocks.{small}
 use Rattle.definition.specs.RuleRows.{rules-of}
 use Rattle.definition.specs.RuleFaults.{rule-fault}
@@ -26,6 +26,7 @@ use Rattle.definition.specs.Capacity.{misfit}
 -- What a call is given: tables, code and text are bytes; slots, text room and output are their lengths in bytes
 pub record Inputs : Type 0 where
   pub mode : ℕ
+  pub choices : Choices
   pub rules : List ℕ
   pub classes : List ℕ
   pub vowels : List ℕ
@@ -43,9 +44,10 @@ pub record Called : Type 0 where
   pub edges : ℕ
   pub output : List ℕ
 
--- What the tables' bytes and the code stand for, and the text's characters
-unfoldable pub tables-of : List ℕ → List ℕ → List ℕ → List ℕ → Tables
-tables-of rules classes vowels code = record {
+-- What the choices, the tables' bytes and the code stand for, and the text's characters
+unfoldable pub tables-of : Choices → List ℕ → List ℕ → List ℕ → List ℕ → Tables
+tables-of choices rules classes vowels code = record {
+  choices = choices;
   rules = rules-of rules;
   classes = classes-of classes;
   vowels = vowels-of vowels;
@@ -53,7 +55,7 @@ tables-of rules classes vowels code = record {
 }
 
 unfoldable pub tables : Inputs → Tables
-tables i = tables-of (i .rules) (i .classes) (i .vowels) (i .code)
+tables i = tables-of (i .choices) (i .rules) (i .classes) (i .vowels) (i .code)
 
 unfoldable pub characters : Inputs → Text
 characters i = decoded (i .text)
@@ -70,10 +72,11 @@ unfoldable pub first-left-out : ℕ → Text → Option ℕ
 first-left-out p [] = none
 first-left-out p (c ∷ t) = pick (left-out c) (some p) (first-left-out (p + 1) t)
 
--- What is refused before any edge is built: the first of these, in this order. Of mode, tables and code
-unfoldable pub before-text : ℕ → List ℕ → List ℕ → List ℕ → List ℕ → Option Refusal
-before-text mode rules classes vowels code = first-of
+-- What is refused before any edge is built: the first of these, in this order. Of mode, choices, tables and code
+unfoldable pub before-text : ℕ → Choices → List ℕ → List ℕ → List ℕ → List ℕ → Option Refusal
+before-text mode choices rules classes vowels code = first-of
     (when (ltb most-mode mode) refused-mode 0
+    ∷ when (ltb most-choice (choices .capitals)) refused-capitals 0
     ∷ rule-fault rules
     ∷ placed refused-classes (class-fault classes)
     ∷ placed refused-vowels (vowel-fault vowels)
@@ -89,7 +92,7 @@ text-refusal text = first-of
     ∷ [])
 
 unfoldable pub refusal : Inputs → Option Refusal
-refusal i = or-else (before-text (i .mode) (i .rules) (i .classes) (i .vowels) (i .code)) (text-refusal (i .text))
+refusal i = or-else (before-text (i .mode) (i .choices) (i .rules) (i .classes) (i .vowels) (i .code)) (text-refusal (i .text))
 
 -- after a refusal length and count are 0, and the output is zero
 unfoldable pub refused : Inputs → Refusal → Called

@@ -2,15 +2,15 @@
 use mathlib.Core.Bool.{true, false, not}
 use mathlib.Core.Path.{_≡_}
 use mathlib.Core.List.{List, [], _∷_}
-use Prim.Native.Nat.{ℕ, _+_, _≤_, _<_}
-use lib.Dec.{eqb, leb, ltb}
+use Prim.Native.Nat.{ℕ, _≤_}
+use lib.Dec.{eqb, leb}
 use lib.ListN.{length}
-use borrow.Author.Tests.{leb-true, ltb-true, eqb-true, eq-eqb, not-true}
+use borrow.Author.Tests.{leb-true, eqb-true, eq-eqb, not-true}
 use Rattle.base.specs.Bools.{or-not}
 use Rattle.base.specs.Lists.{all, holds}
 use Rattle.base.specs.ListLaws.{holds-length}
 use Rattle.base.specs.Alls.{conj-all}
-use Rattle.definition.specs.Limits.{flags-limit, most-source, most-codes, most-script, most-vowel}
+use Rattle.definition.specs.Limits.{most-source, most-codes, most-script, most-vowel}
 use Rattle.definition.specs.Texts.{Text, latin, the-space}
 use Rattle.definition.specs.Utf8.{scalar}
 use Rattle.definition.specs.Tables.{category-letter, category-Zs, script-none}
@@ -65,7 +65,6 @@ pub record ClassChecked (low : ℕ) (s : List ℕ) : Type 0 where
   pub risen : low ≤ class-char s
   pub category : class-category s ≤ category-Zs
   pub script : class-script s ≤ most-script
-  pub flags : class-flags s < flags-limit
   -- U+0020's row is plain: category 7, script 0, no flags
   pub space : class-char s ≡ the-space → (class-category s ≡ category-Zs) × (class-script s ≡ script-none) × (class-flags s ≡ 0)
   -- A-Z and a-z are letters
@@ -75,14 +74,13 @@ pub class-checked : (low : ℕ) (s : List ℕ) → class-right low s ≡ true �
 unfolding class-right class-fits space-right latin-right
 class-checked low s e =
     let a = conj-all (class-fits low s) (space-right s ∷ latin-right s ∷ []) e in
-    let f = conj-all (holds 6 s) (scalar (class-char s) ∷ leb low (class-char s) ∷ leb (class-category s) category-Zs ∷ leb (class-script s) most-script ∷ ltb (class-flags s) flags-limit ∷ []) (a .0) in
+    let f = conj-all (holds 6 s) (scalar (class-char s) ∷ leb low (class-char s) ∷ leb (class-category s) category-Zs ∷ leb (class-script s) most-script ∷ []) (a .0) in
     record {
       inside = holds-length 6 s (f .0);
       scalars = f .1 .0;
       risen = leb-true low (class-char s) (f .1 .1 .0);
       category = leb-true (class-category s) category-Zs (f .1 .1 .1 .0);
       script = leb-true (class-script s) most-script (f .1 .1 .1 .1 .0);
-      flags = ltb-true (class-flags s) flags-limit (f .1 .1 .1 .1 .1 .0);
       space = λ q.
           let p = conj-all (eqb (class-category s) category-Zs) (eqb (class-script s) script-none ∷ eqb (class-flags s) 0 ∷ [])
           (or-not (eqb (class-char s) the-space) _ (eq-eqb (class-char s) the-space q) (a .1 .0)) in

@@ -3,19 +3,19 @@ use mathlib.Core.Bool.{Bool, not, _&&_, _||_}
 use mathlib.Core.List.{List}
 use mathlib.Core.Option.{Option}
 use Prim.Native.Nat.{ℕ, _+_}
-use lib.Dec.{eqb, leb, ltb}
+use lib.Dec.{eqb, leb}
 use lib.ListN.{getD, drop}
 use Rattle.base.specs.Big.{be3}
 use Rattle.base.specs.Bits.{flagged}
 use Rattle.base.specs.Lists.{holds}
 use Rattle.base.specs.Rows.{rows}
-use Rattle.definition.specs.Limits.{flags-limit, most-rows, most-script}
+use Rattle.definition.specs.Limits.{most-rows, most-script}
 use Rattle.definition.specs.Texts.{latin, the-space}
 use Rattle.definition.specs.Utf8.{scalar}
 use Rattle.definition.specs.Tables.{Class, category-letter, category-Zs, script-none}
 use Rattle.definition.specs.Blocks.{head-bytes, faulty-row}
 
--- Bits of the flags; bit 7 is zero
+-- Bits of the flags
 abbrev pub sign-bit : ℕ
 sign-bit = 0
 
@@ -36,6 +36,9 @@ tone-bit = 5
 
 abbrev pub pre-bit : ℕ
 pre-bit = 6
+
+abbrev pub lowercase-bit : ℕ
+lowercase-bit = 7
 
 -- The parts of a row
 unfoldable pub class-size : List ℕ → ℕ
@@ -66,6 +69,7 @@ class-by c k n f = record {
   vocalic = flagged f vocalic-bit;
   tone = flagged f tone-bit;
   pre = flagged f pre-bit;
+  lowercase = flagged f lowercase-bit;
 }
 
 unfoldable pub class-of : List ℕ → Class
@@ -75,12 +79,12 @@ class-of s = class-by (class-char s) (class-category s) (class-script s) (class-
 unfoldable pub class-next : List ℕ → ℕ
 class-next s = class-char s + 1
 
--- A right row: scalar values rise, category, script and flags are known; one for U+0020 is plain,
--- and one for A-Z or a-z says that it is a letter
+-- A right row: scalar values rise, category and script are known, and every bit of the flags is; one for U+0020 is
+-- plain, and one for A-Z or a-z says that it is a letter
 unfoldable pub class-fits : ℕ → List ℕ → Bool
 class-fits low s =
     holds 6 s && scalar (class-char s) && leb low (class-char s)
-    && leb (class-category s) category-Zs && leb (class-script s) most-script && ltb (class-flags s) flags-limit
+    && leb (class-category s) category-Zs && leb (class-script s) most-script
 
 unfoldable pub space-right : List ℕ → Bool
 space-right s =

@@ -20,6 +20,7 @@ plain c = record {
   vocalic = false;
   tone = false;
   pre = false;
+  lowercase = false;
 }
 
 -- its row, or what counts where it has none

@@ -1,9 +1,9 @@
 -- Why an edge's core needs no comparison: its text has it. Under `note-core` the text is consonants, which are the
 -- core, and then vowels, 4 at most; every other edge has none.
-use mathlib.Core.Bool.{Bool, true, false, not, _&&_}
+use mathlib.Core.Bool.{Bool, true, false, not, _&&_, _||_, or-true}
 use mathlib.Core.Path.{_≡_, refl, sym, ap, _∙_, subst}
 use mathlib.Core.List.{[], _∷_, _++_, reverse, reverse-append}
-use mathlib.Core.Option.{Option, none}
+use mathlib.Core.Option.{Option}
 use Prim.Native.Nat.{ℕ, _+_, _-_, _≤_, _<_}
 use native.Mathlib.Omega.{arith}
 use native.Mathlib.Decide.{ℕ-discrete}
@@ -12,22 +12,24 @@ use lib.ListN.{length, drop, length-drop, length-reverse}
 use borrow.Author.Tests.{eqb-true, not-true}
 use Rattle.base.specs.Pick.{pick, pick-all}
 use Rattle.base.specs.Bools.{and-left, and-right}
-use Rattle.base.specs.Lists.{all, head, is, has, front, same, starts, bind, keep}
-use Rattle.base.specs.ListLaws.{same-none, same-true, some-left, starts-split}
+use Rattle.base.specs.Lists.{any, all, head, is, has, front, same, starts, bind, keep}
+use Rattle.base.specs.ListLaws.{any-append, same-none, same-true, some-left, starts-split}
 use Rattle.base.specs.Alls.{Opt, Opt-any, maybe-all, bind-all, or-else-all, all-reverse}
 use Rattle.definition.specs.Limits.{most-vowel}
 use Rattle.definition.specs.Notes.{note-none, note-core, note-tail, note-rom, note-del}
-use Rattle.definition.specs.Texts.{Text, at, prev, consonants, vowels, last-is, the-space}
-use Rattle.definition.specs.Tables.{Lexicon}
+use Rattle.definition.specs.Texts.{Text, prev, consonants, vowels, last-is, the-space}
+use Rattle.definition.specs.Tables.{Choices, Lexicon}
 use Rattle.definition.specs.Edges.{Edge, View, alike}
 use Rattle.definition.specs.Rules.{simple}
 use Rattle.definition.specs.Vowels.{consonant-only}
-use Rattle.definition.specs.Expansion.{Work, work, double, around, around-by, widen, framed, before, pre-vowel, silent, small-target, trim-front}
+use Rattle.definition.specs.Expansion.{Work, work, capitalize, double, around, around-by, widen, framed, before, pre-vowel, silent, small-target, trim-front}
 use Rattle.definition.specs.Expansion.{trim-back, trim, finish, grave, small-y, rest, o-ang-step, thai, by-script, expand}
 use Rattle.definition.specs.Building.{grown, as-edge}
+use Rattle.definition.specs.Blocks.{small}
+use Rattle.definition.specs.Capitals.{small-stays, capitalize-ind}
 use Rattle.definition.specs.Posts.{Post, post-ret, post-bind, post-then, post-pick, post-maybe}
 use Rattle.definition.specs.VowelBounds.{Voiced}
-use Rattle.definition.specs.Letters.{vowel-no-space, consonant-no-space, front-consonants}
+use Rattle.definition.specs.Letters.{vowel-small, vowel-no-space, consonant-no-space, front-consonants}
 
 -- Consonants, `core` of them, then vowels
 pub record Syllable (text : Text) (core : ℕ) : Type 0 where
@@ -65,10 +67,11 @@ grown-syllable rom new h g =
       few = let z = h .short .long in omega (arith, length-drop (length rom) new);
     }
 
--- A text with no space at either end
-pub record Tight (w : Text) : Type 0 where
+-- A text that neither capitals nor trimming change: it has a small letter, and no space at either end
+pub record Steady (w : Text) : Type 0 where
   pub front : is (eqb the-space) (head w) ≡ false
   pub back : last-is (eqb the-space) w ≡ false
+  pub small : any small w ≡ true
 
 first-is : (q : ℕ → Bool) (w u : Text) → 0 < length w → is q (head (w ++ u)) ≡ is q (head w)
 unfolding head
@@ -84,18 +87,28 @@ unfolding head all
 all-first P q f [] e = refl
 all-first P q f (c ∷ w) e = f c (and-left _ _ e)
 
-syllable-tight : {text : Text} {core : ℕ} → Syllable text core → Tight text
+-- a vowel is a small letter
+vowel-in : (w : Text) → 0 < length w → all vowels w ≡ true → any small w ≡ true
+unfolding any all
+vowel-in [] l e = absurd (omega arith)
+vowel-in (c ∷ w) l e = ap (λ b. b || any small w) (vowel-small c (and-left _ _ e))
+
+small-in : (w u : Text) → any small u ≡ true → any small (w ++ u) ≡ true
+small-in w u e = any-append small w u ∙ ap (λ b. any small w || b) e ∙ or-true (any small w)
+
+syllable-steady : {text : Text} {core : ℕ} → Syllable text core → Steady text
 unfolding last-is
-syllable-tight {text} y = record {
+syllable-steady {text} y = record {
   front = ap (λ w. is (eqb the-space) (head w)) (y .whole) ∙ first-is (eqb the-space) (y .first) (y .then) (y .some-first)
       ∙ all-first consonants (eqb the-space) consonant-no-space (y .first) (y .consonants);
   back = ap (last-is (eqb the-space)) (y .whole) ∙ last-in (eqb the-space) (y .first) (y .then) (y .some-then)
       ∙ all-first vowels (eqb the-space) vowel-no-space (reverse (y .then)) (all-reverse vowels (y .then) (y .vowels));
+  small = ap (any small) (y .whole) ∙ small-in (y .first) (y .then) (vowel-in (y .then) (y .some-then) (y .vowels));
 }
 
--- The expansion annotates what it makes, and else leaves a text without outer spaces as it is
+-- The expansion annotates what it makes, and else leaves such a text as it is
 pub record Kept (rom : Text) (w : Work) : Type 0 where
-  pub is : w .note ≡ note-none → Tight rom → w .rom ≡ rom
+  pub is : w .note ≡ note-none → Steady rom → w .rom ≡ rom
   pub coreless : w .note ≡ note-core → ⊥
   pub known : w .note ≤ note-del
 
@@ -103,6 +116,16 @@ acted : {rom : Text} {w : Work} → note-core < w .note → w .note ≤ note-del
 acted l k = record { is = λ z. absurd (omega arith); coreless = λ z. omega arith; known = k }
 
 module _ (L : Lexicon) (t : Text) (rom : Text) where
+  capitalize-kept : (c : Choices) (s e : ℕ) → Kept rom (capitalize c (L .classes) t (work rom s e note-none))
+  capitalize-kept c s e = record {
+    is = λ z y. ap (λ (w : Work). w .rom) (small-stays c (L .classes) t w₀ (y .small));
+    coreless = capitalize-ind (λ w. w .note ≡ note-core → ⊥) c (L .classes) t w₀ (λ z. omega arith) (λ z. omega arith);
+    known = capitalize-ind (λ w. w .note ≤ note-del) c (L .classes) t w₀ (omega arith) (omega arith);
+  }
+    where
+      w₀ : Work
+      w₀ = work rom s e note-none
+
   double-kept : (o : ℕ) (w : Work) → Kept rom w → Kept rom (double (L .classes) t o w)
   unfolding double
   double-kept o w h = pick-all (Kept rom) _ (acted (omega arith) (omega arith)) h
@@ -160,13 +183,15 @@ module _ (L : Lexicon) (t : Text) (rom : Text) where
         (post-pick (silent (L .rules) (L .classes) t v o b) (post-ret _ (acted (omega arith) (omega arith))) (rest-kept o b (before-kept w h)))
         (λ x q. post-ret x q)
 
-    pub expand-kept : (s e : ℕ) → Post Work (Kept rom) (expand L t v rom s e)
+    pub expand-kept : (c : Choices) (s e : ℕ) → Post Work (Kept rom) (expand L t v c rom s e)
     unfolding expand by-script
-    expand-kept s e =
+    expand-kept c s e =
         let w = work rom s e note-none in
         let k : Kept rom w = record { is = λ z y. refl; coreless = λ z. omega arith; known = omega arith } in
-        let d = double (L .classes) t s w in
-        post-pick _ (post-ret w k) (post-pick _ (thai-kept s d (double-kept s w k)) (rest-kept s d (double-kept s w k)))
+        let u = capitalize c (L .classes) t w in
+        let d = double (L .classes) t s u in
+        let kept = double-kept s u (capitalize-kept c s e) in
+        post-pick _ (post-ret w k) (post-pick _ (thai-kept s d kept) (rest-kept s d kept))
 
 -- What is said of every edge: a core only under its annotation, and then the text has it
 pub record Cored (x : Edge) : Type 0 where
@@ -223,7 +248,7 @@ edge-cored b rom new x h k = go (eqb (x .note) note-none) (grown rom new) refl r
     go true true p q = unfold pick in record {
       there = λ z.
           let y = grown-syllable rom new h q in
-          subst (λ w. Syllable w (length rom)) (sym (k .is (eqb-true (x .note) note-none p) (syllable-tight y))) y;
+          subst (λ w. Syllable w (length rom)) (sym (k .is (eqb-true (x .note) note-none p) (syllable-steady y))) y;
       absent = λ z. absurd (z refl);
     }
     go true false p q = unfold pick in record { there = λ z. absurd (plain b z); absent = λ z. refl }

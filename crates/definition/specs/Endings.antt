@@ -17,7 +17,7 @@ use Rattle.definition.specs.Tables.{Tables}
 use Rattle.definition.specs.Edges.{Edge}
 use Rattle.definition.specs.Building.{lattice}
 use Rattle.definition.specs.Listing.{shown}
-use Rattle.definition.specs.Refusals.{Refusal, refuse, when, placed, numbers, refused-mode, refused-classes, refused-vowels, refused-code}
+use Rattle.definition.specs.Refusals.{Refusal, refuse, when, placed, numbers, refused-mode, refused-capitals, refused-classes, refused-vowels, refused-code}
 use Rattle.definition.specs.Refusals.{refused-utf8, refused-too-long, refused-left-out, refused-room, refused-output}
 use Rattle.definition.specs.RuleFaults.{rule-fault}
 use Rattle.definition.specs.RuleNumbers.{fault-number}
@@ -82,10 +82,13 @@ refusal-numbered i = or-numbered _ _
     (first-numbered _ (
       when-numbered _ refused-mode 0 refl,
       (
-        rules-numbered (i .rules) (rule-fault (i .rules)) refl,
+        when-numbered _ refused-capitals 0 refl,
         (
-          placed-numbered _ refused-classes refl,
-          (placed-numbered _ refused-vowels refl, (when-numbered _ refused-code 0 refl, tt)),
+          rules-numbered (i .rules) (rule-fault (i .rules)) refl,
+          (
+            placed-numbered _ refused-classes refl,
+            (placed-numbered _ refused-vowels refl, (when-numbered _ refused-code 0 refl, tt)),
+          ),
         ),
       ),
     ))

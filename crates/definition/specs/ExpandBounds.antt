@@ -16,18 +16,19 @@ use Rattle.base.specs.Lists.{keep, head, tail, has, is, bind, same, starts}
 use Rattle.base.specs.Alls.{All, All-keep, All-head, Opt, Opt-with, maybe-all, bind-all, or-else-all, head-keep}
 use Rattle.definition.specs.Limits.{most-target, most-bytes}
 use Rattle.definition.specs.Texts.{Text, chars, among, at, prev, the-space, letter-e, en-dash, addak, long-mark, coptic-grave}
-use Rattle.definition.specs.Tables.{Rule, Lexicon}
+use Rattle.definition.specs.Tables.{Rule, Choices, Lexicon}
 use Rattle.definition.specs.Notes.{note-exp}
 use Rattle.definition.specs.Classes.{class}
 use Rattle.definition.specs.Edges.{View}
 use Rattle.definition.specs.Rules.{first-rule, simple}
-use Rattle.definition.specs.Expansion.{Work, work, doubling, doubled, double, framed, widen, around-by, around, pre-vowel, before, silent, small-ya}
+use Rattle.definition.specs.Expansion.{Work, work, capitalize, doubling, doubled, double, framed, widen, around-by, around, pre-vowel, before, silent, small-ya}
 use Rattle.definition.specs.Expansion.{small-target, lengthens, trim-front, trim-back, trim, finish, grave, small-y, rest, o-ang-step, thai, by-script}
 use Rattle.definition.specs.Expansion.{expand}
 use Rattle.definition.specs.Shorts.{Short, short-none, short-wide, short-append, short-letter, short-reverse, short-tail, short-without-last, short-one}
 use Rattle.definition.specs.Posts.{Post, post-ret, post-bind, post-then, post-if, post-pick, post-maybe}
 use Rattle.definition.specs.Within.{fits-bound, inner}
 use Rattle.definition.specs.VowelBounds.{voiced-bytes}
+use Rattle.definition.specs.Capitals.{capitalize-ind, capitalized-short}
 
 -- Bytes after each step
 abbrev doubled-bytes : ℕ
@@ -100,6 +101,10 @@ module _ (L : Lexicon) (t : Text) (spoken : All Spoken (L .rules)) (blank : clas
         short = short-append 1 voiced-bytes (doubled-short voiced-bytes (prev t o) (w .rom) (h .short)) (h .short);
       })
       (held-wide voiced-bytes (omega arith) h)
+
+  capitalize-held : (c : Choices) (w : Work) → Work-of voiced-bytes w → Work-of voiced-bytes (capitalize c (L .classes) t w)
+  capitalize-held c w h = capitalize-ind (Work-of voiced-bytes) c (L .classes) t w
+      (record { forward = h .forward; inside = h .inside; short = capitalized-short (h .short) }) h
 
   around-by-held : (k : ℕ) (w : Work) → Work-of doubled-bytes w → Opt (Work-of pre-bytes) (around-by (L .rules) t k w)
   unfolding around-by widen
@@ -224,12 +229,13 @@ module _ (L : Lexicon) (t : Text) (spoken : All Spoken (L .rules)) (blank : clas
       (o-ang-held v o (before (L .rules) (L .classes) t w) (before-held w h))
       (λ x q. post-ret x (held-wide pre-bytes (omega arith) q))
 
-  pub expand-held : (v : View) (rom : Text) (s e : ℕ) → s < e → e ≤ length t → Short voiced-bytes rom
-      → Post Work (Work-of most-bytes) (expand L t v rom s e)
+  pub expand-held : (v : View) (c : Choices) (rom : Text) (s e : ℕ) → s < e → e ≤ length t → Short voiced-bytes rom
+      → Post Work (Work-of most-bytes) (expand L t v c rom s e)
   unfolding expand by-script
-  expand-held v rom s e l k h =
+  expand-held v c rom s e l k h =
       let w : Work-of voiced-bytes (work rom s e 0) = record { forward = l; inside = k; short = h } in
-      let d = double-held s (work rom s e 0) w in
+      let u = capitalize c (L .classes) t (work rom s e 0) in
+      let d = double-held s u (capitalize-held c (work rom s e 0) w) in
       post-pick _ (post-ret (work rom s e 0) (held-wide voiced-bytes (omega arith) w))
-      (post-pick _ (thai-held v s (double (L .classes) t s (work rom s e 0)) d)
-      (rest-held v s (double (L .classes) t s (work rom s e 0)) (held-wide doubled-bytes (omega arith) d)))
+      (post-pick _ (thai-held v s (double (L .classes) t s u) d)
+      (rest-held v s (double (L .classes) t s u) (held-wide doubled-bytes (omega arith) d)))

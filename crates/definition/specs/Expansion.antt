@@ -1,17 +1,18 @@
--- Expansion (`expand_rom_with_special_chars`), step by step in the file's order. The Braille marker is left out, and
--- so is the capitalizing step: it never acts, as its iterator is used up by its own test.
+-- Expansion (`expand_rom_with_special_chars`), step by step in the file's order. The Braille marker is left out. The
+-- capitalizing step never acts in the Rust, as its iterator is used up by its own test: it is a choice.
 -- A position outside the text reads as a space: in an accepted table of no script and no flag (Blank).
 use mathlib.Core.Bool.{Bool, not, _&&_, _||_}
-use mathlib.Core.List.{List, [], _∷_, _++_, reverse}
+use mathlib.Core.List.{List, [], _∷_, _++_, map, reverse}
 use mathlib.Core.Option.{Option, none, some}
 use Prim.Native.Nat.{ℕ, _+_, _-_}
 use lib.Dec.{eqb}
 use lib.ListN.{length, take, drop}
 use Rattle.base.specs.Pick.{pick}
-use Rattle.base.specs.Lists.{keep, all, head, tail, or-else, has, is, maybe, bind, same, starts}
-use Rattle.definition.specs.Texts.{Text, chars, among, at, prev, stands, fits, vowels, consonants, last-is, without-last, the-space, letter-e, letter-i}
+use Rattle.base.specs.Lists.{keep, any, all, head, tail, or-else, has, is, maybe, bind, same, starts}
+use Rattle.definition.specs.Texts.{Text, chars, among, at, prev, stands, fits, vowels, consonants, capital, lower, last-is, without-last, the-space, letter-e, letter-i}
 use Rattle.definition.specs.Texts.{addak, en-dash, long-mark, coptic-grave, o-ang}
-use Rattle.definition.specs.Tables.{Rule, Class, Lexicon, script-thai, script-coptic, script-hiragana, script-katakana}
+use Rattle.definition.specs.Blocks.{small}
+use Rattle.definition.specs.Tables.{Rule, Class, Choices, Lexicon, script-thai, script-coptic, script-hiragana, script-katakana}
 use Rattle.definition.specs.Notes.{note-none, note-exp, note-del}
 use Rattle.definition.specs.Classes.{class, script}
 use Rattle.definition.specs.Edges.{View, M, ret, _>>=_}
@@ -26,6 +27,23 @@ pub record Work : Type 0 where
 
 abbrev pub work : Text → ℕ → ℕ → ℕ → Work
 work w s e n = record { rom = w; from = s; to = e; note = n }
+
+-- Capitals, where that is chosen: over one character before a lower-case one, a romanization in upper case keeps its first
+-- byte, and its later letters become small. Upper case is a letter A-Z at least, and none a-z
+unfoldable pub upper-case : Text → Bool
+upper-case w = any capital w && not (any small w)
+
+unfoldable pub capitalized : Text → Text
+capitalized [] = []
+capitalized (c ∷ w) = c ∷ map lower w
+
+unfoldable pub capitalizes : Choices → List Class → Text → Work → Bool
+capitalizes c ks t w =
+    eqb (c .capitals) 1 && eqb (w .from + 1) (w .to) && upper-case (w .rom) && class ks (at t (w .to)) .lowercase
+
+unfoldable pub capitalize : Choices → List Class → Text → Work → Work
+capitalize c ks t w =
+    pick (capitalizes c ks t w) (work (capitalized (w .rom)) (w .from) (w .to) (w .note)) w
 
 -- Doubling. DOUBLE_CONSONANT_RE: ^(ch|[bcdfghjklmnpqrstwz]); ch is doubled by t, after addak by c
 unfoldable pub doubling : ℕ → Bool
@@ -162,7 +180,7 @@ module _ (L : Lexicon) (t : Text) (v : View) where
   unfoldable pub by-script : ℕ → Work → M Work
   by-script o w = pick (eqb (script (L .classes) (at t o)) script-thai) (thai o w) (rest o w)
 
-  -- an empty romanization is not expanded
-  unfoldable pub expand : Text → ℕ → ℕ → M Work
-  expand rom s e = pick (same rom []) (ret (work rom s e note-none))
-      (by-script s (double (L .classes) t s (work rom s e note-none)))
+  -- an empty romanization is not expanded; in another, capitals go before doubling
+  unfoldable pub expand : Choices → Text → ℕ → ℕ → M Work
+  expand c rom s e = pick (same rom []) (ret (work rom s e note-none))
+      (by-script s (double (L .classes) t s (capitalize c (L .classes) t (work rom s e note-none))))

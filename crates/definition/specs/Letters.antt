@@ -10,6 +10,7 @@ use borrow.Author.Tests.{eqb-true}
 use Rattle.base.specs.Bools.{and-left, and-right, or-cases}
 use Rattle.base.specs.Lists.{all, front}
 use Rattle.base.specs.Alls.{All}
+use Rattle.definition.specs.Blocks.{small}
 use Rattle.definition.specs.Texts.{Text, chars, among, vowels, consonants, the-space}
 
 pub among-all : (s : String) (P : ℕ → Type 0) → All P (chars s) → (c : ℕ) → among s c ≡ true → P c
@@ -18,10 +19,14 @@ among-all String.[] P h c e = absurd (true≢false (sym e))
 among-all (String._∷_ d s) P h c e = or-cases (eqb (code d) c) (among s c)
     (λ q. subst P (eqb-true (code d) c q) (h .0)) (among-all s P (h .1) c) e
 
--- a vowel is no consonant, and neither is a space
+-- a vowel is no consonant but a small letter, and neither is a space
 pub vowel-no-consonant : (c : ℕ) → vowels c ≡ true → consonants c ≡ false
 unfolding vowels consonants among
 vowel-no-consonant = among-all "aeiou" (λ c. consonants c ≡ false) (refl, (refl, (refl, (refl, (refl, tt)))))
+
+pub vowel-small : (c : ℕ) → vowels c ≡ true → small c ≡ true
+unfolding vowels among small
+vowel-small = among-all "aeiou" (λ c. small c ≡ true) (refl, (refl, (refl, (refl, (refl, tt)))))
 
 pub vowel-no-space : (c : ℕ) → vowels c ≡ true → eqb the-space c ≡ false
 unfolding vowels among

@@ -62,6 +62,7 @@ pub mod Shorts
 pub mod Posts
 pub mod Within
 pub mod Letters
+pub mod Capitals
 pub mod VowelBounds
 pub mod ExpandBounds
 pub mod Cores

@@ -1,9 +1,12 @@
 -- The limits of document 01, each named once.
 use Prim.Native.Nat.{ℕ, _+_, _-_}
 
--- the highest mode, and the letters of a language code
+-- the highest mode, the highest number of a choice, and the letters of a language code
 abbrev pub most-mode : ℕ
 most-mode = 3
+
+abbrev pub most-choice : ℕ
+most-choice = 1
 
 abbrev pub code-letters : ℕ
 code-letters = 3
@@ -36,10 +39,6 @@ most-vowel = 4
 
 abbrev pub most-script : ℕ
 most-script = 127
-
--- flags of a class row stay below the bit that is 0
-abbrev pub flags-limit : ℕ
-flags-limit = 128
 
 -- ASCII characters, all bytes of a target text among them
 abbrev pub ascii-characters : ℕ

@@ -8,14 +8,15 @@ use Rattle.base.specs.Pick.{pick-all}
 use Rattle.base.specs.Lists.{head, keep, has, bind}
 use Rattle.base.specs.Alls.{Opt, Opt-any, maybe-all, bind-all, or-else-all}
 use Rattle.definition.specs.Texts.{Text, prev}
-use Rattle.definition.specs.Tables.{Lexicon, Tables, lexicon}
+use Rattle.definition.specs.Tables.{Choices, Lexicon, Tables, lexicon}
 use Rattle.definition.specs.Edges.{Edge, View}
 use Rattle.definition.specs.Rules.{simple}
 use Rattle.definition.specs.Syllables.{full}
 use Rattle.definition.specs.Vowels.{vowel-step}
-use Rattle.definition.specs.Expansion.{Work, work, double, framed, widen, around-by, around, pre-vowel, before, silent, small-target, trim, finish, grave}
+use Rattle.definition.specs.Expansion.{Work, work, capitalize, double, framed, widen, around-by, around, pre-vowel, before, silent, small-target, trim, finish, grave}
 use Rattle.definition.specs.Expansion.{small-y, rest, o-ang-step, thai, by-script, expand}
 use Rattle.definition.specs.Building.{is-tail, without-plus, as-edge, edge-of, span-edge}
+use Rattle.definition.specs.Capitals.{capitalize-ind}
 use Rattle.definition.specs.Posts.{Post, post-ret, post-bind, post-then, post-pick, post-any, post-maybe}
 
 -- An edge of a span that starts at `s`
@@ -42,6 +43,9 @@ module _ (L : Lexicon) (t : Text) (s : ℕ) where
   double-moved : (o : ℕ) (w : Work) → Moved 0 s w → Moved 1 s (double (L .classes) t o w)
   unfolding double
   double-moved o w h = pick-all (Moved 1 s) _ (one-left _ _ _ h) (as-far h)
+
+  capitalize-moved : (c : Choices) (w : Work) → Moved 0 s w → Moved 0 s (capitalize c (L .classes) t w)
+  capitalize-moved c w h = capitalize-ind (Moved 0 s) c (L .classes) t w (stays _ _ _ h) h
 
   around-by-moved : (k : ℕ) (w : Work) → Moved 1 s w → Opt (Moved 2 s) (around-by (L .rules) t k w)
   unfolding around-by widen
@@ -99,21 +103,21 @@ module _ (L : Lexicon) (t : Text) (s : ℕ) where
       (o-ang-moved v o (before (L .rules) (L .classes) t w) (before-moved w h))
       (λ x q. post-ret x q)
 
-  expand-moved : (v : View) (rom : Text) (e : ℕ) → Post Work (Moved 2 s) (expand L t v rom s e)
+  expand-moved : (v : View) (c : Choices) (rom : Text) (e : ℕ) → Post Work (Moved 2 s) (expand L t v c rom s e)
   unfolding expand by-script
-  expand-moved v rom e =
+  expand-moved v c rom e =
       let w : Moved 0 s (work rom s e 0) = record { left = omega arith; near = omega arith } in
-      let d = double-moved s (work rom s e 0) w in
+      let u = capitalize c (L .classes) t (work rom s e 0) in
+      let d = double-moved s u (capitalize-moved c (work rom s e 0) w) in
       post-pick _ (post-ret (work rom s e 0) (as-far (as-far w)))
-      (post-pick _ (thai-moved v s (double (L .classes) t s (work rom s e 0)) d)
-      (rest-moved v s (double (L .classes) t s (work rom s e 0)) (as-far d)))
+      (post-pick _ (thai-moved v s (double (L .classes) t s u) d) (rest-moved v s (double (L .classes) t s u) (as-far d)))
 
 module _ (D : Tables) (t : Text) (v : View) (s e : ℕ) where
   edge-near : (b : Bool) (rom : Text) → Post Edge (Near s) (edge-of D t v b rom s e)
   unfolding edge-of
   edge-near b rom =
       post-then (vowel-step (lexicon D) t v (D .vowels) b rom s e) _
-      (λ new. post-bind (Moved 2 s) _ (expand-moved (lexicon D) t s v new e)
+      (λ new. post-bind (Moved 2 s) _ (expand-moved (lexicon D) t s v (D .choices) new e)
       (λ x z. post-ret _ (unfold as-edge in record { left = z .left; near = z .near })))
 
   pub span-near : Post (Option Edge) (Opt (Near s)) (span-edge D t v s e)

@@ -2,7 +2,7 @@
 -- the two answer alike, question by question. Asked of a neighbour, which may lie outside, are
 --   a letter or mark (`fresh`, `word-end`, `syllable-at`), a nonspacing mark (`bare`),
 --   a vowel sign, medial, subjoined, virama (`bare`, `vowel-in`, `finish`), a tone mark (`past-tone`),
---   written before its consonant (`syllable-at`, `around`, `pre-vowel`),
+--   written before its consonant (`syllable-at`, `around`, `pre-vowel`), lower case (`capitalizes`),
 --   a script that rules speak of (`pre-vowel`, `between`) or that takes a vowel (`vowel-in`),
 --   certain characters (`bare`, `double`, `o-ang-test`, `grave`, `small-target`, `lengthens`),
 --   the space itself (`trim-front`, `trim-back`),
@@ -80,6 +80,9 @@ module _ (ks : List Class) (w : Blank (class ks the-space)) where
 
   pub none-subjoined : (o : Option ℕ) → class ks (read o) .subjoined ≡ is (λ c. class ks c .subjoined) o
   none-subjoined = asked (λ c. class ks c .subjoined) (w .subjoined)
+
+  pub none-lowercase : (o : Option ℕ) → class ks (read o) .lowercase ≡ is (λ c. class ks c .lowercase) o
+  none-lowercase = asked (λ c. class ks c .lowercase) (w .lowercase)
 
   pub none-virama : (o : Option ℕ) → class ks (read o) .virama ≡ is (λ c. class ks c .virama) o
   none-virama = asked (λ c. class ks c .virama) (w .virama)

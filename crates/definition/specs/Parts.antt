@@ -70,6 +70,7 @@ all-kept p (c ∷ t) h = rw (h .0) (all-kept (p + 1) t (h .1))
 unfoldable pub with-text : Inputs → Text → Inputs
 with-text i w = record {
   mode = i .mode;
+  choices = i .choices;
   rules = i .rules;
   classes = i .classes;
   vowels = i .vowels;
@@ -98,6 +99,7 @@ part-accepted i e x w y q = record { accepted = refusal-of (with-text i w) (kept
     kept : Accepted i → Accepted (with-text i w)
     kept a = record {
       mode = a .mode;
+      capitals = a .capitals;
       rules = a .rules;
       classes = a .classes;
       vowels = a .vowels;

@@ -18,12 +18,13 @@ use Rattle.definition.specs.Texts.{Text}
 use Rattle.definition.specs.Blocks.{small}
 use Rattle.definition.specs.RuleRows.{end-target-right-from, target-right-from}
 use Rattle.definition.specs.RuleRows.{printable, text-of, text-right, texts-of, texts-right, rule-flag, target-bit, end-target-bit, target-at}
-use Rattle.definition.specs.RuleRows.{end-target-at, others-at, others-of, others-right, text-where, target-right, end-target-right, rule-right}
+use Rattle.definition.specs.RuleRows.{end-target-at, others-at, others-of, others-right, text-where, rule-right}
 use Rattle.definition.specs.RuleRows.{rule-of}
 use Rattle.definition.specs.RuleFaults.{rule-fault}
 use Rattle.definition.specs.ClassRows.{class-fault}
 use Rattle.definition.specs.VowelRows.{vowel-length, vowel-letters, vowel-right, vowel-fault, vowel-of}
 use Rattle.definition.specs.Paths.{edges, edge-count}
+use Rattle.definition.specs.Tables.{Choices}
 use Rattle.definition.specs.Call.{Inputs, tables-of, tables, characters, refusal}
 use Rattle.definition.specs.Checked.{rule-checked, vowel-checked}
 use Rattle.definition.specs.Accepted.{Accepted, accepted-of, rules-all, vowels-all}
@@ -74,10 +75,10 @@ vowel-short low s e =
     }
 
 -- Tables without fault
-pub tables-bounded : (rules classes vowels code : List ℕ) → rule-fault rules ≡ none → class-fault classes ≡ none → vowel-fault vowels ≡ none
-    → Bounded (tables-of rules classes vowels code)
+pub tables-bounded : (choices : Choices) (rules classes vowels code : List ℕ) → rule-fault rules ≡ none → class-fault classes ≡ none → vowel-fault vowels ≡ none
+    → Bounded (tables-of choices rules classes vowels code)
 unfolding tables-of
-tables-bounded rules classes vowels code a b c = record {
+tables-bounded choices rules classes vowels code a b c = record {
   rules = rules-all Spoken rule-spoken rules a;
   vowels = vowels-all (λ y. Short most-vowel (y .letters)) vowel-short vowels c;
   virama = blank classes b .virama;
@@ -85,7 +86,7 @@ tables-bounded rules classes vowels code a b c = record {
 
 pub bounded : (i : Inputs) → Accepted i → Bounded (tables i)
 unfolding tables
-bounded i a = tables-bounded (i .rules) (i .classes) (i .vowels) (i .code) (a .rules) (a .classes) (a .vowels)
+bounded i a = tables-bounded (i .choices) (i .rules) (i .classes) (i .vowels) (i .code) (a .rules) (a .classes) (a .vowels)
 
 -- Of a call that is not refused for its mode, tables, code or text
 pub few-characters : (i : Inputs) → refusal i ≡ none → length (characters i) ≤ most-characters

@@ -10,6 +10,10 @@ use Rattle.base.specs.Lists.{bind}
 abbrev pub refused-mode : ℕ
 refused-mode = 1
 
+-- the choice of capitals
+abbrev pub refused-capitals : ℕ
+refused-capitals = 12
+
 -- the rule table: its header or a length; a flag or count out of its range; a character of a source or a language code;
 -- a byte of a target; the order of its rows; too many rows. (2 stood for all of these and is not returned)
 abbrev pub refused-length : ℕ
@@ -63,7 +67,7 @@ refused-output = 11
 -- all of them
 abbrev pub numbers : List ℕ
 numbers =
-    refused-mode ∷ refused-length ∷ refused-range ∷ refused-letter ∷ refused-byte ∷ refused-order ∷ refused-rows
+    refused-mode ∷ refused-capitals ∷ refused-length ∷ refused-range ∷ refused-letter ∷ refused-byte ∷ refused-order ∷ refused-rows
     ∷ refused-classes ∷ refused-vowels ∷ refused-code
     ∷ refused-utf8 ∷ refused-too-long ∷ refused-left-out ∷ refused-slots ∷ refused-room ∷ refused-output ∷ []
 

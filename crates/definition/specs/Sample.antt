@@ -1,5 +1,5 @@
--- Document 01's sample tables, as bytes, and its sixteen results, computed; and each refusal once.
-use mathlib.Core.Bool.{Bool, true, _&&_}
+-- Document 01's sample tables, as bytes, and its sixteen results, computed; capitals; and each refusal once.
+use mathlib.Core.Bool.{Bool, true, not, _&&_}
 use mathlib.Core.Path.{_≡_, refl}
 use mathlib.Core.List.{List, [], _∷_, _++_}
 use Prim.Native.Nat.{ℕ, _+_, _-_, _*_}
@@ -12,6 +12,7 @@ use Rattle.base.specs.Lists.{all, same}
 use Rattle.definition.specs.Texts.{Text, chars}
 use Rattle.definition.specs.Utf8.{encoded}
 use Rattle.definition.specs.Listing.{block}
+use Rattle.definition.specs.Tables.{Choices}
 use Rattle.definition.specs.Call.{Inputs, Called, called}
 use Rattle.definition.specs.Compute.{compute}
 
@@ -62,23 +63,34 @@ sample-rules = block (joint (
     ∷ rule "か" "ka" ∷ rule "き" "ki" ∷ rule "ち" "chi" ∷ rule "っ" "tsu" ∷ rule "ゃ" "ya" ∷ []))
 
 -- Classes: the space, Cyrillic 7, Devanagari 5 with a vowel sign and a virama, Thai 1 with a pre-vowel
--- and a tone mark, Khmer 6, Hiragana 3, and the long mark of no script
-abbrev pub sample-classes : List ℕ
-sample-classes = block (joint (
-    class-by 0x20 7 0 0 ∷ letters 7 (chars "Жжрс")
+-- and a tone mark, Khmer 6, Hiragana 3, and the long mark of no script. The flags of ж are given
+abbrev pub sample-classes-by : ℕ → List ℕ
+sample-classes-by f = block (joint (
+    class-by 0x20 7 0 0 ∷ letters 7 (chars "Ж") ∷ class-by 0x436 1 7 f ∷ letters 7 (chars "рс")
     ∷ letters 5 (chars "कत") ∷ class-by 0x93F 3 5 1 ∷ class-by 0x94D 2 5 8
     ∷ letters 1 (chars "กอา") ∷ class-by 0xE40 1 1 64 ∷ class-by 0xE48 2 1 32
     ∷ letters 6 (chars "កងយ") ∷ letters 3 (chars "かきちっゃ") ∷ letters 0 (chars "ー") ∷ []))
 
+abbrev pub sample-classes : List ℕ
+sample-classes = sample-classes-by 0
+
 abbrev pub sample-vowels : List ℕ
 sample-vowels = block (vowel 5 "a" ++ vowel 6 "a")
 
--- A call with them, and room enough
-abbrev pub sample : ℕ → String → String → Inputs
-sample mode code text = record {
+-- Choices: none, as the port has it, or this number for capitals
+abbrev pub capitals-by : ℕ → Choices
+capitals-by n = record { capitals = n }
+
+abbrev as-port : Choices
+as-port = capitals-by 0
+
+-- A call with choices, rules and classes, and room enough; and one with the sample's
+abbrev pub sample-with : ℕ → Choices → List ℕ → List ℕ → String → String → Inputs
+sample-with mode choices rules classes code text = record {
   mode = mode;
-  rules = sample-rules;
-  classes = sample-classes;
+  choices = choices;
+  rules = rules;
+  classes = classes;
   vowels = sample-vowels;
   code = chars code;
   text = encoded (chars text);
@@ -86,6 +98,9 @@ sample mode code text = record {
   room = 1000;
   out = 100;
 }
+
+abbrev pub sample : ℕ → String → String → Inputs
+sample mode code text = sample-with mode as-port sample-rules sample-classes code text
 
 -- the call is done, and its output is these bytes
 abbrev gave : Called → List ℕ → Bool
@@ -150,6 +165,57 @@ pub premise-needed : all holds-of (gives "" "ก ่อก" "k ok" 0 ∷ gives "
 unfolding compute
 premise-needed = refl
 
+-- Capitals: with ж's row saying that it is lower case (flag 7), Жж is "Zhzh" where that is chosen
+abbrev pub lower-case : ℕ
+lower-case = 128
+
+abbrev spelt : List ℕ → List ℕ → ℕ → String → String → Bool
+spelt rules classes n text w =
+    gave (called (sample-with 0 (capitals-by n) rules classes "" text)) (encoded (chars w))
+
+abbrev sample-spelt : ℕ → String → String → Bool
+sample-spelt n text w = spelt sample-rules (sample-classes-by lower-case) n text w
+
+pub sample-capitals : (
+    sample-spelt 1 "Жж" "Zhzh" && sample-spelt 0 "Жж" "ZHzh" && sample-spelt 1 "Ж" "ZH"
+    && sample-spelt 1 "ЖЖж" "ZHZhzh" && sample-spelt 1 "Ж ж" "ZH j") ≡ true
+unfolding compute
+sample-capitals = refl
+
+-- and in a table where these are lower case: ж, small ya and the long mark. The first byte stays whatever it is, digits and
+-- signs are no letters, two characters are not one, and small ya and the long mark see what became of the letters
+abbrev capital-rules : List ℕ
+capital-rules = block (joint (
+    rule "Ж" "1Z2H+" ∷ rule "Щ" "+NA" ∷ rule "ж" "zh" ∷ rule "き" "KKI" ∷ rule "ちき" "CHIKI" ∷ rule "ゃ" "ya" ∷ rule "カ" "KA" ∷ []))
+
+abbrev capital-classes : List ℕ
+capital-classes = block (joint (
+    letters 7 (chars "ЖЩ") ∷ class-by 0x436 1 7 lower-case ∷ letters 3 (chars "きち") ∷ class-by 0x3083 1 3 lower-case
+    ∷ letters 4 (chars "カ") ∷ class-by 0x30FC 1 0 lower-case ∷ []))
+
+abbrev capital-spelt : ℕ → String → String → Bool
+capital-spelt n text w = spelt capital-rules capital-classes n text w
+
+pub capitals-seen : (
+    capital-spelt 1 "Жж" "1z2h+zh" && capital-spelt 1 "Щж" "+nazh"
+    && capital-spelt 1 "きゃ" "Kkya" && capital-spelt 0 "きゃ" "KKIya" && capital-spelt 1 "ちきゃ" "CHIKIya"
+    && capital-spelt 1 "カー" "Kaa" && capital-spelt 0 "カー" "KAー") ≡ true
+unfolding compute
+capitals-seen = refl
+
+-- Alternatives are those of rules whose target is the edge's text: of a rule for "ZH" with the alternative "J", Жж has it
+-- without the choice, and none where "ZH" has become "Zh"
+abbrev other-rules : List ℕ
+other-rules = block (joint (
+    sized (32 ∷ 0 ∷ 0 ∷ 1 ∷ (three 0x416 ++ 0 ∷ 2 ∷ (chars "ZH" ++ 1 ∷ 1 ∷ chars "J"))) ∷ rule "ж" "zh" ∷ []))
+
+abbrev listed : ℕ → ℕ → List ℕ
+listed n mode = called (sample-with mode (capitals-by n) other-rules (sample-classes-by lower-case) "" "Жж") .output
+
+pub capitals-unlisted : (same (listed 1 2) (listed 1 1) && not (same (listed 0 2) (listed 0 1))) ≡ true
+unfolding compute
+capitals-unlisted = refl
+
 -- Each number of a refusal with its place: कत, where one thing is wrong or too small.
 -- The change of a call, and what it is refused with
 pub record Refused : Type 0 where
@@ -160,10 +226,11 @@ pub record Refused : Type 0 where
 abbrev refused-at : ℕ → ℕ → Inputs → Refused
 refused-at n p i = record { call = i; number = n; place = p }
 
--- a call with these tables, and one with this code, text and room
-abbrev tabled : List ℕ → List ℕ → List ℕ → Inputs
-tabled r c v = record {
-  mode = 0;
+-- a call with these tables and choices, and one with this code, text and room
+abbrev chosen : ℕ → ℕ → List ℕ → List ℕ → List ℕ → Inputs
+chosen mode capitals r c v = record {
+  mode = mode;
+  choices = capitals-by capitals;
   rules = r;
   classes = c;
   vowels = v;
@@ -174,9 +241,13 @@ tabled r c v = record {
   out = 3;
 }
 
+abbrev tabled : List ℕ → List ℕ → List ℕ → Inputs
+tabled r c v = chosen 0 0 r c v
+
 abbrev roomed : ℕ → List ℕ → List ℕ → ℕ → ℕ → ℕ → Inputs
 roomed mode code text slots room out = record {
   mode = mode;
+  choices = as-port;
   rules = sample-rules;
   classes = sample-classes;
   vowels = sample-vowels;
@@ -197,7 +268,10 @@ kata = encoded (chars "कत")
 abbrev pub refusals : List Refused
 refusals =
     refused-at 1 0 (roomed 4 [] kata 24 3 3)
+    ∷ refused-at 1 0 (chosen 4 2 sample-rules sample-classes sample-vowels)
+    ∷ refused-at 12 0 (chosen 0 2 cut sample-classes sample-vowels)
     ∷ refused-at 20 5 (tabled cut sample-classes sample-vowels)
+    ∷ refused-at 3 5 (tabled sample-rules (block (class-by 0x20 7 0 lower-case)) sample-vowels)
     ∷ refused-at 3 5 (tabled sample-rules cut sample-vowels)
     ∷ refused-at 4 5 (tabled sample-rules sample-classes cut)
     ∷ refused-at 4 0 (tabled sample-rules sample-classes [])

@@ -1,4 +1,4 @@
--- What the three tables and the language code say, with no bytes: the records that the engine reads.
+-- What the three tables, the language code and the choices say, with no bytes: the records that the engine reads.
 use mathlib.Core.Bool.{Bool}
 use mathlib.Core.List.{List}
 use mathlib.Core.Option.{Option}
@@ -49,6 +49,8 @@ pub record Class : Type 0 where
   pub tone : Bool
   -- bit 6: written before its consonant
   pub pre : Bool
+  -- bit 7
+  pub lowercase : Bool
 
 -- Categories
 abbrev pub category-other : ℕ
@@ -102,6 +104,11 @@ pub record Vowel : Type 0 where
   pub ao : Bool
   pub letters : Text
 
+-- What a caller may choose beside the port's behaviour, each 0 or 1 in an accepted call
+pub record Choices : Type 0 where
+  -- capitals as the Python has them
+  pub capitals : ℕ
+
 -- What the choice of a rule depends on
 pub record Lexicon : Type 0 where
   pub rules : List Rule
@@ -110,6 +117,7 @@ pub record Lexicon : Type 0 where
 
 -- All that a romanization is given besides its text
 pub record Tables : Type 0 where
+  pub choices : Choices
   pub rules : List Rule
   pub classes : List Class
   pub vowels : List Vowel

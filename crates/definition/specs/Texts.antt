@@ -100,9 +100,12 @@ vowels = among "aeiou"
 unfoldable pub consonants : ℕ → Bool
 consonants = among "bcdfghjklmnpqrstvwxyz"
 
--- a capital letter made small
+-- A-Z; and a capital letter made small
+unfoldable pub capital : ℕ → Bool
+capital c = leb 65 c && leb c 90
+
 unfoldable pub lower : ℕ → ℕ
-lower c = pick (leb 65 c && leb c 90) (c + 32) c
+lower c = pick (capital c) (c + 32) c
 
 -- does the last character pass; the text without it
 unfoldable pub last-is : (ℕ → Bool) → Text → Bool

@@ -8,12 +8,12 @@ use lib.Dec.{eqb}
 use Rattle.base.specs.Pick.{pick}
 use Rattle.base.specs.Lists.{has, maybe, same}
 use Rattle.definition.specs.Texts.{Text, at, prev, without-last, letter-e, coptic-grave}
-use Rattle.definition.specs.Tables.{Class, Lexicon, script-thai, script-coptic}
+use Rattle.definition.specs.Tables.{Class, Choices, Lexicon, script-thai, script-coptic}
 use Rattle.definition.specs.Notes.{note-none, note-exp, note-del}
 use Rattle.definition.specs.Classes.{script}
 use Rattle.definition.specs.Edges.{View, Mem, ret, _>>=_}
 use Rattle.definition.specs.Rules.{simple}
-use Rattle.definition.specs.Expansion.{Work, work, double, around, before, silent, small-target, finish, grave, small-y, rest, o-ang-step, thai, by-script, expand}
+use Rattle.definition.specs.Expansion.{Work, work, capitalize, double, around, before, silent, small-target, finish, grave, small-y, rest, o-ang-step, thai, by-script, expand}
 use Rattle.words.specs.Did.{Did, did, outcome}
 
 -- a Coptic grave
@@ -93,12 +93,13 @@ module _ (L : Lexicon) (t : Text) (v : View) where
     elsewhere e d = did (rw e (outcome d))
 
   -- the whole
-  module _ (rom : Text) (s e : ℕ) (m : Mem) where
-    pub nothing-to-expand : same rom [] ≡ true → Did (expand L t v rom s e m) (work rom s e note-none) m
+  module _ (c : Choices) (rom : Text) (s e : ℕ) (m : Mem) where
+    pub nothing-to-expand : same rom [] ≡ true → Did (expand L t v c rom s e m) (work rom s e note-none) m
     unfolding expand ret pick
     nothing-to-expand f = did (rw f)
 
     pub expanded : same rom [] ≡ false → {x : Work} {m₁ : Mem}
-        → Did (by-script L t v s (double (L .classes) t s (work rom s e note-none)) m) x m₁ → Did (expand L t v rom s e m) x m₁
+        → Did (by-script L t v s (double (L .classes) t s (capitalize c (L .classes) t (work rom s e note-none))) m) x m₁
+        → Did (expand L t v c rom s e m) x m₁
     unfolding expand pick
     expanded f d = did (rw f (outcome d))

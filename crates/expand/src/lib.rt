@@ -12,11 +12,13 @@ ghost use Rattle.definition.specs.Notes.{note-exp};
 ghost use Rattle.definition.specs.RuleRows.{rules-of};
 ghost use Rattle.definition.specs.Classes.{script};
 ghost use Rattle.definition.specs.Rules.{first-rule};
-ghost use Rattle.definition.specs.Expansion.{work, between, silent, small-ya, small-target, grave, small-y, rest, o-ang-step, thai, by-script, expand};
+ghost use Rattle.definition.specs.Expansion.{work, capitalize, double, between, silent, small-ya, small-target, grave, small-y, rest, o-ang-step, thai, by-script, expand};
 ghost use Rattle.rom.specs.Rom.{text, Clean};
 ghost use Rattle.words.specs.Given.{World, kinds, seen, size-in, Prepared, Lined, Lent};
 ghost use Rattle.rule_choice.specs.Lent.{Answers};
 ghost use Rattle.rule_choice.specs.Chosen.{chosen-means, Said, or-nothing};
+ghost use Rattle.words.specs.Choosing.{choices-of};
+ghost use Rattle.capitals.specs.Spans.{over};
 ghost use Rattle.steps.specs.Works.{work-of};
 ghost use Rattle.expand.specs.Tests.{has-grave};
 ghost use Rattle.expand.specs.Sides.{beside, small-here};
@@ -24,6 +26,7 @@ ghost use Rattle.expand.specs.Steps.{Workable};
 use rom::Rom;
 use rule_choice::Chosen;
 use steps::Work;
+use words::Choices;
 use words::Span;
 
 // U+0300, the grave over a Coptic letter.
@@ -393,8 +396,35 @@ fn by_script(
     rest(rules, ready, code, line, places, o, w)
 }
 
-// An empty romanization is not expanded; another is doubled first.
+// A romanization over its span, not expanded yet.
+fn untouched(r: Rom, span: Span) -> Work
+    requires { ⌜ Clean r ⌝ }
+    ensures { λ w. ⌜ (work-of w ≡ over span r) × Clean (w .rom) × (w .rom .len ≡ r .len) × (w .from ≡ span .from) × (w .to ≡ span .to) ⌝ }
+{
+    Work {
+        rom: r,
+        from: span.from,
+        to: span.to,
+        note: edge::UNTOUCHED,
+    }
+}
+
+// The first steps: capitals, or else doubling. A romanization in upper case begins with no letter that is doubled.
+fn first_steps(line: &[u32], choices: Choices, r: Rom, span: Span) -> Work
+    requires { ⌜ Clean r × (r .len < most-bytes) × (span .from < span .to) × (span .to ≤ size-in (now line)) ⌝ }
+    ensures { λ w. ⌜ ((x : World) → Lined x (now (line .entry))
+        → work-of w ≡ double (kinds x) (x .text) (span .from) (capitalize (choices-of choices) (kinds x) (x .text) (over span r)))
+        × Clean (w .rom) × (w .rom .len ≤ r .len + 1) × (w .from ≤ span .from) × (w .to ≡ span .to) ⌝ }
+{
+    if capitals::capitalizes(line, choices, r, span) {
+        return untouched(rom::capitalized(r), span);
+    }
+    steps::double(line, span.from, untouched(r, span))
+}
+
+// An empty romanization is not expanded.
 pub fn expand_rom_with_special_chars(
+    choices: Choices,
     rules: &[u8],
     ready: &[u32],
     code: &[u8],
@@ -406,17 +436,11 @@ pub fn expand_rom_with_special_chars(
     requires { ⌜ Prepared (now rules) (now ready) × Clean r × (r .len ≤ most-target + most-vowel)
         × (span .from < span .to) × (span .to ≤ size-in (now line)) ⌝ }
     ensures { λ w. ⌜ Answers (now (rules .entry)) (now (ready .entry)) (now (code .entry)) (now (line .entry)) (now (places .entry)) (now (places .exit))
-        (λ L t v. expand L t v (text r) (span .from) (span .to)) (work-of w) × Clean (w .rom) ⌝ }
+        (λ L t v. expand L t v (choices-of choices) (text r) (span .from) (span .to)) (work-of w) × Clean (w .rom) ⌝ }
 {
-    let w = Work {
-        rom: r,
-        from: span.from,
-        to: span.to,
-        note: edge::UNTOUCHED,
-    };
     if r.len == 0 {
-        return w;
+        return untouched(r, span);
     }
-    let u = steps::double(line, span.from, w);
-    by_script(rules, ready, code, line, places, span.from, u)
+    let w = first_steps(line, choices, r, span);
+    by_script(rules, ready, code, line, places, span.from, w)
 }

@@ -45,9 +45,9 @@ use Rattle.first_pass.specs.Fresh.{Fresh}
 
 module _ (rules vowels code : List ℕ) {ready line S R P P₁ : List ℕ} {w : World} {filled : Filled} (o : Over w ready line S R P filled)
     (table : Prepared rules ready) (fine : FineVowels vowels) {look : Look} (d : Looked rules line look) (r : Spanned)
-    (asked : Asked w (span-edge (tables-of rules (w .classes) vowels code) (w .text) (seen w) (look .from) (look .to)) P P₁ (found r)) where
+    (asked : Asked w (span-edge (tables-of (w .choices) rules (w .classes) vowels code) (w .text) (seen w) (look .from) (look .to)) P P₁ (found r)) where
   abbrev D : Tables
-  D = tables-of rules (w .classes) vowels code
+  D = tables-of (w .choices) rules (w .classes) vowels code
 
   abbrev bytes : Text
   bytes = text (r .rom)
@@ -69,7 +69,7 @@ module _ (rules vowels code : List ℕ) {ready line S R P P₁ : List ℕ} {w : 
 
   module _ (h : r .there ≡ true) (u : filled .used < addressable) where
     ok : Bounded D
-    ok = tables-bounded rules (w .classes) vowels code (table .table .accepted) (o .lent .text .fine) fine
+    ok = tables-bounded (w .choices) rules (w .classes) vowels code (table .table .accepted) (o .lent .text .fine) fine
 
     pub spelt : Sound (size w) (edge-with (r .numbers) bytes) × Short most-bytes bytes
     spelt = span-spelt r D ok (w .text) (seen w) (look .from) (look .to) (memory (size w) P) (d .forward) inside (asked .did) h

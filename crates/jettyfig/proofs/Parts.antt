@@ -1,41 +1,68 @@
--- Parts of one list lent one after the other and come back: what is made ready of the tables, and a line.
+-- Parts of one list lent one after the other and come back: what is made ready, and a line.
 use Prim.Native.Nat.{ℕ, _+_, _-_, _*_, _/_, _≤_}
-use mathlib.Core.List.{List, _++_}
+use mathlib.Core.List.{List, [], _∷_, _++_, append-assoc}
 use mathlib.Core.Path.{_≡_, sym, ap, _∙_, subst}
 use native.Mathlib.Omega.{arith}
-use lib.ListN.{length, take, drop, replicate, length-append, length-drop, length-replicate}
-use lib.Seq.{take-at, drop-at, take-take, length-take-le}
+use lib.ListN.{length, take, drop, set, getD, replicate, length-append, length-replicate}
+use lib.Seq.{take-at, drop-at, take-take, length-take-le, getD-append-seam}
 use borrow.Rule.Slice.PartMut.{putMid, midOf}
 use Rattle.base.specs.Loans.{lent-end, back-end}
-use Rattle.definition.specs.Limits.{most-characters}
+use Rattle.definition.specs.Limits.{ascii-characters, most-characters}
 use Rattle.definition.specs.Texts.{Text}
 use Rattle.utf8.specs.Lines.{spaced}
 use Rattle.table_classes.specs.Told.{kinds-of, alphas-of}
 use Rattle.table_classes.specs.Packing.{alphas-length, kinds-length}
 use Rattle.rule_memo.specs.Kept.{all-places, Kept}
-use Rattle.words.specs.Given.{letters-in, index-in}
+use Rattle.words.specs.Given.{letters-in, choices-in, index-from, index-in}
+use Rattle.jettyfig.specs.Verdicts.{choose}
 use Rattle.jettyfig.specs.Steps.{with-kinds}
 
--- The letters have come back to a list of zeros, and the rest of it is lent for the index and what is kept behind it
-module _ (classes old letters : List ℕ) (z : old ≡ replicate (128 + all-places) 0) (a : letters ≡ alphas-of classes) where
+-- The choice was written into a list of zeros, the letters have come back to its front, and the rest of it is lent for the
+-- index and what is kept behind it
+module _ (classes old letters : List ℕ) (capitals : ℕ) (z : old ≡ replicate (index-from + all-places) 0) (a : letters ≡ alphas-of classes) where
   abbrev came : List ℕ
-  came = letters ++ drop 128 old
+  came = letters ++ drop ascii-characters (set old ascii-characters capitals)
 
-  lettered : length letters ≡ 128
+  abbrev front : List ℕ
+  front = letters ++ capitals ∷ []
+
+  lettered : length letters ≡ ascii-characters
   lettered = ap length a ∙ alphas-length classes
 
-  pub as-long : length came ≡ 128 + all-places
-  as-long = omega (arith, lettered, length-append letters (drop 128 old), length-drop 128 old, ap length z, length-replicate {A = ℕ} (128 + all-places) 0)
+  fronted : length front ≡ index-from
+  fronted = omega (arith, lettered, length-append letters (capitals ∷ []))
 
-  pub zeros-left : midOf 128 (length came - 128) came ≡ replicate all-places 0
-  zeros-left = lent-end came 128 ∙ drop-at letters (drop 128 old) 128 lettered ∙ ap (drop 128) z
+  came-is : came ≡ front ++ replicate all-places 0
+  came-is =
+      ap (λ (l : List ℕ). letters ++ drop ascii-characters (set l ascii-characters capitals)) z
+      ∙ sym (append-assoc letters (capitals ∷ []) (replicate all-places 0))
+
+  pub as-long : length came ≡ index-from + all-places
+  as-long = omega (arith, ap length came-is, fronted, length-append front (replicate all-places 0), length-replicate {A = ℕ} all-places 0)
+
+  pub zeros-left : midOf index-from (length came - index-from) came ≡ replicate all-places 0
+  zeros-left = lent-end came index-from ∙ ap (drop index-from) came-is ∙ drop-at front (replicate all-places 0) index-from fronted
+
+  abbrev back : List ℕ → List ℕ
+  back index = putMid index-from (length came - index-from) came index
+
+  back-as : (index : List ℕ) → back index ≡ front ++ index
+  back-as index =
+      back-end came index-from index
+      ∙ ap (λ (l : List ℕ). l ++ index) (ap (take index-from) came-is ∙ take-at front (replicate all-places 0) index-from fronted)
+
+  pub stays-long : (rules index : List ℕ) → Kept rules index → length (back index) ≡ length old
+  stays-long rules index x =
+      omega (arith, ap length (back-as index), fronted, length-append front index, x .long, ap length z, length-replicate {A = ℕ} (index-from + all-places) 0)
 
   pub made-ready : (rules index : List ℕ) → Kept rules index
-      → (letters-in (putMid 128 (length came - 128) came index) ≡ alphas-of classes) × Kept rules (index-in (putMid 128 (length came - 128) came index))
+      → (letters-in (back index) ≡ alphas-of classes) × (choices-in (back index) ≡ choose capitals) × Kept rules (index-in (back index))
   made-ready rules index x =
-      let e = back-end came 128 index ∙ ap (λ (l : List ℕ). l ++ index) (take-at letters (drop 128 old) 128 lettered) in (
-        ap (take 128) e ∙ take-at letters index 128 lettered ∙ a,
-        subst (Kept rules) (sym (ap (drop 128) e ∙ drop-at letters index 128 lettered)) x,
+      let whole = back-as index ∙ append-assoc letters (capitals ∷ []) index in (
+        ap (take ascii-characters) whole ∙ take-at letters (capitals ∷ index) ascii-characters lettered ∙ a,
+        ap choose (ap (λ (l : List ℕ). getD l ascii-characters 0) whole
+            ∙ ap (λ (k : ℕ). getD (letters ++ capitals ∷ index) k 0) (sym lettered) ∙ getD-append-seam letters capitals index 0),
+        subst (Kept rules) (sym (ap (drop index-from) (back-as index) ∙ drop-at front index index-from fronted)) x,
       )
 
 -- A line begins with a text between spaces, and as much again is lent with it for the classes

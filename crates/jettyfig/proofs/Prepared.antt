@@ -12,7 +12,7 @@ use Rattle.definition.specs.Accepted.{Accepted, accepted-of}
 use Rattle.definition.specs.Parts.{scalars}
 use Rattle.definition.specs.Rewritten.{encoded-decoded}
 use Rattle.rule_memo.specs.Kept.{Kept}
-use Rattle.words.specs.Given.{World, index-in, Prepared, Lined}
+use Rattle.words.specs.Given.{World, index-from, index-in, Prepared, Lined}
 use Rattle.second_pass.specs.Fallback.{Own, chars-in, chars-are}
 use Rattle.jettyfig.specs.Steps.{with-kinds}
 
@@ -20,9 +20,9 @@ module _ (i : Inputs) (e : refusal i ≡ none) where
   abbrev passed : Accepted i
   passed = accepted-of i e
 
-  -- the call's class table and text, before there are edges
+  -- the call's class table, choices and text, before there are edges
   abbrev pub world : World
-  world = record { classes = i .classes; text = decoded (i .text); edges = [] }
+  world = record { classes = i .classes; choices = i .choices; text = decoded (i .text); edges = [] }
 
   short : length (decoded (i .text)) ≤ most-characters
   unfolding characters
@@ -40,4 +40,4 @@ module _ (i : Inputs) (e : refusal i ≡ none) where
         (record { bytes = sym (encoded-decoded (i .text) (passed .text)); scalars = scalars i })
 
   pub prepared : (ready : List ℕ) → Kept (i .rules) (index-in ready) → Prepared (i .rules) ready
-  prepared ready k = record { table = k; long = omega (arith, k .long, length-drop 128 ready) }
+  prepared ready k = record { table = k; long = omega (arith, k .long, length-drop index-from ready) }

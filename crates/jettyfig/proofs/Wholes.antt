@@ -24,7 +24,7 @@ use Rattle.edge.specs.Stored.{none-stored}
 use Rattle.edge_places.specs.Shows.{memory}
 use Rattle.standing.specs.Stands.{Stands}
 use Rattle.words.specs.Given.{World, kinds, size, size-in, Prepared, Told, Lined, Lent, line-size, lent-none}
-use Rattle.passes.specs.Reached.{nothing, Over, with-edges, Reached}
+use Rattle.passes.specs.Reached.{nothing, Over, with-edges, told-with, Reached}
 use Rattle.output.specs.Whole.{Whole}
 use Rattle.jettyfig.specs.Verdicts.{given}
 use Rattle.jettyfig.specs.Calls.{built-all, reached-fits, reached-count, reached-sound}
@@ -53,7 +53,7 @@ pub first-over : {w : World} {ready line : List ℕ} → Told w ready → Lined 
     → Over (with-edges w []) ready line slots room places nothing
 unfolding counted
 first-over {w} {ready} {line} t g slots room places e = record {
-  told = t;
+  told = told-with t [];
   lent = subst (Lent (with-edges w []) line) (sym e)
       (lent-none (with-edges w []) line (size-in line + 1) (record { fine = g .fine; few = g .few; is = g .is }) refl (omega (arith, line-size g)));
   stored = none-stored slots room;
@@ -62,9 +62,9 @@ first-over {w} {ready} {line} t g slots room places e = record {
 
 module _ (rules vowels code : List ℕ) {ready line S R P S′ R′ P′ : List ℕ} {w : World} (o : Over w ready line S R P nothing) (table : Prepared rules ready)
     (fine : FineVowels vowels) {c u most : ℕ}
-    (b : Reached (kinds w) (size w) S R S′ R′ P′ most (lattice (tables-of rules (w .classes) vowels code) (w .text)) (Fits c u)) where
+    (b : Reached (kinds w) (size w) S R S′ R′ P′ most (lattice (tables-of (w .choices) rules (w .classes) vowels code) (w .text)) (Fits c u)) where
   abbrev D : Tables
-  D = tables-of rules (w .classes) vowels code
+  D = tables-of (w .choices) rules (w .classes) vowels code
 
   abbrev t : Text
   t = w .text
@@ -73,7 +73,7 @@ module _ (rules vowels code : List ℕ) {ready line S R P S′ R′ P′ : List 
   built-lent = record { text = record { fine = o .lent .text .fine; few = o .lent .text .few; is = o .lent .text .is }; edges = b .came .0 .shown }
 
   ok : Bounded D
-  ok = tables-bounded rules (w .classes) vowels code (table .table .accepted) (o .lent .text .fine) fine
+  ok = tables-bounded (w .choices) rules (w .classes) vowels code (table .table .accepted) (o .lent .text .fine) fine
 
   pub built-whole : (mode : ℕ) → mode ≤ 3 → (starts : List ℕ) → Stands S′ starts c → length starts ≡ size-in line + 1
       → Whole rules ready line S′ R′ P′ starts (record { mode = mode; count = c; used = u })
@@ -90,15 +90,15 @@ module _ (rules vowels code : List ℕ) {ready line S R P S′ R′ P′ : List 
         few = omega (arith, reached-count b, lattice-few D t, few);
         mode = h;
         world = with-edges w (lattice D t .0);
-        told = o .told;
+        told = told-with (o .told) (lattice D t .0);
         lent = built-lent;
         edges = b .came .0 .edges;
       }
 
   pub built-written : (mode out : ℕ) (text : List ℕ) (r : Called)
-      → r ≡ written (given mode rules (w .classes) vowels code text (length S) (length R) out) c (shown D t mode (lattice D t .0, memory (size w) P′))
-      → r ≡ accepted (given mode rules (w .classes) vowels code text (length S) (length R) out) D t
+      → r ≡ written (given mode (w .choices) rules (w .classes) vowels code text (length S) (length R) out) c (shown D t mode (lattice D t .0, memory (size w) P′))
+      → r ≡ accepted (given mode (w .choices) rules (w .classes) vowels code text (length S) (length R) out) D t
   built-written mode out text r e =
-      let i = given mode rules (w .classes) vowels code text (length S) (length R) out in
+      let i = given mode (w .choices) rules (w .classes) vowels code text (length S) (length R) out in
       e ∙ ap (λ (m : Mem). written i c (shown D t mode (lattice D t .0, m))) (b .came .0 .remembered)
       ∙ ap (λ (k : ℕ). written i k (shown D t mode (lattice D t))) (reached-count b) ∙ built-all i D t (reached-fits b)

@@ -100,7 +100,7 @@ module _ {ks : List Class} {n : ℕ} {S R S′ R′ P′ : List ℕ} {most : ℕ
 -- What is read, and what is checked before
 module _ (i : Inputs) where
   abbrev first : Option Refusal
-  first = before-text (i .mode) (i .rules) (i .classes) (i .vowels) (i .code)
+  first = before-text (i .mode) (i .choices) (i .rules) (i .classes) (i .vowels) (i .code)
 
   pub read-refused : (x : Refusal) → text-refusal (i .text) ≡ some x → refused i x ≡ unless-refused i (text-refusal (i .text))
   unfolding unless-refused

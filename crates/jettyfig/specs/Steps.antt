@@ -3,6 +3,7 @@ use Prim.Native.Nat.{ℕ}
 use mathlib.Core.List.{List, _++_}
 use mathlib.Core.Path.{_≡_}
 use Rattle.definition.specs.Texts.{Text}
+use Rattle.definition.specs.Tables.{Choices}
 use Rattle.definition.specs.Listing.{shown}
 use Rattle.definition.specs.Utf8.{decoded}
 use Rattle.definition.specs.Call.{Inputs, Called, tables-of, written, accepted, unless-refused}
@@ -29,19 +30,19 @@ pub record Readied (ready line : List ℕ) : Type 0 where
 abbrev pub Writes : Inputs → List ℕ → List ℕ → List ℕ → List ℕ → List ℕ → List ℕ → List ℕ → Built → Called → Type 0
 Writes i rules ready code line slots room places built r =
     (vowels : List ℕ) (w : World) → Told w ready → Lent w line places → edges-of room (built .count) slots ≡ w .edges
-    → r ≡ written i (built .count) (shown (tables-of rules (w .classes) vowels code) (w .text) (built .mode) (w .edges, memory (size w) places))
+    → r ≡ written i (built .count) (shown (tables-of (w .choices) rules (w .classes) vowels code) (w .text) (built .mode) (w .edges, memory (size w) places))
 
 -- and the whole of an accepted call
 abbrev pub Romanizes : ℕ → List ℕ → List ℕ → List ℕ → List ℕ → List ℕ → List ℕ → ℕ → ℕ → ℕ → Called → Type 0
 Romanizes mode rules ready vowels code text line slots room out r =
     (w : World) → Told w ready → Lined w line
-    → r ≡ accepted (given mode rules (w .classes) vowels code text slots room out) (tables-of rules (w .classes) vowels code) (w .text)
+    → r ≡ accepted (given mode (w .choices) rules (w .classes) vowels code text slots room out) (tables-of (w .choices) rules (w .classes) vowels code) (w .text)
 
 -- the same in terms of the call, whose tables and text are right; and of one whose text may be refused
-abbrev pub Prepares : ℕ → List ℕ → List ℕ → List ℕ → List ℕ → List ℕ → ℕ → ℕ → ℕ → Called → Type 0
-Prepares mode rules classes vowels code text slots room out r =
-    r ≡ accepted (given mode rules classes vowels code text slots room out) (tables-of rules classes vowels code) (decoded text)
+abbrev pub Prepares : ℕ → Choices → List ℕ → List ℕ → List ℕ → List ℕ → List ℕ → ℕ → ℕ → ℕ → Called → Type 0
+Prepares mode choices rules classes vowels code text slots room out r =
+    r ≡ accepted (given mode choices rules classes vowels code text slots room out) (tables-of choices rules classes vowels code) (decoded text)
 
-abbrev pub Reads : ℕ → List ℕ → List ℕ → List ℕ → List ℕ → List ℕ → ℕ → ℕ → ℕ → Called → Type 0
-Reads mode rules classes vowels code text slots room out r =
-    r ≡ unless-refused (given mode rules classes vowels code text slots room out) (text-refusal text)
+abbrev pub Reads : ℕ → Choices → List ℕ → List ℕ → List ℕ → List ℕ → List ℕ → ℕ → ℕ → ℕ → Called → Type 0
+Reads mode choices rules classes vowels code text slots room out r =
+    r ≡ unless-refused (given mode choices rules classes vowels code text slots room out) (text-refusal text)

@@ -13,12 +13,13 @@ use Rattle.base.specs.Pick.{pick}
 use Rattle.base.specs.Lists.{all, same, or-else, first-of}
 use Rattle.base.specs.ListLaws.{same-some, first-past, first-here}
 use Rattle.definition.specs.Blocks.{small}
-use Rattle.definition.specs.Limits.{most-mode, code-letters}
-use Rattle.definition.specs.Refusals.{Refusal, refuse, when, placed, refused-mode, refused-code}
+use Rattle.definition.specs.Refusals.{Refusal, refuse, when, placed, refused-code}
 use Rattle.definition.specs.Utf8.{bad-sequence, bad-from, decoded, decode-by}
 use Rattle.definition.specs.Call.{Inputs, Called, code-right, first-left-out, before-text, text-refusal, refusal}
 use Rattle.definition.specs.Accepted as accepted
+use Rattle.definition.specs.Tables.{Choices}
 use Rattle.jettyfig.specs.declared.Answer.{Answer}
+use Rattle.jettyfig.specs.declared.Asked.{Asked}
 use Rattle.jettyfig.specs.declared.Verdict.{Verdict}
 use Rattle.jettyfig.specs.declared.Verdict.the-variants.{Accepted, Refused}
 
@@ -27,10 +28,18 @@ abbrev pub verdict-means : Verdict → Option Refusal
 verdict-means Accepted = none
 verdict-means (Refused n p) = some (refuse n p)
 
+-- the choices of a call
+abbrev pub choose : ℕ → Choices
+choose capitals = record { capitals = capitals }
+
+abbrev pub chosen : Asked → Choices
+chosen a = choose (a .capitals)
+
 -- what a call was given, and what it returned with the whole output
-abbrev pub given : ℕ → List ℕ → List ℕ → List ℕ → List ℕ → List ℕ → ℕ → ℕ → ℕ → Inputs
-given mode rules classes vowels code text slots room out = record {
+abbrev pub given : ℕ → Choices → List ℕ → List ℕ → List ℕ → List ℕ → List ℕ → ℕ → ℕ → ℕ → Inputs
+given mode choices rules classes vowels code text slots room out = record {
   mode = mode;
+  choices = choices;
   rules = rules;
   classes = classes;
   vowels = vowels;
@@ -85,18 +94,18 @@ module _ (v : Verdict) (o : Option Refusal) (l : List (Option Refusal)) (told : 
   pub ends-here : (n p : ℕ) → v ≡ Refused n p → verdict-means v ≡ first-of (o ∷ l)
   ends-here n p e = let r = ap verdict-means e in r ∙ sym (first-here o l (refuse n p) (sym told ∙ r))
 
--- the mode
-module _ (mode : ℕ) (l : List (Option Refusal)) where
-  pub mode-wrong : most-mode < mode → some (refuse refused-mode 0) ≡ first-of (when (ltb most-mode mode) refused-mode 0 ∷ l)
+-- a number that is above the highest, by which the call is refused, or not: the mode, or a choice
+module _ (most n number : ℕ) (l : List (Option Refusal)) where
+  pub above : most < n → some (refuse number 0) ≡ first-of (when (ltb most n) number 0 ∷ l)
   unfolding when pick
-  mode-wrong h = sym (first-here (when (ltb most-mode mode) refused-mode 0) l (refuse refused-mode 0) (rw (lt-ltb most-mode mode h)))
+  above h = sym (first-here (when (ltb most n) number 0) l (refuse number 0) (rw (lt-ltb most n h)))
 
-  pub mode-right : mode ≤ most-mode → first-of l ≡ first-of (when (ltb most-mode mode) refused-mode 0 ∷ l)
+  pub not-above : n ≤ most → first-of l ≡ first-of (when (ltb most n) number 0 ∷ l)
   unfolding when pick
-  mode-right h = sym (first-past (when (ltb most-mode mode) refused-mode 0) l (rw (le-ltb most-mode mode h)))
+  not-above h = sym (first-past (when (ltb most n) number 0) l (rw (le-ltb most n h)))
 
 -- nothing refused of either is nothing refused
-pub nothing-refused : (i : Inputs) → before-text (i .mode) (i .rules) (i .classes) (i .vowels) (i .code) ≡ none → text-refusal (i .text) ≡ none → refusal i ≡ none
+pub nothing-refused : (i : Inputs) → before-text (i .mode) (i .choices) (i .rules) (i .classes) (i .vowels) (i .code) ≡ none → text-refusal (i .text) ≡ none → refusal i ≡ none
 unfolding refusal
 nothing-refused i e f = ap (λ o. or-else o (text-refusal (i .text))) e ∙ f
 
@@ -105,8 +114,8 @@ empty-text : text-refusal [] ≡ none
 unfolding text-refusal first-of placed when bad-sequence bad-from decoded decode-by first-left-out pick
 empty-text = refl
 
-pub passed : (mode : ℕ) (rules classes vowels code : List ℕ) → before-text mode rules classes vowels code ≡ none
-    → accepted.Accepted (given mode rules classes vowels code [] 0 0 0)
-passed mode rules classes vowels code e =
-    let i = given mode rules classes vowels code [] 0 0 0 in
+pub passed : (mode : ℕ) (choices : Choices) (rules classes vowels code : List ℕ) → before-text mode choices rules classes vowels code ≡ none
+    → accepted.Accepted (given mode choices rules classes vowels code [] 0 0 0)
+passed mode choices rules classes vowels code e =
+    let i = given mode choices rules classes vowels code [] 0 0 0 in
     accepted.accepted-of i (nothing-refused i e empty-text)

@@ -16,10 +16,10 @@ ghost use Rattle.utf8.specs.Read.{text-means};
 ghost use Rattle.table_classes.specs.Told.{alphas-of};
 ghost use Rattle.table_vowels.specs.Told.{FineVowels};
 ghost use Rattle.rule_memo.specs.Kept.{all-places, Kept};
-ghost use Rattle.words.specs.Given.{letters-in, index-in, Prepared};
+ghost use Rattle.words.specs.Given.{letters-in, choices-in, index-from, index-in, Prepared};
 ghost use Rattle.second_pass.specs.Fallback.{Own, chars-in};
 ghost use Rattle.output.specs.Whole.{Whole};
-ghost use Rattle.jettyfig.specs.Verdicts.{verdict-means, given, returned, by-code};
+ghost use Rattle.jettyfig.specs.Verdicts.{verdict-means, choose, chosen, given, returned, by-code};
 ghost use Rattle.jettyfig.specs.Steps.{with-kinds, Readied, Writes, Romanizes, Prepares, Reads};
 use edge::Added;
 use output::Built;
@@ -33,18 +33,22 @@ const LINE: usize = 2 * utf8::MOST_LINE;
 
 const MOST_PLACES: usize = utf8::MOST_CHARACTERS + 1;
 
-// What is prepared of the tables: the ASCII letters, and what a look-up goes by.
+// What is made ready: the ASCII letters, the choices, and what a look-up goes by.
 const ASCII: usize = 128;
 
-const READY: usize = ASCII + rule_memo::PLACES;
+const READY: usize = words::INDEX + rule_memo::PLACES;
 
-// The highest mode, and the letters of a language code.
+// The highest mode, the highest number of a choice, and the letters of a language code.
 const MOST_MODE: u8 = 3;
+
+const MOST_CHOICE: u8 = 1;
 
 const CODE_LETTERS: usize = 3;
 
 // The numbers of refusals, as the definition names them; those of the rule table, 20 to 25, are rule_row_faults'.
 const REFUSED_MODE: u64 = 1;
+
+const REFUSED_CAPITALS: u64 = 12;
 
 const REFUSED_CLASSES: u64 = 3;
 
@@ -71,6 +75,12 @@ pub struct Answer {
     pub place: u64,
     pub length: u64,
     pub edges: u64,
+}
+
+// What a call is asked besides tables and text: its mode, and its choices.
+pub struct Asked {
+    pub mode: u8,
+    pub capitals: u8,
 }
 
 // What was found of the tables and the code: nothing, or a refusal.
@@ -131,11 +141,14 @@ fn check_code(code: &[u8]) -> Verdict
 }
 
 // What is refused before the text is read, in this order.
-fn check(mode: u8, rules: &[u8], classes: &[u8], vowels: &[u8], code: &[u8]) -> Verdict
-    ensures { λ r. ⌜ verdict-means r ≡ before-text mode (now (rules .entry)) (now (classes .entry)) (now (vowels .entry)) (now (code .entry)) ⌝ }
+fn check(asked: Asked, rules: &[u8], classes: &[u8], vowels: &[u8], code: &[u8]) -> Verdict
+    ensures { λ r. ⌜ verdict-means r ≡ before-text (asked .mode) (chosen asked) (now (rules .entry)) (now (classes .entry)) (now (vowels .entry)) (now (code .entry)) ⌝ }
 {
-    if MOST_MODE < mode {
+    if MOST_MODE < asked.mode {
         return Verdict::Refused(REFUSED_MODE, 0);
+    }
+    if MOST_CHOICE < asked.capitals {
+        return Verdict::Refused(REFUSED_CAPITALS, 0);
     }
     let of_rules = of_rule_table(rule_table_check::check_rules(rules));
     let Verdict::Accepted = of_rules else {
@@ -251,20 +264,22 @@ fn romanize<'a>(
     }
 }
 
-// What the engine asks of the tables besides their rows: the ASCII letters, then the index of the rule table with what it
-// has of the line's characters.
-fn make_ready(rules: &[u8], classes: &[u8], line: &[u32], ready: &mut [u32])
-    requires { ⌜ (rule-fault (now rules) ≡ none) × (class-fault (now classes) ≡ none) × (now ready ≡ replicate (128 + all-places) 0) ⌝ }
-    ensures { λ _. ⌜ (letters-in (now (ready .exit)) ≡ alphas-of (now (classes .entry))) × Kept (now (rules .entry)) (index-in (now (ready .exit))) ⌝ }
+// What the engine asks besides the tables' rows: the ASCII letters, the choices, then the index of the rule table with what
+// it has of the line's characters.
+fn make_ready(asked: Asked, rules: &[u8], classes: &[u8], line: &[u32], ready: &mut [u32])
+    requires { ⌜ (rule-fault (now rules) ≡ none) × (class-fault (now classes) ≡ none) × (now ready ≡ replicate (index-from + all-places) 0) ⌝ }
+    ensures { λ _. ⌜ (letters-in (now (ready .exit)) ≡ alphas-of (now (classes .entry))) × (choices-in (now (ready .exit)) ≡ chosen asked)
+        × Kept (now (rules .entry)) (index-in (now (ready .exit))) ⌝ }
 {
+    ready[words::CAPITALS] = asked.capitals as u32;
     table_classes::classify_ascii(classes, &mut ready[..ASCII]);
     let half = line.len() / 2;
-    rule_memo::fill(rules, &line[..half], &mut ready[ASCII..]);
+    rule_memo::fill(rules, &line[..half], &mut ready[words::INDEX..]);
 }
 
 // What is shown of a text, with what the engine is lent made ready first.
 fn prepare<'a>(
-    mode: u8,
+    asked: Asked,
     rules: &'a [u8],
     classes: &[u8],
     vowels: &[u8],
@@ -275,15 +290,15 @@ fn prepare<'a>(
     room: &mut [u8],
     out: &mut [u8],
 ) -> Answer
-    requires { ⌜ (refusal (given mode (now rules) (now classes) (now vowels) (now code) (now text) 0 0 0) ≡ none)
+    requires { ⌜ (refusal (given (asked .mode) (chosen asked) (now rules) (now classes) (now vowels) (now code) (now text) 0 0 0) ≡ none)
         × (now line ≡ with-kinds (now classes) (decoded (now text))) × (now out ≡ replicate (length (now out)) 0) ⌝ }
-    ensures { λ r. ⌜ Prepares mode (now (rules .entry)) (now (classes .entry)) (now (vowels .entry)) (now (code .entry)) (now (text .entry))
+    ensures { λ r. ⌜ Prepares (asked .mode) (chosen asked) (now (rules .entry)) (now (classes .entry)) (now (vowels .entry)) (now (code .entry)) (now (text .entry))
         (length (now (slots .entry))) (length (now (room .entry))) (length (now (out .entry))) (returned r (now (out .exit))) ⌝ }
 {
     let mut ready = [0u32; READY];
-    make_ready(rules, classes, line, &mut ready);
+    make_ready(asked, rules, classes, line, &mut ready);
     romanize(
-        mode,
+        asked.mode,
         rules,
         &ready,
         vowels,
@@ -317,7 +332,7 @@ fn lay_out(classes: &[u8], text: &[u8], line: &mut [u32]) -> TextRead
 
 // The text read and romanized, or its refusal.
 fn read<'a>(
-    mode: u8,
+    asked: Asked,
     rules: &'a [u8],
     classes: &[u8],
     vowels: &[u8],
@@ -327,14 +342,14 @@ fn read<'a>(
     room: &mut [u8],
     out: &mut [u8],
 ) -> Answer
-    requires { ⌜ (before-text mode (now rules) (now classes) (now vowels) (now code) ≡ none) × (now out ≡ replicate (length (now out)) 0) ⌝ }
-    ensures { λ r. ⌜ Reads mode (now (rules .entry)) (now (classes .entry)) (now (vowels .entry)) (now (code .entry)) (now (text .entry))
+    requires { ⌜ (before-text (asked .mode) (chosen asked) (now rules) (now classes) (now vowels) (now code) ≡ none) × (now out ≡ replicate (length (now out)) 0) ⌝ }
+    ensures { λ r. ⌜ Reads (asked .mode) (chosen asked) (now (rules .entry)) (now (classes .entry)) (now (vowels .entry)) (now (code .entry)) (now (text .entry))
         (length (now (slots .entry))) (length (now (room .entry))) (length (now (out .entry))) (returned r (now (out .exit))) ⌝ }
 {
     let mut line = [0u32; LINE];
     match lay_out(classes, text, &mut line) {
         TextRead::Characters(n) => prepare(
-            mode,
+            asked,
             rules,
             classes,
             vowels,
@@ -353,7 +368,7 @@ fn read<'a>(
 
 // The whole call, but for clearing the rooms.
 fn respond<'a>(
-    mode: u8,
+    asked: Asked,
     rules: &'a [u8],
     classes: &[u8],
     vowels: &[u8],
@@ -363,13 +378,13 @@ fn respond<'a>(
     room: &mut [u8],
     out: &mut [u8],
 ) -> Answer
-    ensures { λ r. ⌜ returned r (now (out .exit)) ≡ called (given mode (now (rules .entry)) (now (classes .entry)) (now (vowels .entry))
+    ensures { λ r. ⌜ returned r (now (out .exit)) ≡ called (given (asked .mode) (chosen asked) (now (rules .entry)) (now (classes .entry)) (now (vowels .entry))
         (now (code .entry)) (now (text .entry)) (length (now (slots .entry))) (length (now (room .entry))) (length (now (out .entry)))) ⌝ }
 {
     lent_bytes::clear(out);
-    match check(mode, rules, classes, vowels, code) {
+    match check(asked, rules, classes, vowels, code) {
         Verdict::Refused(number, place) => refuse(number, place),
-        Verdict::Accepted => read(mode, rules, classes, vowels, code, text, slots, room, out),
+        Verdict::Accepted => read(asked, rules, classes, vowels, code, text, slots, room, out),
     }
 }
 
@@ -377,6 +392,7 @@ fn respond<'a>(
 #[no_mangle]
 pub extern "C" fn jettyfig_romanize<'a>(
     mode: u8,
+    capitals: u8,
     rules: &'a [u8],
     classes: &[u8],
     vowels: &[u8],
@@ -386,12 +402,13 @@ pub extern "C" fn jettyfig_romanize<'a>(
     room: &mut [u8],
     out: &mut [u8],
 ) -> Answer
-    ensures answer { λ r. ⌜ returned r (now (out .exit)) ≡ called (given mode (now (rules .entry)) (now (classes .entry)) (now (vowels .entry))
+    ensures answer { λ r. ⌜ returned r (now (out .exit)) ≡ called (given mode (choose capitals) (now (rules .entry)) (now (classes .entry)) (now (vowels .entry))
         (now (code .entry)) (now (text .entry)) (length (now (slots .entry))) (length (now (room .entry))) (length (now (out .entry)))) ⌝ }
     ensures slots { λ _. ⌜ now (slots .exit) ≡ replicate (length (now (slots .entry))) 0 ⌝ }
     ensures room { λ _. ⌜ now (room .exit) ≡ replicate (length (now (room .entry))) 0 ⌝ }
 {
-    let answered = respond(mode, rules, classes, vowels, code, text, slots, room, out);
+    let asked = Asked { mode, capitals };
+    let answered = respond(asked, rules, classes, vowels, code, text, slots, room, out);
     lent_bytes::clear(slots);
     lent_bytes::clear(room);
     answered

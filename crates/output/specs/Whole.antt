@@ -55,7 +55,7 @@ whole-laid {rules} {ready} {line} {slots} {room} {places} {starts} {built} h =
 abbrev Of : List ℕ → List ℕ → List ℕ → List ℕ → List ℕ → List ℕ → List ℕ → Built → (Tables → Text → State → Type 0) → Type 0
 Of rules ready code line slots room places built P =
     (vowels : List ℕ) (w : World) → Told w ready → Lent w line places → edges-of room (built .count) slots ≡ w .edges
-    → P (tables-of rules (w .classes) vowels code) (w .text) (w .edges, memory (size w) places)
+    → P (tables-of (w .choices) rules (w .classes) vowels code) (w .text) (w .edges, memory (size w) places)
 
 -- the rows of its mode are put behind the place of the header
 abbrev pub RowsPut : List ℕ → List ℕ → List ℕ → List ℕ → List ℕ → List ℕ → List ℕ → Built → List ℕ → List ℕ → ℕ → Type 0

@@ -28,7 +28,7 @@ module _ (w : World) (ready : List ℕ) (e : Told w ready) where
   byte-told : (c : ℕ) → Low c → letter-byte ready c ≡ alpha (kinds w) c
   unfolding letter-byte
   byte-told c l =
-      ap (λ n. eqb n 1) (sym (getD-take ascii-characters ready c 0 l)) ∙ ap (λ (a : List ℕ). eqb (getD a c 0) 1) e ∙ ap (λ n. eqb n 1) (alphas-at (w .classes) c l)
+      ap (λ n. eqb n 1) (sym (getD-take ascii-characters ready c 0 l)) ∙ ap (λ (a : List ℕ). eqb (getD a c 0) 1) (e .letters) ∙ ap (λ n. eqb n 1) (alphas-at (w .classes) c l)
       ∙ is-set (alpha (kinds w) c)
 
   pub letter-told : {k : ℕ} (text : Text) → Short k text → last-letter ready text ≡ last-is (alpha (kinds w)) (decoded text)

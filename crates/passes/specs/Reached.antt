@@ -64,12 +64,16 @@ keeps-state {ks} {n} {S} {R} {P} {c} {u} st k =
 
 -- the same world with other edges
 abbrev pub with-edges : World → List Edge → World
-with-edges w es = record { classes = w .classes; text = w .text; edges = es }
+with-edges w es = record { classes = w .classes; choices = w .choices; text = w .text; edges = es }
+
+-- of which what was made ready tells as much
+pub told-with : {w : World} {ready : List ℕ} → Told w ready → (es : List Edge) → Told (with-edges w es) ready
+told-with t es = record { letters = t .letters; choices = t .choices }
 
 pub over-now : {w : World} {ready line : List ℕ} → Told w ready → Lined w line → (slots room places : List ℕ) (filled : Filled) (st : State)
     → Keeps (kinds w) (size w) slots room places (filled .count) (filled .used) st → Over (with-edges w (st .0)) ready line slots room places filled
 over-now t g slots room places filled st k = record {
-  told = t;
+  told = told-with t (st .0);
   lent = record { text = record { fine = g .fine; few = g .few; is = g .is }; edges = k .shown };
   stored = k .stored;
   edges = k .edges;
@@ -96,7 +100,7 @@ abbrev pub Reaches : List ℕ → List ℕ → List ℕ → List ℕ → List �
 Reaches rules ready vowels code line before after filled most f r =
     (w : World) → Over w ready line (before .0) (before .1) (before .2) filled
     → Reached (kinds w) (size w) (before .0) (before .1) (after .0) (after .1) (after .2) most
-    (f (tables-of rules (w .classes) vowels code) (w .text) (state-of w (before .2))) r
+    (f (tables-of (w .choices) rules (w .classes) vowels code) (w .text) (state-of w (before .2))) r
 
 abbrev pub Refused : Answer → Type 0
 Refused (Fits n u) = ⊥

@@ -1,7 +1,7 @@
 // Runs calls of standard input, as tests/calls/callfile.py writes them, through the call, and counts those whose answer,
 // output or rooms are other than given. Slots, text room and output are full of rubbish before each call.
 ghost use mathlib.Core.Path.{_≡_};
-ghost use Prim.Native.Nat.{_+_, _<_, _≤_};
+ghost use Prim.Native.Nat.{_+_, _<_};
 ghost use lib.ListN.{length, drop};
 ghost use Rattle.replay.specs.Given.{number-at, zeros, are-numbers, is-right};
 use jettyfig::Answer;
@@ -97,6 +97,7 @@ fn skip(input: &[u8], at: usize) -> usize
 // A call over rubbish.
 fn run_call<'a>(
     mode: u8,
+    capitals: u8,
     rules: &'a [u8],
     classes: &[u8],
     vowels: &[u8],
@@ -109,10 +110,21 @@ fn run_call<'a>(
     fill(slots, RUBBISH);
     fill(room, RUBBISH);
     fill(out, RUBBISH);
-    jettyfig::jettyfig_romanize(mode, rules, classes, vowels, code, text, slots, room, out)
+    jettyfig::jettyfig_romanize(
+        mode,
+        capitals,
+        rules,
+        classes,
+        vowels,
+        code,
+        text,
+        slots,
+        room,
+        out,
+    )
 }
 
-// The call at `at`, in rooms as large as it says: its fields stand at `at + 13`, `a`, `b`, `c` and `d`.
+// The call at `at`, in rooms as large as it says: its fields stand at `at + 14`, `a`, `b`, `c` and `d`.
 fn run_fields(
     input: &[u8],
     at: usize,
@@ -127,9 +139,11 @@ fn run_fields(
     requires { ⌜ (at < 16777216) × (a < 100000000000) × (b < 100000000000) × (c < 100000000000) × (d < 100000000000) ⌝ }
 {
     let mode = (base::byte(input, at) % 256) as u8;
+    let capitals = (base::byte(input, at + 1) % 256) as u8;
     run_call(
         mode,
-        field(input, at + 13),
+        capitals,
+        field(input, at + 14),
         field(input, a),
         field(input, b),
         field(input, c),
@@ -145,7 +159,7 @@ fn run_in(input: &[u8], at: usize, slots: &mut [u8], room: &mut [u8], out: &mut 
     requires { ⌜ at < 16777216 ⌝ }
     ensures { λ r. ⌜ at < r .next ⌝ }
 {
-    let a = skip(input, at + 13);
+    let a = skip(input, at + 14);
     let b = skip(input, a);
     let c = skip(input, b);
     let d = skip(input, c);
@@ -163,9 +177,9 @@ fn run_one(input: &[u8], at: usize, slots: &mut [u8], room: &mut [u8], out: &mut
     requires { ⌜ at < 16777216 ⌝ }
     ensures { λ r. ⌜ at < r .next ⌝ }
 {
-    let s = number(input, at + 1);
-    let r = number(input, at + 5);
-    let o = number(input, at + 9);
+    let s = number(input, at + 2);
+    let r = number(input, at + 6);
+    let o = number(input, at + 10);
     let wrong = Ran {
         next: at + 1,
         right: false,

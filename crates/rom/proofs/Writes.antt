@@ -22,13 +22,13 @@ abbrev pub made : List ℕ → ℕ → Rom
 made b n = record { bytes = b; len = n }
 
 -- bytes and a length that are those of a text
-as-rom : (b w : List ℕ) (n : ℕ) → length w ≡ n → b ≡ w ++ zeros (most-bytes - n) → made b n ≡ rom w
+pub as-rom : (b w : List ℕ) (n : ℕ) → length w ≡ n → b ≡ w ++ zeros (most-bytes - n) → made b n ≡ rom w
 unfolding rom
 as-rom b w n e p = ap (λ (x : List ℕ). made x n) p ∙ ap (λ (x : ℕ). made (w ++ zeros (most-bytes - x)) x) (sym e)
 
 module _ {r : Rom} (c : Clean r) where
   -- zeros stand behind the text
-  behind : (k : ℕ) → drop (r .len + k) (r .bytes) ≡ zeros (most-bytes - (r .len + k))
+  pub behind : (k : ℕ) → drop (r .len + k) (r .bytes) ≡ zeros (most-bytes - (r .len + k))
   unfolding rom
   behind k =
       let l = text-length c in

@@ -1,4 +1,4 @@
--- Sets of small letters as masks: each is the definition's set, at every number.
+-- Ranges of characters, and sets of small letters as masks: each is the definition's set, at every number.
 use Prim.Native.Nat.{ℕ, zero, suc, _-_, _<_, _≤_}
 use mathlib.Core.Bool.{Bool, true, false, not, _&&_}
 use mathlib.Core.Path.{_≡_, refl, sym, ap, _∙_, fun-ext}
@@ -16,6 +16,10 @@ use Rattle.definition.specs.Letters.{among-all}
 use Rattle.definition.specs.Edges.{closing}
 use Rattle.definition.specs.Vowels.{before-y}
 use Rattle.definition.specs.Expansion.{doubling, o-ang-side}
+
+-- in a range of characters
+unfoldable pub between : ℕ → ℕ → ℕ → Bool
+between first last c = leb first c && leb c last
 
 -- bit k is the letter k places after a
 unfoldable pub member : ℕ → ℕ → Bool

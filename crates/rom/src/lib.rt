@@ -5,9 +5,10 @@ ghost use Prim.Native.Nat.{_+_, _<_, _≤_};
 ghost use lib.ListN.{length};
 ghost use Rattle.base.specs.Lists.{any, all, tail, is, starts};
 ghost use Rattle.definition.specs.Limits.{most-bytes};
-ghost use Rattle.definition.specs.Texts.{last-is, without-last};
+ghost use Rattle.definition.specs.Texts.{lower, last-is, without-last};
+ghost use Rattle.definition.specs.Expansion.{capitalized};
 ghost use Rattle.rom.specs.Rom.{text, rom, Clean};
-ghost use Rattle.rom.specs.Sets.{member};
+ghost use Rattle.rom.specs.Sets.{member, between};
 
 // Sets of small letters, bit k for the letter k places after a: a e i o u.
 pub const VOWELS: u32 = 0x104111;
@@ -120,6 +121,37 @@ pub fn without_last(mut r: Rom) -> Rom
     r
 }
 
+// A capital letter made small.
+pub fn lower(c: u8) -> u8
+    ensures { λ r. ⌜ r ≡ lower c ⌝ }
+{
+    if c < 65 {
+        return c;
+    }
+    if c <= 90 {
+        return c + 32;
+    }
+    c
+}
+
+// A romanization whose first byte stays and whose later letters are small.
+pub fn capitalized(mut r: Rom) -> Rom
+    requires { ⌜ Clean r ⌝ }
+    ensures { λ q. ⌜ q ≡ rom (capitalized (text r)) ⌝ }
+{
+    let n = r.len;
+    if n == 0 {
+        return r;
+    }
+    let mut i: usize = 1;
+    while i < n {
+        let c = lower(r.bytes[i]);
+        r.bytes[i] = c;
+        i += 1;
+    }
+    r
+}
+
 // Does a text start with another; does it end with it?
 pub fn starts_with(s: &[u8], w: &[u8]) -> bool
     ensures { λ r. ⌜ r ≡ starts (now (w .entry)) (now (s .entry)) ⌝ }
@@ -150,6 +182,13 @@ pub fn is_in(set: u32, c: u32) -> bool
     (set >> (c - 97)) & 1 == 1
 }
 
+// Is a byte in a range?
+fn is_between(c: u32, first: u32, last: u32) -> bool
+    ensures { λ r. ⌜ r ≡ between first last c ⌝ }
+{
+    first <= c && c <= last
+}
+
 // Of a text: are all its characters in a set, is any, is the first, is the last?
 pub fn all_in(s: &[u8], set: u32) -> bool
     ensures { λ r. ⌜ r ≡ all (member set) (now (s .entry)) ⌝ }
@@ -171,6 +210,20 @@ pub fn any_in(s: &[u8], set: u32) -> bool
     let mut i: usize = 0;
     while i < s.len() {
         if is_in(set, base::byte(s, i)) {
+            return true;
+        }
+        i += 1;
+    }
+    false
+}
+
+// Is any of its bytes in a range?
+pub fn any_between(s: &[u8], first: u32, last: u32) -> bool
+    ensures { λ r. ⌜ r ≡ any (between first last) (now (s .entry)) ⌝ }
+{
+    let mut i: usize = 0;
+    while i < s.len() {
+        if is_between(base::byte(s, i), first, last) {
             return true;
         }
         i += 1;

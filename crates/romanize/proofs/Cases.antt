@@ -10,8 +10,8 @@ use lib.Seq.{take-all, take-suc}
 use borrow.Author.Tests.{eq-eqb, ne-eqb, le-leb, lt-leb}
 use Rattle.base.specs.Pick.{pick}
 use Rattle.base.specs.Lists.{head, tail, is, same}
-use Rattle.definition.specs.Texts.{last-is}
-use Rattle.romanize.specs.Arguments.{no-mode, mode-of, is-dash, code-of, without-line-end}
+use Rattle.definition.specs.Texts.{chars, last-is}
+use Rattle.romanize.specs.Arguments.{no-mode, mode-of, no-choice, capitals-of, is-dash, code-of, without-line-end}
 
 -- A mode that is not one byte; one byte that is below the digits, above them, or a digit
 pub no-digit : (w : List ℕ) → (length w ≡ 1 → ⊥) → no-mode ≡ mode-of w
@@ -37,6 +37,15 @@ unfolding mode-of pick
 digit [] l h k = absurd (omega arith)
 digit (d ∷ []) l h k = sym (rw (le-leb 48 d h, le-leb d 57 k) refl)
 digit (d ∷ e ∷ w) l h k = absurd (omega arith)
+
+-- The word for capitals, and any other
+pub named : (w : List ℕ) → true ≡ same w (chars "capitals") → 1 ≡ capitals-of w
+unfolding capitals-of pick
+named w e = rw (sym e) refl
+
+pub not-named : (w : List ℕ) → false ≡ same w (chars "capitals") → no-choice ≡ capitals-of w
+unfolding capitals-of pick
+not-named w e = rw (sym e) refl
 
 -- A code that is not one byte is no dash; one byte may be
 and-false : (b : Bool) → false ≡ (b && false)

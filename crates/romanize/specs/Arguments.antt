@@ -17,6 +17,14 @@ mode-of [] = no-mode
 mode-of (d ∷ []) = pick (leb 48 d && leb d 57) (d - 48) no-mode
 mode-of (d ∷ e ∷ w) = no-mode
 
+-- no choice: bad usage
+abbrev pub no-choice : ℕ
+no-choice = 255
+
+-- the word that turns capitals on
+unfoldable pub capitals-of : List ℕ → ℕ
+capitals-of w = pick (same w (chars "capitals")) 1 no-choice
+
 -- a dash is no language code
 unfoldable pub is-dash : List ℕ → Bool
 is-dash w = same w (chars "-")

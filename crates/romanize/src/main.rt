@@ -1,14 +1,14 @@
-// romanize RULES CLASSES VOWELS CODE MODE: romanizes standard input by the tables of three files.
+// romanize RULES CLASSES VOWELS CODE MODE [capitals]: romanizes standard input by the tables of three files.
 //
 // CODE is a language code, or - for none. MODE is 0 for the string, 1 for the path, 2 for the path and its alternatives, 3 for
-// all edges; these are written a line for each edge: start, end, annotation, core length and text. One line end behind the text
-// is no part of it. A refusal is one line on standard error, and nothing is written.
+// all edges; these are written a line for each edge: start, end, annotation, core length and text. The word `capitals` turns that
+// choice on. One line end behind the text is no part of it. A refusal is one line on standard error, and nothing is written.
 ghost use mathlib.Core.Path.{_≡_};
 ghost use Prim.Native.Nat.{_+_, _<_, _≤_};
 ghost use lib.ListN.{length};
 ghost use Rattle.io.specs.Counts.{Counts};
 ghost use Rattle.definition.specs.Limits.{most-rows};
-ghost use Rattle.romanize.specs.Arguments.{mode-of, is-dash, code-of, without-line-end};
+ghost use Rattle.romanize.specs.Arguments.{mode-of, capitals-of, is-dash, code-of, without-line-end};
 use jettyfig::Answer;
 use libc::STDERR_FILENO;
 use libc::STDIN_FILENO;
@@ -22,6 +22,13 @@ const NAMES: [u8; 120] =
 
 // No mode.
 const NO_MODE: u8 = 255;
+
+// The choice of capitals; and what a word behind the mode that names no choice says, which is bad usage.
+const CAPITALS_OFF: u8 = 0;
+
+const CAPITALS_ON: u8 = 1;
+
+const NO_CHOICE: u8 = 255;
 
 // The rooms are returned by functions so that `main` knows their lengths alone, and no proof goes through their bytes. Slots
 // and text room are as large as any text can need, and the output holds all edges of any text.
@@ -56,11 +63,15 @@ fn out_room() -> [u8; 1793029] {
 fn usage() {
     io::write_all(
         STDERR_FILENO,
-        b"usage: romanize RULES CLASSES VOWELS CODE MODE < TEXT\n",
+        b"usage: romanize RULES CLASSES VOWELS CODE MODE [capitals] < TEXT\n",
     );
     io::write_all(
         STDERR_FILENO,
         b"three table files; a language code, or - for none; 0 string, 1 path, 2 alternatives, 3 all edges\n",
+    );
+    io::write_all(
+        STDERR_FILENO,
+        b"capitals: before lower case a character in upper case keeps its first letter so, Zh and not ZH\n",
     );
 }
 
@@ -92,7 +103,7 @@ fn read_table(i: usize, buf: &mut [u8]) -> usize
     got
 }
 
-// The mode of the last argument: one digit. Anything else is no mode, which the call refuses.
+// The mode: one digit. Anything else is no mode, which the call refuses.
 fn mode_of(arg: &[u8]) -> u8
     ensures { λ r. ⌜ r ≡ mode-of (now (arg .entry)) ⌝ }
 {
@@ -107,6 +118,30 @@ fn mode_of(arg: &[u8]) -> u8
         return NO_MODE;
     }
     digit - b'0'
+}
+
+// The choice that a word behind the mode names.
+fn capitals_of(word: &[u8]) -> u8
+    ensures { λ r. ⌜ r ≡ capitals-of (now (word .entry)) ⌝ }
+{
+    if lent_bytes::same(word, b"capitals") {
+        return CAPITALS_ON;
+    }
+    NO_CHOICE
+}
+
+// The choice of capitals by the arguments behind the mode.
+fn capitals_chosen() -> u8 {
+    let count = os::arg_count();
+    if count == 6 {
+        return CAPITALS_OFF;
+    }
+    if count != 7 {
+        return NO_CHOICE;
+    }
+    let mut word = [0u8; 16];
+    let n = os::arg(6, &mut word);
+    capitals_of(&word[..n])
 }
 
 fn is_dash(arg: &[u8]) -> bool
@@ -257,14 +292,24 @@ fn say_room(number: u64) {
     io::write_all(STDERR_FILENO, b"the output is too short; bytes needed: ");
 }
 
+// What a refusal of a choice means, and what its place is.
+fn say_choice() {
+    io::write_all(
+        STDERR_FILENO,
+        b"the choice of capitals is neither 0 nor 1; place ",
+    );
+}
+
 // What a refusal of anything but the rule table means, and its place.
 fn say_meaning(number: u64, place: u64) {
     if number < 6 {
         say_given(number);
     } else if number < 9 {
         say_text(number);
-    } else {
+    } else if number < 12 {
         say_room(number);
+    } else {
+        say_choice();
     }
     io::print_decimal(STDERR_FILENO, place);
 }
@@ -333,6 +378,7 @@ fn print_refusal(answer: Answer, rules: &[u8]) {
 // One call, and what it answers, printed.
 fn romanize<'a>(
     mode: u8,
+    capitals: u8,
     rules: &'a [u8],
     classes: &[u8],
     vowels: &[u8],
@@ -344,6 +390,7 @@ fn romanize<'a>(
     let mut out = out_room();
     let answer = jettyfig::jettyfig_romanize(
         mode,
+        capitals,
         rules,
         classes,
         vowels,
@@ -366,7 +413,7 @@ fn romanize<'a>(
 }
 
 // The tables are read; code, mode and text are not yet.
-fn with_tables(rules: &[u8], classes: &[u8], vowels: &[u8]) {
+fn with_tables(capitals: u8, rules: &[u8], classes: &[u8], vowels: &[u8]) {
     let mut code = io::buffer();
     let c = os::arg(4, &mut code);
     if os::errno() != 0 {
@@ -382,6 +429,7 @@ fn with_tables(rules: &[u8], classes: &[u8], vowels: &[u8]) {
     }
     romanize(
         mode_of(&mode[..m]),
+        capitals,
         rules,
         classes,
         vowels,
@@ -391,7 +439,8 @@ fn with_tables(rules: &[u8], classes: &[u8], vowels: &[u8]) {
 }
 
 fn main() {
-    if os::arg_count() != 6 {
+    let capitals = capitals_chosen();
+    if capitals == NO_CHOICE {
         usage();
         return;
     }
@@ -410,5 +459,5 @@ fn main() {
     if v == vowels.len() {
         return;
     }
-    with_tables(&rules[..r], &classes[..c], &vowels[..v]);
+    with_tables(capitals, &rules[..r], &classes[..c], &vowels[..v]);
 }

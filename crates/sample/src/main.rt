@@ -517,6 +517,7 @@ fn main() {
     let mut out = [0u8; 65536];
     let answer = jettyfig::jettyfig_romanize(
         1,
+        0,
         &RULES,
         &CLASSES,
         &VOWELS,

@@ -136,7 +136,7 @@ module _ (rules code : List ℕ) {ready line S R P : List ℕ} {w : World} {fill
       → S′ ≡ slots-after S R (filled .count) (filled .used) x b → R′ ≡ room-after S R (filled .count) (filled .used) x b
       → P′ ≡ places-after a (filled .count) x end P₁
       → Reached (kinds w) (size w) S R S′ R′ P′ (filled .used + most-bytes)
-      (put-fallback (tables-of rules (w .classes) vowels code) (w .text) p (state-of w P)) a
+      (put-fallback (tables-of (w .choices) rules (w .classes) vowels code) (w .text) p (state-of w P)) a
 
   -- how its text ends, as it was told with `letter`
   abbrev pub Ended : List ℕ → Bool → Ending → Type 0
@@ -151,7 +151,7 @@ module _ (rules code : List ℕ) {ready line S R P : List ℕ} {w : World} {fill
         let f = ap (λ (x : Numbers). x .from) y in
         let g = ap (λ (x : Numbers). x .to) y in
         let keeps = keeps-asked (over-keeps o) P₁ (memory (size w) P₁) k refl in
-        reached-as (put-fallback (tables-of rules (w .classes) vowels code) (w .text) p (state-of w P))
+        reached-as (put-fallback (tables-of (w .choices) rules (w .classes) vowels code) (w .text) p (state-of w P))
         (ap (λ (y : Edge). (add (w .edges) (some y), memory (size w) P₁)) i
         ∙ put-in-did (λ es. fallback-edge L (w .text) (view (kinds w) es) p) (w .edges) (memory (size w) P) d) a
         (reached-wide (filled .used + most-bytes) (omega arith) a
@@ -178,7 +178,7 @@ module _ (rules code : List ℕ) {ready line S R P : List ℕ} {w : World} {fill
       (a : Option Text) (P₁ : List ℕ) (asked : Asked w (simple L (w .text) (seen w) p (p + 1)) P P₁ a) where
     -- tables with no vowels: simple search reads none
     D : Tables
-    D = record { rules = rules-of rules; classes = kinds w; vowels = []; code = code }
+    D = record { choices = w .choices; rules = rules-of rules; classes = kinds w; vowels = []; code = code }
 
     bounded : Bounded D
     unfolding D

@@ -23,7 +23,7 @@ use Rattle.spans.specs.declared.Spanned.{Spanned}
 -- What a step that asks all tables answers: of every world that the lent slices stand for, what the definition does
 abbrev pub Finds : {A : Type 0} → List ℕ → List ℕ → List ℕ → List ℕ → List ℕ → List ℕ → List ℕ → (Tables → Text → View → M A) → A → Type 0
 Finds rules ready vowels code line before after f r =
-    (w : World) → Told w ready → Lent w line before → Asked w (f (tables-of rules (w .classes) vowels code) (w .text) (seen w)) before after r
+    (w : World) → Told w ready → Lent w line before → Asked w (f (tables-of (w .choices) rules (w .classes) vowels code) (w .text) (seen w)) before after r
 
 -- an edge by its numbers and its text
 abbrev pub edge-with : Numbers → Text → Edge

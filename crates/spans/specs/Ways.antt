@@ -11,7 +11,7 @@ use Rattle.base.specs.Pick.{pick, pick-all}
 use Rattle.base.specs.Lists.{tail, has, maybe}
 use Rattle.definition.specs.Notes.{note-none, note-rom, note-core, note-tail}
 use Rattle.definition.specs.Texts.{Text}
-use Rattle.definition.specs.Tables.{Tables, lexicon}
+use Rattle.definition.specs.Tables.{Choices, Tables, lexicon}
 use Rattle.definition.specs.Edges.{Edge, View, Mem, ret, _>>=_}
 use Rattle.definition.specs.Syllables.{full}
 use Rattle.definition.specs.Vowels.{vowel-step}
@@ -63,12 +63,15 @@ none-there (some w) e = absurd (let z : _≡_ {A = ℕ} 0 1 = cc in omega arith)
 
 module _ (D : Tables) (t : Text) (v : View) where
   -- vowel step, then expansion
-  pub edge-done : (tail : Bool) (rom from new : Text) (x : Work) (s e : ℕ) (m : Mem) {m₁ m₂ : Mem} → from ≡ rom
-      → Did (vowel-step (lexicon D) t v (D .vowels) tail from s e m) new m₁ → Did (expand (lexicon D) t v new s e m₁) x m₂
+  pub edge-done : (tail : Bool) (rom from new : Text) (x : Work) (s e : ℕ) (m : Mem) {m₁ m₂ : Mem} → from ≡ rom → (c : Choices) → c ≡ D .choices
+      → Did (vowel-step (lexicon D) t v (D .vowels) tail from s e m) new m₁ → Did (expand (lexicon D) t v c new s e m₁) x m₂
       → Did (edge-of D t v tail rom s e m) (as-edge tail rom new x) m₂
   unfolding edge-of ret _>>=_
-  edge-done tail rom from new x s e m a d f =
-      did (rw (ap (λ (y : Text). vowel-step (lexicon D) t v (D .vowels) tail y s e m) (sym a) ∙ outcome d, outcome f))
+  edge-done tail rom from new x s e m {m₁} a c q d f =
+      did (rw (
+        ap (λ (y : Text). vowel-step (lexicon D) t v (D .vowels) tail y s e m) (sym a) ∙ outcome d,
+        ap (λ (k : Choices). expand (lexicon D) t v k new s e m₁) (sym q) ∙ outcome f,
+      ))
 
   -- by what full search answers
   module _ (s e : ℕ) (m : Mem) {m₁ : Mem} (o : Option Text) (d : Did (full (lexicon D) t v s e m) o m₁) where

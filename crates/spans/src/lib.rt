@@ -135,7 +135,17 @@ fn edge_of(
         span,
     );
     let new = v.rom;
-    let x = expand::expand_rom_with_special_chars(rules, ready, code, line, places, new, span);
+    let choices = words::choices_in(ready);
+    let x = expand::expand_rom_with_special_chars(
+        choices,
+        rules,
+        ready,
+        code,
+        line,
+        places,
+        new,
+        span,
+    );
     let whole = x.rom;
     Spanned {
         there: true,

@@ -1,5 +1,5 @@
--- Demand 3 applied: its premises met by document 01's sample tables, its equations for a line of two words,
--- and a text for which it would be false without the premise on U+0E2D.
+-- Demand 3 applied: its premises met by document 01's sample tables, its equations for a line of two words and for a
+-- word where capitals are chosen, and a text for which it would be false without the premise on U+0E2D.
 use mathlib.Core.Bool.{true, not, true≢false}
 use mathlib.Core.Path.{_≡_, refl, sym, _∙_, ap}
 use mathlib.Core.List.{[], _∷_, _++_, map}
@@ -18,7 +18,7 @@ use Rattle.definition.specs.Building.{single}
 use Rattle.definition.specs.Paths.{joined, edges, path}
 use Rattle.definition.specs.Call.{Inputs, tables, characters}
 use Rattle.definition.specs.Compute.{compute}
-use Rattle.definition.specs.Sample.{sample}
+use Rattle.definition.specs.Sample.{sample-rules, sample-classes-by, capitals-by, lower-case, sample-with, sample}
 use Rattle.definition.specs.Parts.{Accepts}
 use Rattle.stretches.specs.Demand.{spaceless, spaceless-if, spaceless-rule, Taken, has-row, space-edge, over, Before, start, After, end, First, within, shift, Alone}
 use Rattle.stretches.specs.Proved.{demand}
@@ -73,6 +73,25 @@ pub second-edges-are : keep (within 3 3) (edges (tables line) (characters line))
     ≡ edge 3 5 note-exp 0 "k" ∷ edge 4 5 note-rom 0 "" ∷ edge 5 6 note-core 1 "ta" ∷ edge 3 4 note-single 0 "k" ∷ []
 unfolding compute shift
 second-edges-are = second-edges
+
+-- Capitals chosen, where ж is lower case
+abbrev capital-line : Inputs
+capital-line = sample-with 2 (capitals-by 1) sample-rules (sample-classes-by lower-case) "" "ж Жж ж"
+
+pub capital-taken : Taken capital-line
+unfolding compute spaceless spaceless-if spaceless-rule
+capital-taken = record { accepted = refl; no-space = refl }
+
+pub capital-word : Alone (tables capital-line) (characters capital-line) (chars "Жж") 2 × Accepts capital-line (chars "Жж")
+unfolding compute
+capital-word = demand capital-line capital-taken .stretches (chars "ж ") (chars "Жж") (chars " ж") refl
+    (Before.space (chars "ж")) (After.space (chars "ж")) (first-by (chars "Жж") refl)
+
+-- The word's edges alone, moved by 2: Ж before a lower-case letter is "Zh"
+pub capital-edges : keep (within 2 2) (edges (tables capital-line) (characters capital-line))
+    ≡ edge 2 3 note-rom 0 "Zh" ∷ edge 3 4 note-rom 0 "zh" ∷ []
+unfolding compute shift
+capital-edges = capital-word .0 .edges
 
 -- What document 01 has run: ก, space, U+0E48, อ, ก gives "k ok", while U+0E48, อ, ก alone gives "k"
 abbrev thai-line : Inputs

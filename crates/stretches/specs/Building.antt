@@ -68,7 +68,7 @@ module _ {D : Tables} (fair : FairTables D) {T st : Text} {a : ℕ} (h : Stretch
   unfolding edge-of
   edge-of-inside b rom {p = p} z l s =
       sim-bind _ (vowel-step-inside (fair .lexicon) h g (D .vowels) (fair .vowels) b rom z l s)
-      (λ new q. sim-bind _ (expand-inside (fair .lexicon) h g new z l q)
+      (λ new q. sim-bind _ (expand-inside (fair .lexicon) h g (D .choices) new z l q)
       (λ x y. sim-ret-by _ _ (as-edge-moved a b rom new x) (as-edge-held (length st) p b rom new x y)))
 
   pub span-edge-inside : {P E p e : ℕ} → Span a (length st) P E p e → e ≤ length st

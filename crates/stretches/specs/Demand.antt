@@ -21,7 +21,7 @@ use Rattle.definition.specs.Paths.{edges, path, with-alternatives, alternatives
 use Rattle.definition.specs.Call.{Inputs, tables, characters, refusal}
 use Rattle.definition.specs.Parts.{Accepts}
 
--- Take an accepted text (mode, tables, code and text are bytes, and none of refusals 1 to 8 is given),
+-- Take an accepted text (mode, choices, tables, code and text are bytes, and none of refusals 1 to 8 and 12 is given),
 -- and rules with no space in any source or target text (a rule's alternatives may have some)
 unfoldable pub spaceless : Text → Bool
 spaceless w = all (λ c. not (eqb c the-space)) w
@@ -85,7 +85,7 @@ pub record Alone (D : Tables) (T st : Text) (a : ℕ) : Type 0 where
   pub all-edges : keep (within a (length st)) (all-edges D T) ≡ map (shift a) (all-edges D st)
 
 -- For each stretch (one with spaces of its own is covered too); and the stretch is an accepted text, with the same
--- tables and code
+-- choices, tables and code
 abbrev pub Stretches : Inputs → Type 0
 Stretches i = (x st y : Text) → characters i ≡ x ++ (st ++ y) → Before x → After y → First st
     → Alone (tables i) (characters i) st (length x) × Accepts i st

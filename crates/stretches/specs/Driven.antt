@@ -67,22 +67,22 @@ mode-zero : (i : Inputs) → i .mode ≡ 0 → romanization i ≡ answer i (char
 unfolding shown string path
 mode-zero i e = rw e
 
--- Calls with one mode, tables, code and text are refused alike, but for what they are lent
-same-refusal : (j k : Inputs) → j .mode ≡ k .mode → j .rules ≡ k .rules → j .classes ≡ k .classes
+-- Calls with one mode, choices, tables, code and text are refused alike, but for what they are lent
+same-refusal : (j k : Inputs) → j .mode ≡ k .mode → j .choices ≡ k .choices → j .rules ≡ k .rules → j .classes ≡ k .classes
     → j .vowels ≡ k .vowels → j .code ≡ k .code → j .text ≡ k .text → refusal j ≡ refusal k
 unfolding refusal characters
-same-refusal j k a b c d e f = rw (a, b, c, d, e, f)
+same-refusal j k a o b c d e f = rw (a, o, b, c, d, e, f)
 
 -- A word's call
 module _ (i j : Inputs) (c : WordCall i j) where
   same-tables : tables j ≡ tables i
   unfolding tables
-  same-tables = rw (c .rules, c .classes, c .vowels, c .code)
+  same-tables = rw (c .choices, c .rules, c .classes, c .vowels, c .code)
 
   word-accepted : bad-sequence (j .text) ≡ none → Reading i (characters j) → refusal j ≡ none
   unfolding with-text characters
   word-accepted e r =
-      same-refusal j (with-text i (characters j)) (c .mode) (c .rules) (c .classes) (c .vowels) (c .code)
+      same-refusal j (with-text i (characters j)) (c .mode) (c .choices) (c .rules) (c .classes) (c .vowels) (c .code)
       (sym (encoded-decoded (j .text) e))
       ∙ r .accepts .accepted
 

@@ -33,9 +33,10 @@ abbrev pub Strings : Type 0
 Strings = (i : Inputs) → Taken i → (ws : List Text) → characters i ≡ line-of ws → All First ws
     → string (tables i) (characters i) ≡ line-of (map (string (tables i)) ws)
 
--- A word's call: the line's mode, tables and code; slots, room and output at least as large
+-- A word's call: the line's mode, choices, tables and code; slots, room and output at least as large
 pub record WordCall (i j : Inputs) : Type 0 where
   pub mode : j .mode ≡ i .mode
+  pub choices : j .choices ≡ i .choices
   pub rules : j .rules ≡ i .rules
   pub classes : j .classes ≡ i .classes
   pub vowels : j .vowels ≡ i .vowels

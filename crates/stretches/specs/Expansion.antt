@@ -14,19 +14,20 @@ use Rattle.base.specs.Lists.{head, tail, has, is, same}
 use Rattle.base.specs.Alls.{All-append, All-reverse, All-tail, All-one, Opt, All-head, Opt-with}
 use Rattle.definition.specs.Notes.{note-exp, note-none}
 use Rattle.definition.specs.Texts.{Text, the-space, letter-e, coptic-grave, long-mark, at, last-is, without-last}
-use Rattle.definition.specs.Tables.{Lexicon}
+use Rattle.definition.specs.Tables.{Choices, Lexicon}
 use Rattle.definition.specs.Classes.{class}
 use Rattle.definition.specs.Edges.{View, M, ret}
 use Rattle.definition.specs.Rules.{first-rule}
-use Rattle.definition.specs.Expansion.{Work, work, double, around, before, small-ya, small-target, lengthens, trim-front, trim-back, trim, finish, grave}
-use Rattle.definition.specs.Expansion.{small-y, rest, o-ang-step, thai, by-script, expand}
+use Rattle.definition.specs.Expansion.{Work, work, capitalize, double, around, before, small-ya, small-target, lengthens}
+use Rattle.definition.specs.Expansion.{trim-front, trim-back, trim, finish, grave, small-y, rest, o-ang-step, thai, by-script, expand}
 use Rattle.definition.specs.Within.{inner}
 use Rattle.definition.specs.ExpandBounds.{space-not-small}
 use Rattle.stretches.specs.Given.{Ink, Solid, Fair, Stretch, Span}
 use Rattle.stretches.specs.Windows.{Sim, sim-ret-by, sim-ret, sim-if, sim-pick, sim-maybe, sim-maybe-moved, sim-bind}
 use Rattle.stretches.specs.Boundaries.{See}
 use Rattle.stretches.specs.Rules.{simple-inside, first-solid}
-use Rattle.stretches.specs.Works.{move, Held, work-move, pick-move, double-inside, double-held}
+use Rattle.stretches.specs.Works.{move, Held, work-move, pick-move}
+use Rattle.stretches.specs.Works.{capitalize-inside, capitalize-held, capitalize-from, double-inside, double-held}
 use Rattle.stretches.specs.Thai.{around-inside, around-held, before-inside, before-held, silent-inside}
 
 -- Trimming: a text that has no space loses none
@@ -166,17 +167,23 @@ module _ {L : Lexicon} (fair : Fair L) {T st : Text} {a : ℕ} (h : Stretch T st
     by-script-inside p w y =
         rw (h .look (a + p) p refl (omega arith)) (sim-pick _ (thai-inside p w y) (rest-inside p w y))
 
-    expand-held-inside : (rom : Text) (p e : ℕ) → p < e → e ≤ length st → Solid rom
-        → Moved p (expand L T W rom (a + p) (a + e)) (expand L st v rom p e)
+    expand-held-inside : (c : Choices) (rom : Text) (p e : ℕ) → p < e → e ≤ length st → Solid rom
+        → Moved p (expand L T W c rom (a + p) (a + e)) (expand L st v c rom p e)
     unfolding expand
-    expand-held-inside rom p e k l s =
+    expand-held-inside c rom p e k l s =
         let w = work rom p e note-none in
         let y : Held (length st) p w = record { low = omega arith; high = k; fit = l; ink = s } in
         let own : move a w ≡ work rom (a + p) (a + e) note-none = sym (work-move a rom p _ e _ note-none refl refl) in
-        rw (← own, double-inside (L .classes) h p w (omega arith) refl)
+        let u = capitalize c (L .classes) st w in
+        let z : Held (length st) p u = capitalize-held c (L .classes) h p w y in
+        rw (
+          ← own,
+          capitalize-inside c (L .classes) h w l,
+          double-inside (L .classes) h p u (omega arith) (capitalize-from c (L .classes) h w),
+        )
         (sim-pick (same rom []) (sim-ret w y)
-        (by-script-inside p (double (L .classes) st p w) (double-held (L .classes) h p w y)))
+        (by-script-inside p (double (L .classes) st p u) (double-held (L .classes) h p u z)))
 
-    pub expand-inside : (rom : Text) {P E p e : ℕ} → Span a (length st) P E p e → e ≤ length st → Solid rom
-        → Sim a (length st) Work (move a) (Held (length st) p) (expand L T W rom P E) (expand L st v rom p e)
-    expand-inside rom {P} {E} {p} {e} z l s = rw (z .from, z .to) (expand-held-inside rom p e (z .forward) l s)
+    pub expand-inside : (c : Choices) (rom : Text) {P E p e : ℕ} → Span a (length st) P E p e → e ≤ length st → Solid rom
+        → Sim a (length st) Work (move a) (Held (length st) p) (expand L T W c rom P E) (expand L st v c rom p e)
+    expand-inside c rom {P} {E} {p} {e} z l s = rw (z .from, z .to) (expand-held-inside c rom p e (z .forward) l s)

@@ -20,6 +20,7 @@ use Rattle.stretches.specs.Applied.{first-by}
 -- A call with other bytes as its text, lent as much
 word-call : (i : Inputs) (b : List ℕ) → WordCall i (record {
   mode = i .mode;
+  choices = i .choices;
   rules = i .rules;
   classes = i .classes;
   vowels = i .vowels;
@@ -31,6 +32,7 @@ word-call : (i : Inputs) (b : List ℕ) → WordCall i (record {
 })
 word-call i b = record {
   mode = refl;
+  choices = refl;
   rules = refl;
   classes = refl;
   vowels = refl;
@@ -122,6 +124,7 @@ firsts-needed every =
 abbrev knit : String → Inputs
 knit w = record {
   mode = 0;
+  choices = record { capitals = 0 };
   rules = block (0 ∷ 17 ∷ 32 ∷ 0 ∷ 0 ∷ 3 ∷ 0 ∷ 0 ∷ 0x61 ∷ 0 ∷ 0 ∷ 0x20 ∷ 0 ∷ 0 ∷ 0x62 ∷ 0 ∷ 1 ∷ 0x78 ∷ 0 ∷ []);
   classes = block [];
   vowels = block [];

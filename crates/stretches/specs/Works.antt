@@ -1,4 +1,4 @@
--- What the expansion works on, moved by the stretch's start; and doubling.
+-- What the expansion works on, moved by the stretch's start; and its first steps, capitals and doubling.
 use mathlib.Core.Bool.{Bool, true, false}
 use mathlib.Core.Path.{_≡_, refl}
 use mathlib.Core.List.{List, []}
@@ -8,13 +8,14 @@ use native.Mathlib.Omega.{arith}
 use lib.Dec.{eqb}
 use lib.ListN.{length, take}
 use Rattle.base.specs.Pick.{pick, pick-all}
-use Rattle.base.specs.Bools.{and-left}
+use Rattle.base.specs.Bools.{and-left, eqb-alike}
 use Rattle.base.specs.Lists.{head, or-else, is, starts}
 use Rattle.base.specs.Alls.{All-append, All-one}
 use Rattle.definition.specs.Notes.{note-exp}
 use Rattle.definition.specs.Texts.{Text, chars, the-space, addak, among, prev}
-use Rattle.definition.specs.Tables.{Class}
-use Rattle.definition.specs.Expansion.{Work, work, doubling, doubled, small-tsu, double}
+use Rattle.definition.specs.Tables.{Class, Choices}
+use Rattle.definition.specs.Expansion.{Work, work, capitalizes, capitalize, doubling, doubled, small-tsu, double}
+use Rattle.definition.specs.Capitals.{capitalize-ind, capitalized-all}
 use Rattle.stretches.specs.Given.{Ink, Solid, Stretch}
 use Rattle.stretches.specs.Texts.{later}
 
@@ -49,6 +50,31 @@ pub pick-move-if : (a : ℕ) (b : Bool) (x : Option Work) {X : Option Work} → 
 unfolding pick
 pick-move-if a true x p = p refl
 pick-move-if a false x p = refl
+
+-- Capitals: the width and the next character are the same, the span stays, and a small letter is no space
+module _ (c : Choices) (ks : List Class) {T st : Text} {a : ℕ} (h : Stretch T st a) where
+  capitalizes-inside : (w : Work) → w .to ≤ length st → capitalizes c ks T (move a w) ≡ capitalizes c ks st w
+  unfolding capitalizes move
+  capitalizes-inside w l = rw (
+    eqb-alike (a + w .from + 1) (a + w .to) (w .from + 1) (w .to) (λ q. omega arith) (λ q. omega arith),
+    h .look (a + w .to) (w .to) refl l,
+  )
+
+  pub capitalize-inside : (w : Work) → w .to ≤ length st → capitalize c ks T (move a w) ≡ move a (capitalize c ks st w)
+  unfolding capitalize
+  capitalize-inside w l = rw (capitalizes-inside w l) (pick-move a _ _ w (λ b. unfold move in refl) refl)
+
+  pub capitalize-held : (p : ℕ) (w : Work) → Held (length st) p w → Held (length st) p (capitalize c ks st w)
+  capitalize-held p w k = capitalize-ind (Held (length st) p) c ks st w
+      (record {
+        low = k .low;
+        high = k .high;
+        fit = k .fit;
+        ink = capitalized-all Ink (λ d l g e. omega arith) (w .rom) (k .ink);
+      }) k
+
+  pub capitalize-from : (w : Work) → capitalize c ks st w .from ≡ w .from
+  capitalize-from w = capitalize-ind (λ x. x .from ≡ w .from) c ks st w refl refl
 
 -- Doubling
 small-tsu-space : small-tsu the-space ≡ false

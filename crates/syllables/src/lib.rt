@@ -1,6 +1,6 @@
 // End of syllable (word_boundaries.rs), and the full search that asks it (rules.rs).
 ghost use mathlib.Core.Path.{_≡_};
-ghost use Prim.Native.Nat.{_+_, _/_, _<_, _≤_};
+ghost use Prim.Native.Nat.{_+_, _/_, _≤_};
 ghost use lib.ListN.{length};
 ghost use Rattle.base.specs.Pick.{pick};
 ghost use Rattle.base.specs.Bits.{flagged};
@@ -19,25 +19,14 @@ use words::Span;
 // U+0E2D, O ang.
 const O_ANG: u32 = 0x0E2D;
 
-// A capital letter made small.
-fn lower(c: u32) -> u32
-    requires { ⌜ c < 256 ⌝ }
-    ensures { λ r. ⌜ r ≡ lower c ⌝ }
-{
-    if c < 65 {
-        return c;
-    }
-    if c <= 90 {
-        return c + 32;
-    }
-    c
-}
-
 // Does a text start with a vowel, large or small?
 fn starts_with_vowel(text: &[u8]) -> bool
     ensures { λ r. ⌜ r ≡ is (λ c. vowels (lower c)) (head (now (text .entry))) ⌝ }
 {
-    rom::is_in(rom::VOWELS, lower(base::byte(text, 0)))
+    if text.len() == 0 {
+        return false;
+    }
+    rom::is_in(rom::VOWELS, rom::lower(text[0]) as u32)
 }
 
 // Does the text that a search answered start with a vowel?

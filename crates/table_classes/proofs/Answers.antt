@@ -37,7 +37,7 @@ module _ (c : ℕ) (r : ClassOf) (k : Class) (h : class-means c r ≡ k) where
   absent-is e = ap packed (ap (class-means c) (sym e) ∙ h)
 
   module _ (row : ClassRow) (e : r ≡ Row row) (g : Ranged r) where
-    pub row-ranged : (row .category ≤ 7) × (row .script ≤ 127) × (row .flags < 128)
+    pub row-ranged : (row .category ≤ 7) × (row .script ≤ 127) × (row .flags < 256)
     unfolding Ranged
     row-ranged = subst Ranged e g
 

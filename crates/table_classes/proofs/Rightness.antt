@@ -3,10 +3,9 @@ use Prim.Native.Nat.{ℕ, _≤_, _<_}
 use mathlib.Core.Bool.{true, false, and-false, and-true}
 use mathlib.Core.List.{List}
 use mathlib.Core.Path.{_≡_, sym}
-use native.Mathlib.Omega.{arith}
 use lib.Dec.{eqb}
 use lib.ListN.{length}
-use borrow.Author.Tests.{le-leb, lt-leb, le-ltb, lt-ltb, eq-eqb, ne-eqb}
+use borrow.Author.Tests.{le-leb, lt-leb, eq-eqb, ne-eqb}
 use Rattle.definition.specs.Texts.{latin}
 use Rattle.definition.specs.Utf8.{scalar}
 use Rattle.table_blocks.specs.Held.{held, short}
@@ -29,20 +28,15 @@ module _ (s : List ℕ) (low : ℕ) where
   unfolding class-fits
   fits-script h = simp (lt-leb (class-script s) 127 h, and-false)
 
-  pub fits-flags : 127 < class-flags s → false ≡ class-fits low s
-  unfolding class-fits
-  fits-flags h = simp (le-ltb (class-flags s) 128 (omega arith), and-false)
-
-  pub fits-else : 6 ≤ length s → low ≤ class-char s → class-category s ≤ 7 → class-script s ≤ 127 → class-flags s ≤ 127
+  pub fits-else : 6 ≤ length s → low ≤ class-char s → class-category s ≤ 7 → class-script s ≤ 127
       → (c : ℕ) → c ≡ class-char s → scalar c ≡ class-fits low s
   unfolding class-fits
-  fits-else l r k n f c e = simp (
+  fits-else l r k n c e = simp (
     e,
     held 6 s l,
     le-leb low (class-char s) r,
     le-leb (class-category s) 7 k,
     le-leb (class-script s) 127 n,
-    lt-ltb (class-flags s) 128 (omega arith),
     and-true,
   )
 

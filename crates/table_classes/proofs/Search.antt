@@ -70,7 +70,6 @@ pub record Kept (s : List ℕ) : Type 0 where
   pub inside : 6 ≤ length s
   pub category : class-category s ≤ 7
   pub script : class-script s ≤ 127
-  pub flags : class-flags s < 128
 
 count : {s : List ℕ} → Each Kept class-size s → length s ≡ length (rows class-of class-size s) * 6
 unfolding class-size
@@ -105,7 +104,7 @@ pub record Between (b : List ℕ) (c low high : ℕ) : Type 0 where
 module _ (b : List ℕ) (fine : Fine b) where
   kept : Each Kept class-size (drop 5 b)
   kept = each-map (λ s q. let w = class-checked (q .0) s (q .1) in
-      record { inside = w .inside; category = w .category; script = w .script; flags = w .flags })
+      record { inside = w .inside; category = w .category; script = w .script })
       (chain-each class-size class-next class-right (classes-chain b fine))
 
   pub rows-count : length b - 5 ≡ length (classes-of b) * 6

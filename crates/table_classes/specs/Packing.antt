@@ -12,7 +12,7 @@ use Rattle.base.specs.Bools.{and-left, and-right}
 use Rattle.base.specs.Pick.{pick, pick-all}
 use Rattle.base.specs.Alls.{All}
 use Rattle.definition.specs.Texts.{latin}
-use Rattle.definition.specs.Limits.{most-script, flags-limit, ascii-characters}
+use Rattle.definition.specs.Limits.{most-script, ascii-characters}
 use Rattle.definition.specs.Tables.{Class, category-letter, category-other, category-Zs}
 use Rattle.definition.specs.ClassRows.{class-by, class-of, classes-of}
 use Rattle.definition.specs.Classes.{plain, class, alpha, script}
@@ -33,18 +33,19 @@ by-each q (suc n) e i h = go (eqb i n) refl (by-each q n (and-right (q n) (each-
     go true z k = ap q (eqb-true i n z) ∙ and-left (q n) (each-below q n) e
     go false z k = k (let w : i ≡ n → ⊥ = eqb-false i n z in omega arith)
 
--- the seven flags of a byte below 128 are the byte
-seven : ℕ → ℕ
-seven f =
+-- the eight flags of a byte are the byte
+eight : ℕ → ℕ
+eight f =
     bit (flagged f 0) + bit (flagged f 1) * 2 + bit (flagged f 2) * 4 + bit (flagged f 3) * 8
     + bit (flagged f 4) * 16 + bit (flagged f 5) * 32 + bit (flagged f 6) * 64
+    + bit (flagged f 7) * 128
 
-pub flags-back : (c k n f : ℕ) → f < flags-limit → flags-of (class-by c k n f) ≡ f
-unfolding flags-of class-by seven flagged
-flags-back c k n f h = eqb-true (seven f) f (by-each (λ f. eqb (seven f) f) flags-limit refl f h)
+pub flags-back : (c k n f : ℕ) → f < 256 → flags-of (class-by c k n f) ≡ f
+unfolding flags-of class-by eight flagged
+flags-back c k n f h = eqb-true (eight f) f (by-each (λ f. eqb (eight f) f) 256 refl f h)
 
 -- a row's class and the default, packed
-pub packed-row : (c k n f : ℕ) → f < flags-limit → packed (class-by c k n f) ≡ k + n * 8 + f * 1024
+pub packed-row : (c k n f : ℕ) → f < 256 → packed (class-by c k n f) ≡ k + n * 8 + f * 1024
 unfolding packed
 packed-row c k n f h = rw (flags-back c k n f h) (unfold class-by in refl)
 
@@ -54,7 +55,6 @@ packed-plain c = omega arith
 
 -- What a number says of a class
 pub record Says (n : ℕ) (k : Class) : Type 0 where
-  pub small : n < 131072
   pub category : n % 8 ≡ k .category
   pub script : n / 8 % 128 ≡ k .script
   pub sign : flagged (n / 1024) 0 ≡ k .sign
@@ -64,6 +64,7 @@ pub record Says (n : ℕ) (k : Class) : Type 0 where
   pub vocalic : flagged (n / 1024) 4 ≡ k .vocalic
   pub tone : flagged (n / 1024) 5 ≡ k .tone
   pub pre : flagged (n / 1024) 6 ≡ k .pre
+  pub lowercase : flagged (n / 1024) 7 ≡ k .lowercase
 
 flag-back : (x k : ℕ) (t : Bool) → x / 2 ^ k % 2 ≡ bit t → flagged x k ≡ t
 unfolding flagged
@@ -80,8 +81,8 @@ packed-says k h j =
     let e = bit-byte (k .vocalic) .1 in
     let f = bit-byte (k .tone) .1 in
     let g = bit-byte (k .pre) .1 in
+    let l = bit-byte (k .lowercase) .1 in
     record {
-      small = omega arith;
       category = omega arith;
       script = omega arith;
       sign = flag-back (packed k / 1024) 0 (k .sign) (omega arith);
@@ -91,6 +92,7 @@ packed-says k h j =
       vocalic = flag-back (packed k / 1024) 4 (k .vocalic) (omega arith);
       tone = flag-back (packed k / 1024) 5 (k .tone) (omega arith);
       pre = flag-back (packed k / 1024) 6 (k .pre) (omega arith);
+      lowercase = flag-back (packed k / 1024) 7 (k .lowercase) (omega arith);
     }
 
 -- what every row and the default have, a character's class has

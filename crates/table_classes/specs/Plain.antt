@@ -8,12 +8,12 @@ use native.Mathlib.Omega.{arith}
 use lib.ListN.{length, drop, length-drop}
 use borrow.Author.Tests.{le-leb, lt-leb, lt-ltb, ne-eqb}
 use Rattle.definition.specs.Tables.{category-Zs}
-use Rattle.definition.specs.Limits.{most-script, flags-limit}
+use Rattle.definition.specs.Limits.{most-script}
 use Rattle.definition.specs.Texts.{latin}
 use Rattle.definition.specs.Utf8.{scalar}
 use Rattle.definition.specs.Checking.{from, next}
 use Rattle.definition.specs.Accepted.{class-moves}
-use Rattle.definition.specs.ClassRows.{class-size, class-next, class-char, class-category, class-script, class-flags, class-fits, space-right, latin-right, class-right}
+use Rattle.definition.specs.ClassRows.{class-size, class-next, class-char, class-category, class-script, class-fits, space-right, latin-right, class-right}
 use Rattle.table_blocks.specs.Held.{held}
 
 -- the first fault of a table from a row on
@@ -32,7 +32,7 @@ not-plain e = absurd (omega arith)
 
 -- a row is plain where the tests say so
 module _ (s : List ℕ) (low : ℕ) (l : 6 ≤ length s) (r : low ≤ class-char s) (h : 122 < class-char s) (g : class-char s < 0xD800)
-    (k : class-category s ≤ category-Zs) (n : class-script s ≤ most-script) (f : class-flags s < flags-limit) where
+    (k : class-category s ≤ category-Zs) (n : class-script s ≤ most-script) where
   fits : class-fits low s ≡ true
   unfolding class-fits scalar
   fits = simp (
@@ -41,7 +41,6 @@ module _ (s : List ℕ) (low : ℕ) (l : 6 ≤ length s) (r : low ≤ class-char
     le-leb low (class-char s) r,
     le-leb (class-category s) 7 k,
     le-leb (class-script s) most-script n,
-    lt-ltb (class-flags s) flags-limit f,
   )
 
   right-past : class-right low s ≡ true

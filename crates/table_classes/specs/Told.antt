@@ -4,7 +4,7 @@ use mathlib.Core.List.{List, [], _∷_, map}
 use mathlib.Core.Option.{none}
 use mathlib.Core.Path.{_≡_}
 use Rattle.base.specs.Bits.{bit}
-use Rattle.definition.specs.Limits.{most-script, flags-limit, ascii-characters}
+use Rattle.definition.specs.Limits.{most-script, ascii-characters}
 use Rattle.definition.specs.Tables.{Class, category-Zs}
 use Rattle.definition.specs.ClassRows.{class-by, class-fault, classes-of}
 use Rattle.definition.specs.Classes.{plain, class, alpha}
@@ -20,9 +20,9 @@ unfoldable pub class-means : ℕ → ClassOf → Class
 class-means c (Row r) = class-by c (r .category) (r .script) (r .flags)
 class-means c Absent = plain c
 
--- a row's numbers are within those of an accepted table
+-- a row's numbers are within those of an accepted table, and its flags are a byte
 unfoldable pub Ranged : ClassOf → Type 0
-Ranged (Row r) = (r .category ≤ category-Zs) × (r .script ≤ most-script) × (r .flags < flags-limit)
+Ranged (Row r) = (r .category ≤ category-Zs) × (r .script ≤ most-script) × (r .flags < 256)
 Ranged Absent = Unit {0}
 
 -- A class in one number: category in bits 0 to 2, script in 3 to 9, flags from 10 on
@@ -30,6 +30,7 @@ unfoldable pub flags-of : Class → ℕ
 flags-of k =
     bit (k .sign) + bit (k .medial) * 2 + bit (k .subjoined) * 4 + bit (k .virama) * 8
     + bit (k .vocalic) * 16 + bit (k .tone) * 32 + bit (k .pre) * 64
+    + bit (k .lowercase) * 128
 
 unfoldable pub packed : Class → ℕ
 packed k = k .category + k .script * 8 + flags-of k * 1024

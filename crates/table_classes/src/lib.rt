@@ -32,7 +32,8 @@ pub const PRIVATE: u32 = 6;
 
 pub const SEPARATOR: u32 = 7;
 
-// Bits of a class's flags: vowel sign, medial, subjoined, virama, vocalic, tone mark, written before its consonant.
+// Bits of a class's flags: vowel sign, medial, subjoined, virama, vocalic, tone mark, written before its consonant,
+// lower case.
 pub const SIGN: u32 = 0;
 
 pub const MEDIAL: u32 = 1;
@@ -46,6 +47,8 @@ pub const VOCALIC: u32 = 4;
 pub const TONE: u32 = 5;
 
 pub const PRE: u32 = 6;
+
+pub const LOWERCASE: u32 = 7;
 
 pub struct ClassRow {
     pub category: u32,
@@ -77,9 +80,6 @@ fn class_fits(classes: &[u8], row: usize, low: u32) -> bool
         return false;
     }
     if 127 < base::at(classes, row, 4) {
-        return false;
-    }
-    if 127 < base::at(classes, row, 5) {
         return false;
     }
     table_blocks::scalar(c)
@@ -134,9 +134,6 @@ fn plain_class(classes: &[u8], row: usize, low: u32) -> u32
         return 0;
     }
     if 127 < base::at(classes, row, 4) {
-        return 0;
-    }
-    if 127 < base::at(classes, row, 5) {
         return 0;
     }
     c + 1
@@ -210,7 +207,7 @@ pub fn check_classes(classes: &[u8]) -> TableRead
 fn class_row(classes: &[u8], row: usize) -> ClassRow
     ensures { λ r. ⌜ (r .category ≡ getD (drop row (now (classes .entry))) 3 0)
         × (r .script ≡ getD (drop row (now (classes .entry))) 4 0)
-        × (r .flags ≡ getD (drop row (now (classes .entry))) 5 0) ⌝ }
+        × (r .flags ≡ getD (drop row (now (classes .entry))) 5 0) × (r .flags < 256) ⌝ }
 {
     ClassRow {
         category: base::at(classes, row, 3),
@@ -254,7 +251,7 @@ fn plain_kind(c: u32) -> u32
 
 // The numbers of a row in one.
 fn pack(row: ClassRow) -> u32
-    requires { ⌜ (row .category ≤ 7) × (row .script ≤ 127) × (row .flags < 128) ⌝ }
+    requires { ⌜ (row .category ≤ 7) × (row .script ≤ 127) × (row .flags < 256) ⌝ }
     ensures { λ r. ⌜ r ≡ row .category + row .script * 8 + row .flags * 1024 ⌝ }
 {
     row.category + row.script * 8 + row.flags * 1024

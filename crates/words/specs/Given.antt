@@ -1,7 +1,7 @@
 -- What the engine is lent, in two slices: the line is the text's characters between spaces, one before and two behind,
--- and then the class of each of these in one number; what was made ready of the tables is of each ASCII character whether
--- it is a letter, and then the index of the rule table with what is kept of characters. What they stand for is a world: a class table, a text, and the
--- edges so far, which places show.
+-- and then the class of each of these in one number; what was made ready is of each ASCII character whether it is a
+-- letter, then the choices, and then the index of the rule table with what is kept of characters. What they stand for is
+-- a world: a class table, the choices, a text, and the edges so far, which places show.
 use mathlib.Core.Bool.{Bool, _&&_}
 use mathlib.Core.Path.{_≡_, refl, sym, ap, _∙_, subst}
 use mathlib.Core.List.{List, [], _∷_, _++_, append-assoc}
@@ -13,7 +13,7 @@ use lib.ListN.{length, getD, take, drop, replicate, length-append, length-drop, 
 use lib.Seq.{take-append-le, drop-append-le, getD-append-add}
 use Rattle.definition.specs.Limits.{ascii-characters, most-characters}
 use Rattle.definition.specs.Texts.{Text, the-space, at, prev}
-use Rattle.definition.specs.Tables.{Class}
+use Rattle.definition.specs.Tables.{Class, Choices}
 use Rattle.definition.specs.ClassRows.{classes-of}
 use Rattle.definition.specs.Classes.{class, alpha}
 use Rattle.definition.specs.Edges.{Edge, View, view}
@@ -38,20 +38,27 @@ size-in line = length line / 2 - 3
 abbrev pub kind-in : List ℕ → ℕ → ℕ
 kind-in line i = getD line (length line / 2 + i) 0
 
--- what was made ready: of each ASCII character whether it is a letter, and the index with what is kept
+-- what was made ready: of each ASCII character whether it is a letter, the choices, and the index with what is kept
 abbrev pub letters-in : List ℕ → List ℕ
 letters-in ready = take ascii-characters ready
 
+abbrev pub choices-in : List ℕ → Choices
+choices-in ready = record { capitals = getD ready ascii-characters 0 }
+
+abbrev pub index-from : ℕ
+index-from = ascii-characters + 1
+
 abbrev pub index-in : List ℕ → List ℕ
-index-in ready = drop ascii-characters ready
+index-in ready = drop index-from ready
 
 pub record Prepared (rules ready : List ℕ) : Type 0 where
   pub table : Kept rules (index-in ready)
-  pub long : ascii-characters ≤ length ready
+  pub long : index-from ≤ length ready
 
--- A world: class table, text and edges
+-- A world: class table, choices, text and edges
 pub record World : Type 0 where
   pub classes : List ℕ
+  pub choices : Choices
   pub text : Text
   pub edges : List Edge
 
@@ -69,9 +76,10 @@ pub record Lined (w : World) (line : List ℕ) : Type 0 where
   pub few : size w ≤ most-characters
   pub is : line ≡ spaced (w .text) ++ kinds-of (w .classes) (spaced (w .text))
 
--- the letters are those of its class table
-abbrev pub Told : World → List ℕ → Type 0
-Told w ready = letters-in ready ≡ alphas-of (w .classes)
+-- the letters are those of its class table, and the choices its own
+pub record Told (w : World) (ready : List ℕ) : Type 0 where
+  pub letters : letters-in ready ≡ alphas-of (w .classes)
+  pub choices : choices-in ready ≡ w .choices
 
 pub record Lent (w : World) (line places : List ℕ) : Type 0 where
   pub text : Lined w line

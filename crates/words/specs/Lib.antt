@@ -1,4 +1,5 @@
 pub mod Given
+pub mod Choosing
 pub mod Did
 pub mod Characters
 pub mod Found

@@ -11,9 +11,10 @@ ghost use Rattle.definition.specs.ClassRows.{classes-of};
 ghost use Rattle.definition.specs.Boundaries.{fresh, word-start, word-end};
 ghost use Rattle.table_classes.specs.Told.{alphas-of};
 ghost use Rattle.words.specs.Did.{Asked};
-ghost use Rattle.words.specs.Given.{World, kinds, seen, size-in, kind-in, index-in, letters-in, Prepared, Told, Lined, Lent, alpha-kind};
+ghost use Rattle.words.specs.Given.{World, kinds, seen, size-in, kind-in, index-in, letters-in, choices-in, Prepared, Told, Lined, Lent, alpha-kind};
 ghost use Rattle.words.specs.Found.{Row, Rows, rules-in};
 ghost use Rattle.words.specs.Looks.{Looked};
+ghost use Rattle.words.specs.Choosing.{choices-of};
 ghost use Rattle.words.specs.Goes.{brings, letter-byte};
 
 // A stretch of the text, by the positions of its ends.
@@ -31,6 +32,16 @@ pub struct Look {
     pub count: usize,
     pub more: bool,
 }
+
+// The choices of a call (`Choices` of the definition), each 0 or 1.
+pub struct Choices {
+    pub capitals: u32,
+}
+
+// Where what was made ready has the choice of capitals, behind the ASCII letters, and where the index begins.
+pub const CAPITALS: usize = 128;
+
+pub const INDEX: usize = CAPITALS + 1;
 
 // The number at a place; past the end there is 0.
 pub fn number_at(numbers: &[u32], i: usize) -> u32
@@ -120,12 +131,21 @@ fn has_letter(ready: &[u32], text: &[u8]) -> bool
     false
 }
 
-// The index of the rule table with what is kept of characters, behind the ASCII letters.
+// The choices, behind the ASCII letters.
+pub fn choices_in(ready: &[u32]) -> Choices
+    ensures { λ r. ⌜ choices-of r ≡ choices-in (now (ready .entry)) ⌝ }
+{
+    Choices {
+        capitals: number_at(ready, CAPITALS),
+    }
+}
+
+// The index of the rule table with what is kept of characters, behind the choices.
 pub fn index_in<'a>(ready: &'a [u32]) -> &'a [u32]
-    requires { ⌜ 128 ≤ length (now ready) ⌝ }
+    requires { ⌜ 129 ≤ length (now ready) ⌝ }
     ensures { λ r. ⌜ now r ≡ index-in (now (ready .entry)) ⌝ }
 {
-    &ready[128..]
+    &ready[INDEX..]
 }
 
 // Does the rule in a row bring a letter, unless it asks a start of word?

@@ -29,8 +29,8 @@ use Rattle.first_pass.proofs.add_from.Tie as tie
 abbrev Inv-loop : tie.InvT-loop
 Inv-loop rules ready vowels code line slots₀ room₀ places₀ s n since edges₀ bytes₀ e₀ left₀ slots room places edges bytes e left =
     ((w : World) → Over w ready line slots₀ room₀ places₀ (record { count = edges₀; used = bytes₀; since = since })
-    → Going (rises (tables-of rules (w .classes) vowels code) (w .text) s e left) (kinds w) (size w) slots₀ room₀
-    (build (tables-of rules (w .classes) vowels code) (w .text) s (state-of w places₀)) slots room places edges bytes)
+    → Going (rises (tables-of (w .choices) rules (w .classes) vowels code) (w .text) s e left) (kinds w) (size w) slots₀ room₀
+    (build (tables-of (w .choices) rules (w .classes) vowels code) (w .text) s (state-of w places₀)) slots room places edges bytes)
     × Fresh s slots room (record { count = edges; used = bytes; since = since })
     × (bytes + left * most-bytes ≤ bytes₀ + most-source * most-bytes) × (e + left ≡ s + 1 + most-source) × (left ≤ most-source) × (n ≡ size-in line)
     × (length slots ≡ length slots₀) × (length room ≡ length room₀) × (length places ≡ length places₀)
@@ -56,7 +56,7 @@ Lent-in k w =
     Over w (now (a .ready)) (now (a .line)) (now (a .slots)) (now (a .room)) (now (a .places)) (a .filled)
 
 abbrev D : tie.At-loop Inv-loop μ-loop → World → Tables
-D k w = let a = start k .args in tables-of (now (a .rules)) (w .classes) (now (a .vowels)) (now (a .code))
+D k w = let a = start k .args in tables-of (w .choices) (now (a .rules)) (w .classes) (now (a .vowels)) (now (a .code))
 
 -- the state that a turn begins with
 abbrev st : tie.At-loop Inv-loop μ-loop → World → State
@@ -153,7 +153,7 @@ loop-holds c =
     let a = k .args in
     let p = k .pre in (
       λ w o.
-          going-first o (rises (tables-of (now (a .rules)) (w .classes) (now (a .vowels)) (now (a .code))) (w .text) (a .s) (a .s + 1) most-source),
+          going-first o (rises (tables-of (w .choices) (now (a .rules)) (w .classes) (now (a .vowels)) (now (a .code))) (w .text) (a .s) (a .s + 1) most-source),
       p .4,
       omega arith,
       omega arith,

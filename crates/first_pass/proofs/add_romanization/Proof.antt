@@ -32,8 +32,8 @@ use Rattle.first_pass.proofs.add_romanization.Tie as tie
 abbrev Inv-loop : tie.InvT-loop
 Inv-loop rules ready vowels code line slots₀ room₀ places₀ starts₀ n edges₀ bytes₀ s₀ slots room places starts edges bytes s =
     ((w : World) → Over w ready line slots₀ room₀ places₀ nothing
-    → Going (each (build (tables-of rules (w .classes) vowels code) (w .text)) (n - s) s) (kinds w) (size w) slots₀ room₀
-    (each (build (tables-of rules (w .classes) vowels code) (w .text)) (size w) 0 (state-of w places₀)) slots room places edges bytes)
+    → Going (each (build (tables-of (w .choices) rules (w .classes) vowels code) (w .text)) (n - s) s) (kinds w) (size w) slots₀ room₀
+    (each (build (tables-of (w .choices) rules (w .classes) vowels code) (w .text)) (size w) 0 (state-of w places₀)) slots room places edges bytes)
     × Begun (edges-of room edges slots) s (set starts s edges) × (length starts ≡ n + 1)
     × All (λ x. Ahead n (x .from) (x .to)) (edges-of room edges slots)
     × (edges ≤ s * most-source) × (bytes ≤ s * (most-source * most-bytes)) × (s ≤ n) × (n ≡ size-in line)
@@ -60,7 +60,7 @@ Lent-in k w =
     Over w (now (a .ready)) (now (a .line)) (now (a .slots)) (now (a .room)) (now (a .places)) nothing
 
 abbrev D : tie.At-loop Inv-loop μ-loop → World → Tables
-D k w = let a = start k .args in tables-of (now (a .rules)) (w .classes) (now (a .vowels)) (now (a .code))
+D k w = let a = start k .args in tables-of (w .choices) (now (a .rules)) (w .classes) (now (a .vowels)) (now (a .code))
 
 -- the state that a turn begins with
 abbrev st : tie.At-loop Inv-loop μ-loop → World → State
@@ -139,7 +139,7 @@ module _ (g : tie.After-add-from Inv-loop μ-loop) (w : World) (o : Lent-in (tur
         let a = start k .args in
         let p = start k .pre in
         let is = l .inv .7 ∙ line-size (o .lent .text) in
-        let ok = tables-bounded (now (a .rules)) (w .classes) (now (a .vowels)) (now (a .code)) (p .0 .table .accepted) (o .lent .text .fine) (p .1) in
+        let ok = tables-bounded (w .choices) (now (a .rules)) (w .classes) (now (a .vowels)) (now (a .code)) (p .0 .table .accepted) (o .lent .text .fine) (p .1) in
         subst (λ (es : List Edge). All (λ x. Ahead (k .before .text-len .result) (x .from) (x .to)) es) (sym edges-are)
         (subst (λ (m : ℕ). All (λ x. Ahead m (x .from) (x .to)) (part (l .s) (st k w) .0)) (sym is)
         (build-ahead (D k w) ok (w .text) (l .s) (st k w) (omega (arith, is, marked g .before .before))
@@ -170,7 +170,7 @@ loop-holds c =
     let a = k .args in
     let p = k .pre in (
       λ w o.
-          passing-first o (build (tables-of (now (a .rules)) (w .classes) (now (a .vowels)) (now (a .code))) (w .text)) (c .text-len .result - 0)
+          passing-first o (build (tables-of (w .choices) (now (a .rules)) (w .classes) (now (a .vowels)) (now (a .code))) (w .text)) (c .text-len .result - 0)
           (omega (arith, c .text-len .ensures, line-size (o .lent .text))),
       subst (λ (l : List ℕ). Begun [] 0 (set l 0 0)) (sym (p .2)) (begun-zeros (size-in (now (a .line)) + 1) (omega arith)),
       ap length (p .2) ∙ length-replicate (size-in (now (a .line)) + 1) 0 ∙ (omega (arith, c .text-len .ensures)),

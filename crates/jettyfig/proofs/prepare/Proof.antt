@@ -2,7 +2,7 @@
 use mathlib.Core.Path.{refl}
 use denote.Ref.{now}
 use Rattle.definition.specs.Accepted.{accepted-of}
-use Rattle.jettyfig.specs.Verdicts.{given}
+use Rattle.jettyfig.specs.Verdicts.{chosen, given}
 use Rattle.jettyfig.proofs.Prepared.{world, world-lined, prepared, own}
 use borrow.Author.Needs.{needs}
 use Rattle.jettyfig.proofs.prepare.Statement.{statement}
@@ -15,7 +15,7 @@ make-ready-requires : tie.Need-make-ready-requires
 make-ready-requires c κs =
     let s = c .before .before .before .before .before .before .before .before .before .before in
     let a = s .args in
-    let i = given (a .mode) (now (a .rules)) (now (a .classes)) (now (a .vowels)) (now (a .code)) (now (a .text)) 0 0 0 in
+    let i = given (a .asked .mode) (chosen (a .asked)) (now (a .rules)) (now (a .classes)) (now (a .vowels)) (now (a .code)) (now (a .text)) 0 0 0 in
     let q = accepted-of i (s .pre .0) in (q .rules, q .classes, refl)
 
 slice-aggregate-romanize : tie.Need-slice-aggregate-romanize
@@ -27,12 +27,12 @@ romanize-requires c κs =
     let s = m .before .before .before .before .before .before .before .before .before .before .before in
     let a = s .args in
     let p = s .pre in
-    let i = given (a .mode) (now (a .rules)) (now (a .classes)) (now (a .vowels)) (now (a .code)) (now (a .text)) 0 0 0 in
+    let i = given (a .asked .mode) (chosen (a .asked)) (now (a .rules)) (now (a .classes)) (now (a .vowels)) (now (a .code)) (now (a .text)) 0 0 0 in
     let q = accepted-of i (p .0) in (
-      prepared i (p .0) _ (m .make-ready .ensures .1),
+      prepared i (p .0) _ (m .make-ready .ensures .2),
       q .vowels,
       own i (p .0) (now (a .line)) (p .1),
-      record { world = world i (p .0); told = m .make-ready .ensures .0; lined = world-lined i (p .0) (now (a .line)) (p .1) },
+      record { world = world i (p .0); told = record { letters = m .make-ready .ensures .0; choices = m .make-ready .ensures .1 }; lined = world-lined i (p .0) (now (a .line)) (p .1) },
       q .mode,
       p .2,
     )
@@ -53,8 +53,8 @@ returns c =
     let s = m .before .before .before .before .before .before .before .before .before .before .before in
     let a = s .args in
     let p = s .pre in
-    let i = given (a .mode) (now (a .rules)) (now (a .classes)) (now (a .vowels)) (now (a .code)) (now (a .text)) 0 0 0 in
-    r .romanize .ensures (world i (p .0)) (m .make-ready .ensures .0) (world-lined i (p .0) (now (a .line)) (p .1))
+    let i = given (a .asked .mode) (chosen (a .asked)) (now (a .rules)) (now (a .classes)) (now (a .vowels)) (now (a .code)) (now (a .text)) 0 0 0 in
+    r .romanize .ensures (world i (p .0)) (record { letters = m .make-ready .ensures .0; choices = m .make-ready .ensures .1 }) (world-lined i (p .0) (now (a .line)) (p .1))
 
 pub prepare-spec : {M : Type 1} → statement M
 prepare-spec =

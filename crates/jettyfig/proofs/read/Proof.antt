@@ -9,7 +9,7 @@ use Rattle.definition.specs.Limits.{most-characters}
 use Rattle.definition.specs.Refusals.{refuse, refused-utf8, refused-too-long, refused-left-out}
 use Rattle.definition.specs.Call.{tables, characters}
 use Rattle.utf8.specs.Read.{text-means}
-use Rattle.jettyfig.specs.Verdicts.{given, returned, passed, nothing-refused}
+use Rattle.jettyfig.specs.Verdicts.{chosen, given, returned, passed, nothing-refused}
 use Rattle.jettyfig.specs.Calls.{as-refused, read-refused, read-right}
 use borrow.Author.Needs.{needs}
 use Rattle.jettyfig.proofs.read.Statement.{statement}
@@ -22,7 +22,7 @@ lay-out-requires : tie.Need-lay-out-requires
 lay-out-requires c κs =
     let s = c .before .before .before .before .before .before .before .before .before in
     let a = s .args in
-    (passed (a .mode) (now (a .rules)) (now (a .classes)) (now (a .vowels)) (now (a .code)) (s .pre .0) .classes, refl)
+    (passed (a .asked .mode) (chosen (a .asked)) (now (a .rules)) (now (a .classes)) (now (a .vowels)) (now (a .code)) (s .pre .0) .classes, refl)
 
 enum-known-n : tie.Need-enum-known-n
 enum-known-n c = search needs
@@ -49,7 +49,7 @@ prepare-requires c κs =
     let l = c .before .before .before .before .before .before .before .before in
     let s = l .before .before .before .before .before .before .before .before .before .before in
     let a = s .args in
-    let i = given (a .mode) (now (a .rules)) (now (a .classes)) (now (a .vowels)) (now (a .code)) (now (a .text)) 0 0 0 in
+    let i = given (a .asked .mode) (chosen (a .asked)) (now (a .rules)) (now (a .classes)) (now (a .vowels)) (now (a .code)) (now (a .text)) 0 0 0 in
     let r = l .lay-out .ensures in
     let g = c .before .before .before .before .before .n .given in
     (nothing-refused i (s .pre .0) (sym (r .0) ∙ ap text-means (g .1)), r .1 (g .0 .0) (g .1) .2, s .pre .1)
@@ -88,7 +88,7 @@ returns c =
     let n = p .before .before .before .before .before .before in
     let l = n .before .before .before in
     let a = l .before .before .before .before .before .before .before .before .before .before .args in
-    let i = given (a .mode) (now (a .rules)) (now (a .classes)) (now (a .vowels)) (now (a .code)) (now (a .text)) (length (now (a .slots))) (length (now (a .room))) (length (now (a .out))) in
+    let i = given (a .asked .mode) (chosen (a .asked)) (now (a .rules)) (now (a .classes)) (now (a .vowels)) (now (a .code)) (now (a .text)) (length (now (a .slots))) (length (now (a .room))) (length (now (a .out))) in
     p .prepare .ensures ∙ read-right i (sym (l .lay-out .ensures .0) ∙ ap text-means (n .n .given .1))
 
 returns-2 : tie.Need-returns-2
@@ -97,7 +97,7 @@ returns-2 c =
     let l = c .before .before .before .before .before in
     let s = l .before .before .before .before .before .before .before .before .before .before in
     let a = s .args in
-    let i = given (a .mode) (now (a .rules)) (now (a .classes)) (now (a .vowels)) (now (a .code)) (now (a .text)) (length (now (a .slots))) (length (now (a .room))) (length (now (a .out))) in
+    let i = given (a .asked .mode) (chosen (a .asked)) (now (a .rules)) (now (a .classes)) (now (a .vowels)) (now (a .code)) (now (a .text)) (length (now (a .slots))) (length (now (a .room))) (length (now (a .out))) in
     let g = c .before .before .at .given in
     ap (λ x. returned x (now (a .out))) (c .refuse .ensures)
     ∙ as-refused i (now (a .out)) (s .pre .1) refused-utf8 (g .0 .0) ∙ read-refused i (refuse refused-utf8 (g .0 .0)) (sym (l .lay-out .ensures .0) ∙ ap text-means (g .1))
@@ -108,7 +108,7 @@ returns-3 c =
     let l = c .before .before .before .before in
     let s = l .before .before .before .before .before .before .before .before .before .before in
     let a = s .args in
-    let i = given (a .mode) (now (a .rules)) (now (a .classes)) (now (a .vowels)) (now (a .code)) (now (a .text)) (length (now (a .slots))) (length (now (a .room))) (length (now (a .out))) in
+    let i = given (a .asked .mode) (chosen (a .asked)) (now (a .rules)) (now (a .classes)) (now (a .vowels)) (now (a .code)) (now (a .text)) (length (now (a .slots))) (length (now (a .room))) (length (now (a .out))) in
     let g = c .before .enum-told .given in
     ap (λ x. returned x (now (a .out))) (c .refuse2 .ensures)
     ∙ as-refused i (now (a .out)) (s .pre .1) refused-too-long most-characters ∙ read-refused i (refuse refused-too-long most-characters) (sym (l .lay-out .ensures .0) ∙ ap text-means (g .1))
@@ -119,7 +119,7 @@ returns-4 c =
     let l = c .before .before .before .before .before in
     let s = l .before .before .before .before .before .before .before .before .before .before in
     let a = s .args in
-    let i = given (a .mode) (now (a .rules)) (now (a .classes)) (now (a .vowels)) (now (a .code)) (now (a .text)) (length (now (a .slots))) (length (now (a .room))) (length (now (a .out))) in
+    let i = given (a .asked .mode) (chosen (a .asked)) (now (a .rules)) (now (a .classes)) (now (a .vowels)) (now (a .code)) (now (a .text)) (length (now (a .slots))) (length (now (a .room))) (length (now (a .out))) in
     let g = c .before .before .p .given in
     ap (λ x. returned x (now (a .out))) (c .refuse3 .ensures)
     ∙ as-refused i (now (a .out)) (s .pre .1) refused-left-out (g .0 .0) ∙ read-refused i (refuse refused-left-out (g .0 .0)) (sym (l .lay-out .ensures .0) ∙ ap text-means (g .1))

@@ -6,7 +6,7 @@ use denote.Ref.{now}
 use Rattle.definition.specs.Refusals.{refuse}
 use Rattle.definition.specs.Call.{Inputs, unless-refused}
 use Rattle.definition.specs.Call.{text-refusal}
-use Rattle.jettyfig.specs.Verdicts.{verdict-means, given, returned}
+use Rattle.jettyfig.specs.Verdicts.{verdict-means, chosen, given, returned}
 use Rattle.jettyfig.specs.Calls.{as-refused, check-refused, check-right}
 use borrow.Author.Needs.{needs}
 use Rattle.jettyfig.proofs.respond.Statement.{statement}
@@ -47,7 +47,7 @@ returns : tie.Need-returns
 returns c =
     let z = c .before .before .before .before .before .before .before in
     let a = start z .args in
-    let i = given (a .mode) (now (a .rules)) (now (a .classes)) (now (a .vowels)) (now (a .code)) (now (a .text))
+    let i = given (a .asked .mode) (chosen (a .asked)) (now (a .rules)) (now (a .classes)) (now (a .vowels)) (now (a .code)) (now (a .text))
     (length (now (a .slots))) (length (now (a .room))) (length (now (a .out))) in
     let k = z .clear .ensures in
     let r = c .before .before .before .before .check .ensures in
@@ -70,7 +70,7 @@ returns-2 c =
     let v = c .before .before .before .before .before .before .before .before .before .before in
     let z = v .before .before .before .before .before in
     let a = start z .args in
-    let of : ℕ → Inputs = λ m. given (a .mode) (now (a .rules)) (now (a .classes)) (now (a .vowels)) (now (a .code)) (now (a .text)) (length (now (a .slots))) (length (now (a .room))) m in
+    let of : ℕ → Inputs = λ m. given (a .asked .mode) (chosen (a .asked)) (now (a .rules)) (now (a .classes)) (now (a .vowels)) (now (a .code)) (now (a .text)) (length (now (a .slots))) (length (now (a .room))) m in
     let k = z .clear .ensures in
     let r = v .before .before .check .ensures in
     c .before .before .before .before .before .before .read .ensures

@@ -17,7 +17,7 @@ use Rattle.edge_places.specs.Shows.{memory}
 use Rattle.edge.specs.declared.Added.{Added}
 use Rattle.definition.specs.Tables.{Tables}
 use mathlib.Core.Option.{some}
-use Rattle.passes.specs.Reached.{Over, nothing, with-edges, Reached}
+use Rattle.passes.specs.Reached.{Over, nothing, with-edges, told-with, Reached}
 use Rattle.second_pass.specs.Starts.{Standing}
 use Rattle.output.specs.declared.Built.{Built}
 use Rattle.output.specs.Whole.{Whole}
@@ -68,11 +68,11 @@ module _ (b : tie.After-build-lattice) (u : World) (told : Told u (now (start (s
   answered : (r : Added) → b .build-lattice .result ≡ r
       → Reached (kinds u) (size-of u) (now (start (sized b) .args .slots)) (now (start (sized b) .args .room)) (b .build-lattice .last .1 .1 .1 .1 .1 .1 .0)
       (b .build-lattice .last .1 .1 .1 .1 .1 .1 .1 .0) (b .build-lattice .last .1 .1 .1 .1 .1 .1 .1 .1 .0) (most-edges * most-characters * most-bytes)
-      (lattice (tables-of (now (start (sized b) .args .rules)) (u .classes) (now (start (sized b) .args .vowels)) (now (start (sized b) .args .code))) (u .text)) r
+      (lattice (tables-of (u .choices) (now (start (sized b) .args .rules)) (u .classes) (now (start (sized b) .args .vowels)) (now (start (sized b) .args .code))) (u .text)) r
   answered r e =
       let a = start (sized b) .args in
       let x = b .build-lattice in
-      let D = tables-of (now (a .rules)) (u .classes) (now (a .vowels)) (now (a .code)) in
+      let D = tables-of (u .choices) (now (a .rules)) (u .classes) (now (a .vowels)) (now (a .code)) in
       subst (Reached (kinds u) (size-of u) (now (a .slots)) (now (a .room)) (x .last .1 .1 .1 .1 .1 .1 .0) (x .last .1 .1 .1 .1 .1 .1 .1 .0)
       (x .last .1 .1 .1 .1 .1 .1 .1 .1 .0) (most-edges * most-characters * most-bytes) (lattice D (u .text))) e (x .ensures .0 (with-edges u []) empty)
 
@@ -80,11 +80,11 @@ module _ (b : tie.After-build-lattice) (u : World) (told : Told u (now (start (s
   abbrev asked : Inputs
   asked =
       let a = start (sized b) .args in
-      given (a .mode) (now (a .rules)) (u .classes) (now (a .vowels)) (now (a .code)) (now (a .text))
+      given (a .mode) (u .choices) (now (a .rules)) (u .classes) (now (a .vowels)) (now (a .code)) (now (a .text))
       (length (now (a .slots))) (length (now (a .room))) (length (now (a .out)))
 
   abbrev D : Tables
-  D = let a = start (sized b) .args in tables-of (now (a .rules)) (u .classes) (now (a .vowels)) (now (a .code))
+  D = let a = start (sized b) .args in tables-of (u .choices) (now (a .rules)) (u .classes) (now (a .vowels)) (now (a .code))
 
   -- an edge that did not fit is what the call refuses
   stops : (n p : ℕ) → misfit (asked .slots / slot-bytes) (asked .room) (lattice D (u .text) .0) ≡ some (refuse n p)
@@ -254,10 +254,10 @@ returns c =
     λ u told lined.
     let w = with-edges u [] in
     let o = empty b u told lined in
-    let D = tables-of (now (a .rules)) (w .classes) (now (a .vowels)) (now (a .code)) in
+    let D = tables-of (w .choices) (now (a .rules)) (w .classes) (now (a .vowels)) (now (a .code)) in
     let r = answered b u told lined _ (d .1) in
     let i = asked b u told lined in
-    let e = y′ .ensures i refl (now (a .vowels)) (with-edges w (lattice D (w .text) .0)) told
+    let e = y′ .ensures i refl (now (a .vowels)) (with-edges w (lattice D (w .text) .0)) (told-with told (lattice D (w .text) .0))
     (subst (Lent (with-edges w (lattice D (w .text) .0)) (now (a .line))) (sym P-back)
     (built-lent (now (a .rules)) (now (a .vowels)) (now (a .code)) o (p .0) (p .1) r)) (r .came .0 .edges) in
     built-written (now (a .rules)) (now (a .vowels)) (now (a .code)) o (p .0) (p .1) r (a .mode) (length (now (a .out))) (now (a .text)) _

@@ -37,7 +37,7 @@ Lent-in b w =
     Over w (now (a .ready)) (now (a .line)) (now (a .slots)) (now (a .room)) (now (a .places)) nothing
 
 abbrev D : tie.After-add-romanization → World → Tables
-D b w = let a = start b .args in tables-of (now (a .rules)) (w .classes) (now (a .vowels)) (now (a .code))
+D b w = let a = start b .args in tables-of (w .choices) (now (a .rules)) (w .classes) (now (a .vowels)) (now (a .code))
 
 -- what the definition's first pass leads to
 abbrev built : tie.After-add-romanization → World → State

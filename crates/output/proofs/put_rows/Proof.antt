@@ -43,7 +43,7 @@ returns c =
     let a = q .args in
     let h = q .pre in
     λ vowels w told lent e.
-    let D = tables-of (now (a .rules)) (w .classes) vowels (now (a .code)) in
+    let D = tables-of (w .choices) (now (a .rules)) (w .classes) vowels (now (a .code)) in
     let n = end-of (now (a .starts)) in
     let m = memory (size w) (now (a .places)) in
     let long : size w ≡ n = omega (arith, line-size (lent .text), h .sized) in
@@ -79,7 +79,7 @@ returns-2 c =
     let a = q .args in
     let h = q .pre in
     λ vowels w told lent e.
-    let D = tables-of (now (a .rules)) (w .classes) vowels (now (a .code)) in
+    let D = tables-of (w .choices) (now (a .rules)) (w .classes) vowels (now (a .code)) in
     let n = end-of (now (a .starts)) in
     let m = memory (size w) (now (a .places)) in
     let long : size w ≡ n = omega (arith, line-size (lent .text), h .sized) in
@@ -106,7 +106,7 @@ returns-3 c =
     let a = q .args in
     let h = q .pre in
     λ vowels w told lent e.
-    let D = tables-of (now (a .rules)) (w .classes) vowels (now (a .code)) in
+    let D = tables-of (w .choices) (now (a .rules)) (w .classes) vowels (now (a .code)) in
     let n = end-of (now (a .starts)) in
     let m = memory (size w) (now (a .places)) in
     let long : size w ≡ n = omega (arith, line-size (lent .text), h .sized) in

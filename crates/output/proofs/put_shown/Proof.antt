@@ -40,7 +40,7 @@ returns c =
     let h = q .pre in
     let p = c .before .before .put-path in
     λ vowels w told lent e.
-    let D = tables-of (now (a .rules)) (w .classes) vowels (now (a .code)) in
+    let D = tables-of (w .choices) (now (a .rules)) (w .classes) vowels (now (a .code)) in
     let n = end-of (now (a .starts)) in
     let m = memory (size w) (now (a .places)) in
     let long : size w ≡ n = omega (arith, line-size (lent .text), h .sized) in
@@ -59,7 +59,7 @@ put-head-requires c κs =
     let a = q .args in
     let h = q .pre in
     let w = h .world in
-    let D = tables-of (now (a .rules)) (w .classes) [] (now (a .code)) in
+    let D = tables-of (w .choices) (now (a .rules)) (w .classes) [] (now (a .code)) in
     let st : State = (w .edges, memory (size w) (now (a .places))) in
     omega (arith, rows-end (listed D (w .text) (a .built .mode) st) (now (a .out)) (r .put-rows .ensures [] w (h .told) (h .lent) (h .edges)))
 
@@ -81,7 +81,7 @@ returns-2 c =
     let y = c .before .before .put-head in
     let mode = r .before .before .before .before .if1 .left in
     λ vowels w told lent e.
-    let D = tables-of (now (a .rules)) (w .classes) vowels (now (a .code)) in
+    let D = tables-of (w .choices) (now (a .rules)) (w .classes) vowels (now (a .code)) in
     let st : State = (w .edges, memory (size w) (now (a .places))) in
     subst (λ b. Shows b (now (a .out)) (y .last .0) (p .result)) (sym (shown-listed D (w .text) (a .built .mode) st (omega (arith, mode))))
     (shows-listing (listed D (w .text) (a .built .mode) st) (now (a .out)) (p .ensures vowels w told lent e) (y .ensures))

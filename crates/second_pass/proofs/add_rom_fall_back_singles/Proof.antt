@@ -29,8 +29,8 @@ use Rattle.second_pass.proofs.add_rom_fall_back_singles.Tie as tie
 abbrev Inv-loop : tie.InvT-loop
 Inv-loop rules ready code text line slots₀ room₀ places₀ starts₀ n first edges₀ bytes₀ p₀ at₀ slots room places starts edges bytes p at =
     ((vowels : List ℕ) (w : World) → Over w ready line slots₀ room₀ places₀ (record { count = first; used = bytes₀; since = 0 })
-    → Going (each (fall (tables-of rules (w .classes) vowels code) (w .text)) (n - p) p) (kinds w) (size w) slots₀ room₀
-    (each (fall (tables-of rules (w .classes) vowels code) (w .text)) (size w) 0 (state-of w places₀)) slots room places edges bytes)
+    → Going (each (fall (tables-of (w .choices) rules (w .classes) vowels code) (w .text)) (n - p) p) (kinds w) (size w) slots₀ room₀
+    (each (fall (tables-of (w .choices) rules (w .classes) vowels code) (w .text)) (size w) 0 (state-of w places₀)) slots room places edges bytes)
     × Behind (edges-of room₀ first slots₀) n slots room edges p starts
     × (bytes ≤ bytes₀ + p * most-bytes) × (n ≡ size-in line) × (p ≤ n) × (drop at text ≡ encoded (drop p (chars-in line))) × (at ≤ p * 4)
     × (length slots ≡ length slots₀) × (length room ≡ length room₀) × (length places ≡ length places₀) × (length starts ≡ length starts₀)
@@ -54,10 +54,10 @@ Lent-in k w =
 
 -- the definition's turn
 abbrev part : tie.At-loop Inv-loop μ-loop → List ℕ → World → ℕ → State → State
-part k vowels w = let a = start k .args in fall (tables-of (now (a .rules)) (w .classes) vowels (now (a .code))) (w .text)
+part k vowels w = let a = start k .args in fall (tables-of (w .choices) (now (a .rules)) (w .classes) vowels (now (a .code))) (w .text)
 
 grows : (k : tie.At-loop Inv-loop μ-loop) (vowels : List ℕ) (w : World) (p : ℕ) (st : State) → Grown 1 (st .0) (part k vowels w p st .0)
-grows k vowels w = let a = start k .args in fall-grown (tables-of (now (a .rules)) (w .classes) vowels (now (a .code))) (w .text)
+grows k vowels w = let a = start k .args in fall-grown (tables-of (w .choices) (now (a .rules)) (w .classes) vowels (now (a .code))) (w .text)
 
 -- the state that a turn begins with
 abbrev st : tie.At-loop Inv-loop μ-loop → World → State
@@ -119,7 +119,7 @@ module _ (x : tie.After-fall-back-at Inv-loop μ-loop) (vowels : List ℕ) (w : 
     adds =
         let l = k .loop in
         let a = start k .args in
-        fall-added (tables-of (now (a .rules)) (w .classes) vowels (now (a .code))) (w .text) (size w) (l .p) (l .slots) (l .room) (l .places)
+        fall-added (tables-of (w .choices) (now (a .rules)) (w .classes) vowels (now (a .code))) (w .text) (size w) (l .p) (l .slots) (l .room) (l .places)
         (x .fall-back-at .last .1 .1 .1 .1 .1 .0) (x .fall-back-at .last .1 .1 .1 .1 .1 .1 .0) (l .edges) count
         (passing-edges (part k vowels w) 1 (grows k vowels w) (l .p) all-left (l .inv .0 vowels w o) left one-more (x .fall-back-at .result) asked count used q)
 
@@ -133,7 +133,7 @@ loop-holds c =
     let g = k .pre in
     let b = g .4 in (
       λ vowels w o.
-          passing-first o (fall (tables-of (now (a .rules)) (w .classes) vowels (now (a .code))) (w .text)) (c .text-len .result - 0)
+          passing-first o (fall (tables-of (w .choices) (now (a .rules)) (w .classes) vowels (now (a .code))) (w .text)) (c .text-len .result - 0)
           (omega (arith, c .text-len .ensures, line-size (o .lent .text))),
       subst (λ (m : ℕ). Behind (edges-of (now (a .room)) (a .filled .count) (now (a .slots))) m (now (a .slots)) (now (a .room)) (a .filled .count) 0 (now (a .starts)))
           (sym (c .text-len .ensures))

@@ -27,7 +27,7 @@ returns c =
     let p = k .pre in
     let q = c .before .is-covered in
     λ vowels w o.
-    let D = tables-of (now (a .rules)) (w .classes) vowels (now (a .code)) in
+    let D = tables-of (w .choices) (now (a .rules)) (w .classes) vowels (now (a .code)) in
     let h = told-over o (a .here .p) (at-inside (p .1) (o .lent .text)) (q .result) (q .ensures) ∙ c .if1 .taken in
     reached-as _ (sym (fall-covered D (w .text) (a .here .p) (state-of w (now (a .places))) h)) _
     (reached-here (a .filled .used + most-bytes) (over-keeps o) (omega arith))
@@ -62,7 +62,7 @@ returns-2 c =
     let q = i .before .is-covered in
     let A = g .add-fallback in
     λ vowels w o.
-    let D = tables-of (now (a .rules)) (w .classes) vowels (now (a .code)) in
+    let D = tables-of (w .choices) (now (a .rules)) (w .classes) vowels (now (a .code)) in
     let h = told-over o (a .here .p) (at-inside (p .1) (o .lent .text)) (q .result) (q .ensures) ∙ i .if1 .left in
     reached-as _ (sym (fall-bare D (w .text) (a .here .p) (state-of w (now (a .places))) h)) (A .result) (A .ensures vowels w o)
 

@@ -62,7 +62,7 @@ returns c =
       λ z known lent.
           let A = F .ensures .0 z known lent in
           let X = x .ensures .0 z known (lent-after _ lent (A .kept)) in
-          let D = tables-of R (z .classes) (now (a .vowels)) (now (a .code)) in
+          let D = tables-of (z .choices) R (z .classes) (now (a .vowels)) (now (a .code)) in
           record {
             did = did-by (found-there (x .result) (x .ensures .1))
                 (span-told D (z .text) (seen z) (a .look .from) (a .look .to) (memory (size z) (now (a .places))) (chosen-means R (F .result)) (A .did) told
@@ -88,7 +88,7 @@ returns-2 c =
     let F = T .top-romanization-candidate-for-span in (
       λ z known lent.
           let A = F .ensures .0 z known lent in
-          let D = tables-of R (z .classes) (now (a .vowels)) (now (a .code)) in
+          let D = tables-of (z .choices) R (z .classes) (now (a .vowels)) (now (a .code)) in
           record {
             did = span-untold D (z .text) (seen z) (a .look .from) (a .look .to) (memory (size z) (now (a .places))) (chosen-means R (F .result)) (A .did) untold;
             kept = A .kept;

@@ -4,7 +4,7 @@ use native.Mathlib.Omega.{arith}
 use lib.ListN.{drop, length-drop}
 use borrow.Author.Needs.{needs}
 use denote.Ref.{now}
-use Rattle.table_classes.proofs.Rightness.{fits-short, fits-low, fits-category, fits-script, fits-flags, fits-else}
+use Rattle.table_classes.proofs.Rightness.{fits-short, fits-low, fits-category, fits-script, fits-else}
 use Rattle.table_classes.proofs.class_fits.Statement.{statement}
 use Rattle.table_classes.proofs.class_fits.Tie as tie
 
@@ -47,23 +47,15 @@ returns-5 c =
     let a = c .before .before .before .before .before .before .before .before .before .args in
     fits-script (drop (a .row) (now (a .classes))) (a .low) (omega arith)
 
-at-requires-3 : tie.Need-at-requires-3
-at-requires-3 c κs = search needs
-
-returns-6 : tie.Need-returns-6
-returns-6 c =
-    let a = c .before .before .before .before .before .before .before .before .before .before .before .args in
-    fits-flags (drop (a .row) (now (a .classes))) (a .low) (omega arith)
-
 scalar-requires : tie.Need-scalar-requires
 scalar-requires c κs = search needs
 
-returns-7 : tie.Need-returns-7
-returns-7 c =
-    let a = c .before .before .before .before .before .before .before .before .before .before .before .before .args in
+returns-6 : tie.Need-returns-6
+returns-6 c =
+    let a = c .before .before .before .before .before .before .before .before .before .before .args in
     c .scalar .ensures ∙ fits-else (drop (a .row) (now (a .classes))) (a .low)
     (omega (arith, length-drop (a .row) (now (a .classes))))
-    (omega arith) (omega arith) (omega arith) (omega arith) _ (omega arith)
+    (omega arith) (omega arith) (omega arith) _ (omega arith)
 
 pub class-fits-spec : {M : Type 1} → statement M
 class-fits-spec =
@@ -78,7 +70,5 @@ class-fits-spec =
     returns-4
     at-requires-2
     returns-5
-    at-requires-3
-    returns-6
     scalar-requires
-    returns-7)
+    returns-6)

@@ -37,24 +37,17 @@ at-requires-2 c κs = search needs
 returns-6 : tie.Need-returns-6
 returns-6 c = not-plain
 
-at-requires-3 : tie.Need-at-requires-3
-at-requires-3 c κs = search needs
-
-returns-7 : tie.Need-returns-7
-returns-7 c = not-plain
-
 add-result : tie.Need-add-result
 add-result c = search needs
 
-returns-8 : tie.Need-returns-8
-returns-8 c z =
-    let h = c .before .before .before .before .before .before .before .before .before in
+returns-7 : tie.Need-returns-7
+returns-7 c z =
+    let h = c .before .before .before .before .before .before .before in
     let e = h .three .ensures .0 in
     let a = h .before .before .before .args in
     told (drop (a .row) (now (a .classes))) (a .low) (omega (arith, length-drop (a .row) (now (a .classes))))
     (omega (arith, e)) (omega (arith, e)) (omega (arith, e))
-    (omega (arith, c .before .before .before .before .before .at .ensures .0)) (omega (arith, c .before .before .before .at2 .ensures .0))
-    (omega (arith, c .before .at3 .ensures .0)) (h .three .result) e
+    (omega (arith, c .before .before .before .at .ensures .0)) (omega (arith, c .before .at2 .ensures .0)) (h .three .result) e
 
 pub plain-class-spec : {M : Type 1} → statement M
 plain-class-spec =
@@ -70,7 +63,5 @@ plain-class-spec =
     returns-5
     at-requires-2
     returns-6
-    at-requires-3
-    returns-7
     add-result
-    returns-8)
+    returns-7)

@@ -1,10 +1,11 @@
--- `words::index_in`: all that follows the letters.
+-- `words::index_in`: all that follows the choices.
 use Prim.Native.Nat.{_-_}
 use native.Mathlib.Omega.{arith}
 use denote.Ref.{now}
 use lib.ListN.{length, drop, length-drop}
 use lib.Seq.{take-all}
 use borrow.Author.Needs.{needs}
+use Rattle.words.specs.Given.{index-from}
 use Rattle.words.proofs.index_in.Statement.{statement}
 use Rattle.words.proofs.index_in.Tie as tie
 
@@ -18,7 +19,7 @@ part-result-end : tie.Need-part-result-end
 part-result-end c = search needs
 
 returns : tie.Need-returns
-returns c = let r = now (c .before .args .ready) in take-all (length r - 128) (drop 128 r) (omega (arith, length-drop 128 r))
+returns c = let r = now (c .before .args .ready) in take-all (length r - index-from) (drop index-from r) (omega (arith, length-drop index-from r))
 
 pub index-in-spec : {M : Type 1} → statement M
 index-in-spec = tie.close (tie.spec sub-result part-result-start part-result-end returns)

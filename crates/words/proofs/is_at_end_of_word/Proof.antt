@@ -92,7 +92,7 @@ returns-2 c =
     let L = c .before .before .look-up .ensures in
     λ w e g. by-both (R l) (kinds w) (w .text) (P l) false true (no-letter l w g)
     (sym (l .loop .inv .0 w e g) ∙ sym (ends-turn (accepted l) (L .0) (P l) (l .loop .e) (L .1) (L .2) g true
-    (sym (c .if2 .taken) ∙ c .before .rows-bring-letter .ensures (w .classes) e)))
+    (sym (c .if2 .taken) ∙ c .before .rows-bring-letter .ensures (w .classes) (e .letters))))
 
 add-e-2 : tie.Need-add-e-2 Inv-loop μ-loop
 add-e-2 c = search needs
@@ -105,7 +105,7 @@ loop-again c =
     let l = c .before .before .before .before .before in
     let L = c .before .before .before .look-up .ensures in (
       λ w e g. ends-turn (accepted l) (L .0) (P l) (l .loop .e) (L .1) (L .2) g false
-          (sym (c .before .if2 .left) ∙ c .before .before .rows-bring-letter .ensures (w .classes) e) ∙ l .loop .inv .0 w e g,
+          (sym (c .before .if2 .left) ∙ c .before .before .rows-bring-letter .ensures (w .classes) (e .letters)) ∙ l .loop .inv .0 w e g,
       omega (arith, l .loop .inv .1),
     )
 
@@ -115,7 +115,7 @@ returns-3 c =
     let L = c .before .before .before .look-up .ensures in
     λ w e g. by-both (R l) (kinds w) (w .text) (P l) false false (no-letter l w g)
     (sym (l .loop .inv .0 w e g) ∙ sym (ends-turn (accepted l) (L .0) (P l) (l .loop .e) (L .1) (L .2) g false
-    (sym (c .before .if2 .left) ∙ c .before .before .rows-bring-letter .ensures (w .classes) e))
+    (sym (c .before .if2 .left) ∙ c .before .before .rows-bring-letter .ensures (w .classes) (e .letters)))
     ∙ ends-here (accepted l) (L .0) (P l) (l .loop .e) (L .1) (L .2) g (c .if3 .left))
 
 returns-4 : tie.Need-returns-4 Inv-loop μ-loop

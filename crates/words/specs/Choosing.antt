@@ -1,0 +1,6 @@
+-- The choices of a call, as the definition has them.
+use Rattle.definition.specs.Tables.{Choices}
+use Rattle.words.specs.declared.Choices.{Choices as Given}
+
+abbrev pub choices-of : Given → Choices
+choices-of c = record { capitals = c .capitals }
