@@ -39,7 +39,7 @@ OTHER, LETTER, NONSPACING, MARK, NUMBER, CF, CO, ZS = range(8)
 # scripts that have steps of their own; others are numbered from 6 on, as the maker of the tables likes
 THAI, COPTIC, HIRAGANA, KATAKANA, DEVANAGARI = range(1, 6)
 # bits of a class row's flags
-SIGN, MEDIAL, SUBJOINED, VIRAMA, VOCALIC, TONE, PRE = (1 << bit for bit in range(7))
+SIGN, MEDIAL, SUBJOINED, VIRAMA, VOCALIC, TONE, PRE, LOWER = (1 << bit for bit in range(8))
 # types of inherent vowels
 A, AO = 0, 1
 # the numbers that a faulty table is refused by
@@ -166,8 +166,8 @@ def wrong_kind(char, kind):
         return "category %d is not in 0 to 7" % kind.category
     if not 0 <= kind.script <= 127:
         return "script %d is not in 0 to 127" % kind.script
-    if not 0 <= kind.flags <= 127:
-        return "flags %#x: only bits 0 to 6 may be set" % kind.flags
+    if not 0 <= kind.flags <= 255:
+        return "flags %#x: only bits 0 to 7 may be set" % kind.flags
     if char == " " and kind != (ZS, 0, 0):
         return "U+0020 must be of category 7, script 0, with no flags"
     if char.isascii() and char.isalpha() and kind.category != LETTER:

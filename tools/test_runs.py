@@ -11,6 +11,7 @@ sys.path.insert(0, str(ROOT / "tools"))
 import tables
 
 PROGRAM = ROOT / "target" / "bin" / "romanize"
+RUN = ROOT / "tests" / "x86_64", "run"
 PACKAGES = "unicode-data", "python3-unidecode"
 # words, and what the tables of tools/make_tables make of them
 READ = {
@@ -40,6 +41,7 @@ class Runs(unittest.TestCase):
         page = (ROOT / "README.md").read_text(encoding="utf-8")
         found = re.search(r"\n\n(    tools/make_tables.*\n(?:    .*\n)+)\n.*\n\n((?:    .*\n)+)\n", page)
         commands, shown = (re.sub("(?m)^    ", "", part) for part in found.groups())
+        commands = commands.replace("target/bin/romanize", "tests/x86_64 run target/bin/romanize")
         done = subprocess.run(["bash", "-ec", commands], cwd=ROOT, capture_output=True, text=True, check=True)
         # make_tables says how many rows there are, which depends on Debian's release
         self.assertRegex(done.stdout, r"^\d+ rules, \d+ classes, 2 vowels: target/tables\n")
@@ -53,10 +55,11 @@ class Runs(unittest.TestCase):
             rules, kinds = tables.read_rules(names[0].read_bytes()), tables.read_classes(names[1].read_bytes())
             # a word reads the same in its line as alone where no rule has a space
             self.assertFalse([rule for rule in rules if " " in rule.source + (rule.target or "") + (rule.end or "")])
-            for char, flag in ("เ", tables.PRE), ("\u0e48", tables.TONE), ("ि", tables.SIGN), ("\u094d", tables.VIRAMA), ("\u17d2", tables.VIRAMA):
+            for char, flag in (("เ", tables.PRE), ("\u0e48", tables.TONE), ("ि", tables.SIGN), ("\u094d", tables.VIRAMA),
+                               ("\u17d2", tables.VIRAMA), ("ж", tables.LOWER), ("ª", tables.LOWER), ("Ж", 0)):
                 self.assertEqual(kinds[char].flags, flag, char)
             text = "\n".join(READ).encode()
-            done = subprocess.run([PROGRAM, *names, "-", "0"], input=text, capture_output=True, check=True)
+            done = subprocess.run([*RUN, PROGRAM, *names, "-", "0"], input=text, capture_output=True, check=True)
             self.assertEqual(dict(zip(READ, done.stdout.decode().split("\n"))), READ)
 
     def test_the_tables_of_the_format(self):
@@ -68,7 +71,7 @@ class Runs(unittest.TestCase):
             for name, table in zip(names, made):
                 name.write_bytes(table)
             for code, mode, shown in (("-", "0", "kat\n"), ("san", "0", "kata\n"), ("-", "1", "0 1 core     1 ka\n1 2 rom      0 t\n")):
-                done = subprocess.run([PROGRAM, *names, code, mode], input="कत".encode(), capture_output=True, check=True)
+                done = subprocess.run([*RUN, PROGRAM, *names, code, mode], input="कत".encode(), capture_output=True, check=True)
                 self.assertEqual(done.stdout.decode(), shown)
             # the page's faults: the rows of क and त exchanged; in the row of ж another code, target's length and length
             rules = made[0]
@@ -78,7 +81,7 @@ class Runs(unittest.TestCase):
             for table, number, place in faults:
                 self.assertIn("%d at %d" % (number, place), page)
                 names[0].write_bytes(table)
-                done = subprocess.run([PROGRAM, *names, "-", "0"], input=b"", capture_output=True)
+                done = subprocess.run([*RUN, PROGRAM, *names, "-", "0"], input=b"", capture_output=True)
                 self.assertRegex(done.stderr.decode(), "refusal %d: .* at byte %d, in row " % (number, place))
 
 

@@ -30,7 +30,7 @@ class RoundTrips(unittest.TestCase):
     def test_rows_come_back_as_they_were(self):
         given = [Rule("b", " ~"), FULL, Rule("ce", None, NOT_END, 65535, (), "~"), Rule("\U0010ffff" * 16, "x" * 64, others=("y" * 64,) * 8)]
         self.assertEqual(read_rules(rules(*given)), given)
-        kinds = {" ": (ZS, 0, 0), "Z": (LETTER, 127, 127), "\ud7ff": (CO, 6, 0), "\ue000": (MARK, 5, VIRAMA)}
+        kinds = {" ": (ZS, 0, 0), "Z": (LETTER, 127, 127), "z": (LETTER, 0, LOWER), "é": (LETTER, 6, 255), "\ud7ff": (CO, 6, 0), "\ue000": (MARK, 5, VIRAMA)}
         self.assertEqual(read_classes(classes(kinds)), kinds)
         every = [Vowel(n, n % 2, "aeio"[:1 + n % 4]) for n in range(1, 128)]
         self.assertEqual(read_vowels(vowels(*every)), every)
@@ -73,7 +73,8 @@ class WrittenFaults(unittest.TestCase):
     def test_classes(self):
         for words, char, kind in [
                 ("one character", "ab", (LETTER,)), ("scalar", "\udfff", (LETTER,)), ("category 8", "é", (8,)), ("script 128", "é", (1, 128)),
-                ("bits 0 to 6", "é", (1, 0, 128)), ("U+0020", " ", (OTHER,)), ("U+0020", " ", (ZS, 1)), ("U+0020", " ", (ZS, 0, 1)),
+                ("bits 0 to 7", "é", (1, 0, 256)), ("U+0020", " ", (OTHER,)), ("U+0020", " ", (ZS, 1)), ("U+0020", " ", (ZS, 0, 1)),
+                ("U+0020", " ", (ZS, 0, LOWER)),
                 ("A-Z and a-z", "a", (OTHER,)), ("A-Z and a-z", "Z", (MARK, 5))]:
             self.refused(words, classes, {"\0": (OTHER,), char: kind})
         self.refused("8193 rows", classes, {chr(0x4E00 + k): (LETTER,) for k in range(8193)})
@@ -141,8 +142,8 @@ class ReadFaults(unittest.TestCase):
 
     def test_class_rows(self):
         good = class_row("\0", OTHER)
-        for bad, words in [(class_row("é", 8), "category 8"), (class_row("é", 1, 128), "script 128"), (class_row("é", 1, 0, 128), "bits 0 to 6"),
-                           (class_row(" ", OTHER), "U+0020"), (class_row("q", OTHER), "a-z"), (class_row("\udc00", OTHER), "0xdc00"),
+        for bad, words in [(class_row("é", 8), "category 8"), (class_row("é", 1, 128), "script 128"),
+                           (class_row(" ", OTHER), "U+0020"), (class_row(" ", ZS, 0, LOWER), "U+0020"), (class_row("q", OTHER), "a-z"), (class_row("\udc00", OTHER), "0xdc00"),
                            (b"\x11\0\0\0\0\0", "0x110000")]:
             self.faulty(read_classes, good, bad, 3, words=words)
         for n in range(1, 6):

@@ -50,16 +50,24 @@ def unidecode(text):
     return unidecoder()(text)
 
 
+def told(file):
+    """what a file of ranges tells first of each character: its number, and the words"""
+    for line in unicode_data(file).open(encoding="utf-8"):
+        span, *words = (part.strip() for part in line.split("#")[0].split(";"))
+        if words:
+            first, _, last = span.partition("..")
+            yield from ((number, words[0]) for number in range(int(first, 16), int(last or first, 16) + 1))
+
+
 def scripts():
     """from each character's number to its script's name"""
-    names = {}
-    for line in unicode_data("Scripts.txt").open(encoding="utf-8"):
-        line = line.split("#")[0].strip()
-        if line:
-            span, name = (part.strip() for part in line.split(";"))
-            first, _, last = span.partition("..")
-            names.update(dict.fromkeys(range(int(first, 16), int(last or first, 16) + 1), name))
-    return names
+    return dict(told("Scripts.txt"))
+
+
+@functools.cache
+def lower_case():
+    """the numbers of Unicode's Lowercase: small letters, and what is written like them, as ª and ⅰ"""
+    return {number for number, name in told("DerivedCoreProperties.txt") if name == "Lowercase"}
 
 
 def characters():
@@ -85,10 +93,10 @@ def category_of(category):
 
 
 def flags_of(c, name, script):
-    """a class row's flags, which the character's name tells, or its place among the Thai"""
+    """a class row's flags, which the character's name tells, its place among the Thai, or Unicode's Lowercase"""
     thai = ord(c) if script == "Thai" else 0
     return (SIGN * ("VOWEL SIGN" in name) | VIRAMA * ("VIRAMA" in name or "COENG" in name) | VOCALIC * ("VOCALIC" in name)
-            | TONE * (0x0E48 <= thai <= 0x0E4B) | PRE * (0x0E40 <= thai <= 0x0E44))
+            | TONE * (0x0E48 <= thai <= 0x0E4B) | PRE * (0x0E40 <= thai <= 0x0E44) | LOWER * (ord(c) in lower_case()))
 
 
 def latin(c):

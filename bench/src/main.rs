@@ -13,7 +13,7 @@
 #[path = "../../include/jettyfig.rs"]
 mod jettyfig;
 
-use jettyfig::{Rooms, Tables};
+use jettyfig::{Choices, Rooms, Tables};
 use std::time::{Duration, Instant};
 
 const ROUNDS: usize = 7;
@@ -36,7 +36,7 @@ struct Lent<'a> {
 impl Lent<'_> {
     fn romanize(&mut self, mode: u8, text: &str) -> &[u8] {
         let rooms = Rooms { slots: &mut self.slots, room: &mut self.room, out: &mut self.out };
-        let answer = jettyfig::romanize(mode, self.tables, b"", text.as_bytes(), rooms);
+        let answer = jettyfig::romanize(mode, Choices::default(), self.tables, b"", text.as_bytes(), rooms);
         assert_eq!(answer.number, 0, "{text}: refused at {}", answer.place);
         &self.out[..answer.length as usize]
     }

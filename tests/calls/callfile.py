@@ -1,6 +1,6 @@
 """Call files: calls and their answers, one after another, all numbers big-endian.
 
-A call is its mode (1 byte), the bytes of slots, room and output (4 each), then rules, classes, vowels, code and text (each a
+A call is its mode (1 byte), capitals (1), the bytes of slots, room and output (4 each), then rules, classes, vowels, code and text (each a
 4-byte length and its bytes). Its answer follows: number (1), place, length and edges (4 each), and `length` output bytes; past
 these the output must be zero to its end. A file whose name ends in .xz is compressed."""
 import lzma
@@ -15,6 +15,7 @@ from tables import Bytes
 class Given(NamedTuple):
     """what the engine itself is asked: a call without the room that it is lent"""
     mode: int
+    capitals: int
     rules: bytes
     classes: bytes
     vowels: bytes
@@ -52,21 +53,21 @@ def four(n):
 
 
 def parts(given):
-    """mode, tables, code and text as a call file and the oracle hold them"""
-    return bytes([given.mode]), b"".join(four(len(part)) + part for part in given[1:])
+    """mode and capitals, then tables, code and text as a call file and the oracle hold them"""
+    return bytes(given[:2]), b"".join(four(len(part)) + part for part in given[2:])
 
 
 def encode(call):
-    mode, tables = parts(call.given)
+    numbers, tables = parts(call.given)
     a = call.answer
     assert len(a.output) == a.length
-    return mode + b"".join(map(four, call.lent)) + tables + bytes([a.number]) + four(a.place) + four(a.length) + four(a.edges) + a.output
+    return numbers + b"".join(map(four, call.lent)) + tables + bytes([a.number]) + four(a.place) + four(a.length) + four(a.edges) + a.output
 
 
 def decode(b):
-    mode = b.number(1)
+    mode, capitals = b.number(1), b.number(1)
     lent = Lent(b.number(4), b.number(4), b.number(4))
-    given = Given(mode, *(b.take(b.number(4)) for _ in range(5)))
+    given = Given(mode, capitals, *(b.take(b.number(4)) for _ in range(5)))
     number, place, length, edges = b.number(1), b.number(4), b.number(4), b.number(4)
     return Call(given, lent, Answer(number, place, length, edges, b.take(length)))
 

@@ -25,7 +25,7 @@ class Built(NamedTuple):
 
 
 def ask(program, cases):
-    """the oracle's answers to cases (Given); None where it refuses mode, tables, code or text"""
+    """the oracle's answers to cases (Given); None where it refuses mode, capitals, tables, code or text"""
     asked = b"".join(b"".join(parts(case)) for case in cases)
     b = Bytes(subprocess.run([program], input=asked, stdout=subprocess.PIPE, check=True).stdout)
     answers = []

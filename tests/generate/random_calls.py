@@ -7,7 +7,8 @@ import random
 import string
 import sys
 
-from oracle import Given, Lent, ask, call, callfile
+from lower import lowered
+from oracle import Call, Given, Lent, ask, call, callfile, refused
 from tables import *
 
 KHMER, GURMUKHI, LATIN = 6, 9, 0
@@ -57,6 +58,8 @@ USUAL = dict(zip("กขนาอเแะⲁⲃⲕⲓかきちゃょんカキ�
 TARGETS = """k t n ng ch y w m b d z c h ka ki ku ta na cha chi ya yu kya tya bya dya kyo kyaa byoo tika ga ro ko koo a i o e u aa ao ii ia
     K ZH Zh A Ka Ya KI 1 7 -1 ka- ya- 1ka- k- -ka +n +ng +na +m +ma +g +r +ra +ar +a + ++ +nn y v x q vi xi yi wi tsu ssi
     bcd xyz nn kk ngy ' ~""".split() + ["", "", " ", " k", "k ", " ka ", "  k", "k  ", " a", "a ", " i"]
+# what the choice of capitals may change, and what it must leave; more of these in worlds with lower case
+CAPITALS = "K ZH Zh A Ka Ya KI KKI KA KYO SHCH A1B 1ZH Z-H 1 N7 +N +NG +A zH".split()
 CODES = ["san", "asm", "ben", "guj", "kas", "pan", "hin", "abc"]
 
 
@@ -80,6 +83,8 @@ class World:
         for name in names:
             self.kinds.update((c, kind) for c, kind in ALPHABETS[name].items() if c in self.text)
         self.bend()
+        self.cased = self.chance(0.4)
+        self.lower = [c for c in self.kinds if c != " " and self.chance(0.7 if self.cased else 0.03)]
         self.rules = self.some_rules()
 
     def chance(self, p):
@@ -132,7 +137,9 @@ class World:
 
     def target(self, source=""):
         if source in USUAL and self.chance(0.5):
-            return USUAL[source]
+            return USUAL[source].upper() if self.cased and self.chance(0.5) else USUAL[source]
+        if self.cased and self.chance(0.6):
+            return self.rng.choice(CAPITALS)
         if self.chance(0.03):
             return "".join(self.rng.choice("kgnyaio+- KA1") for _ in range(self.rng.choice((3, 5, 9, 64))))
         chosen = self.rng.choice(TARGETS)
@@ -178,8 +185,9 @@ class World:
         return made
 
     def given(self):
-        return Given(self.rng.choice((0, 1, 2, 2, 3, 3)), rules(*self.rules), classes(self.kinds), vowels(*self.vowels),
-                     self.code.encode(), self.text.encode())
+        capitals = self.rng.randint(2, 255) if self.chance(0.01) else self.rng.choice((0, 1))
+        return Given(self.rng.choice((0, 1, 2, 2, 3, 3)), capitals, rules(*self.rules), lowered(classes(self.kinds), self.lower),
+                     vowels(*self.vowels), self.code.encode(), self.text.encode())
 
 
 def lent(rng, built):
@@ -198,12 +206,16 @@ def lent(rng, built):
     return Lent(rng.choice((slots, less[0])), rng.choice((room, less[1])), less[2])
 
 
+def made(rng, case, built):
+    """the call; it is refused where its choice is, and only there"""
+    assert (built is None) == (case.capitals > 1), case
+    return call(case, built, lent(rng, built)) if built else Call(case, Lent(12, 9, 9), refused(12, 0))
+
+
 def generated(program, seed, count):
     rng = random.Random(seed)
     cases = [World(rng).given() for _ in range(count)]
-    built = ask(program, cases)
-    assert None not in built
-    return [call(case, b, lent(rng, b)) for case, b in zip(cases, built)]
+    return [made(rng, case, built) for case, built in zip(cases, ask(program, cases))]
 
 
 def main(program, seed, count, path):

@@ -6,6 +6,7 @@ usage: reading.py ORACLE FILE.calls.xz"""
 import sys
 
 import sample
+from lower import lowered
 from oracle import Given, Lent, ask, call, callfile, string_of
 from tables import *
 
@@ -21,20 +22,23 @@ A6, A5 = (6, A, "a"), (5, A, "a")
 
 
 class Corner:
-    """a case in all four modes; `want` is the path's string, `begins` how it begins, `edges` the lattice's count, where stated"""
-    def __init__(self, text, rows, kinds, vowel_rows=(), code="", want=None, edges=None, begins=""):
-        self.text, self.code, self.want, self.edges, self.begins = text, code, want, edges, begins
+    """a case in all four modes; `want` is the path's string, `begins` how it begins, `edges` the lattice's count, where stated;
+    `lower` are the characters of lower case"""
+    def __init__(self, text, rows, kinds, vowel_rows=(), code="", want=None, edges=None, begins="", capitals=0, lower=""):
+        self.text, self.code, self.want, self.edges, self.begins, self.capitals = text, code, want, edges, begins, capitals
         self.tables = rows if isinstance(rows, bytes) else rules(*rows), \
-            kinds if isinstance(kinds, bytes) else classes(kinds), \
+            lowered(kinds if isinstance(kinds, bytes) else classes(kinds), lower), \
             vowel_rows if isinstance(vowel_rows, bytes) else vowels(*vowel_rows)
 
     def given(self, mode):
-        return Given(mode, *self.tables, self.code.encode(), self.text.encode())
+        return Given(mode, self.capitals, *self.tables, self.code.encode(), self.text.encode())
 
 
 def sample_results():
     for text, code, want in sample.RESULTS:
         yield Corner(text, sample.RULES, sample.CLASSES, sample.VOWELS, code, want, 4 if text == "क\u094dत" else None)
+    for capitals, want in enumerate(sample.CASED_RESULTS):
+        yield Corner("Жж", sample.RULES, sample.CASED_CLASSES, sample.VOWELS, want=want, capitals=capitals)
     for text in ("", "\u0eff", "\u1000", "क" * 40):
         yield Corner(text, sample.RULES, sample.CLASSES, sample.VOWELS)
     yield Corner("कत\n", sample.RULES, sample.CLASSES, sample.VOWELS, want="kat\n")
@@ -202,8 +206,9 @@ def expansion():
     yield Corner("xっか", [("か", "ka"), ("x", "s")], {"っ": HIRA, "か": HIRA})
     yield Corner("っかき", [("かき", "ka")], {"っ": HIRA, "か": HIRA, "き": (LETTER, KATAKANA)}, want="kka")
     yield Corner("っかき", [("かき", "ka")], {"っ": HIRA, "か": (LETTER, KATAKANA), "き": HIRA}, want="っka")
-    # the capitalizing step never acts
+    # the capitalizing step never acts where it is not chosen
     yield Corner("Жж", [("Ж", "ZH"), ("ж", "zh")], {"Ж": L, "ж": L}, want="ZHzh")
+    yield Corner("Жж", [("Ж", "ZH"), ("ж", "zh")], {"Ж": L, "ж": L}, want="ZHzh", lower="ж")
     # long mark, small ya and Coptic look at the last character, which moves on
     copt = {"ⲁ": COPT, "\u0300": (NONSPACING, HIRAGANA), "ー": L}
     yield Corner("ⲁ\u0300ー", [("ⲁ", "i")], copt, want="eii")
@@ -289,6 +294,61 @@ def thai():
     yield Corner("กขอค", [("กข", "k"), ("ข", "a"), ("อ", "o"), ("ค", "k")], kinds)
 
 
+def capitals():
+    """the choice is on: what one character becomes has only its first byte large, before a character of lower case"""
+    def chosen(text, rows, kinds, want=None, lower="ж", **more):
+        return Corner(text, rows, kinds, want=want, capitals=1, lower=lower, **more)
+
+    both = {"Ж": L, "ж": L}
+    small = ("ж", "zh")
+    # every later letter becomes small where there is a capital and no small letter; all else stays
+    for target, want in (("ZH", "Zh"), ("SHCH", "Shch"), ("A1B", "A1b"), ("1ZH", "1zh"), ("-A", "-a"), ("A'B-C", "A'b-c"), ("Z H ", "Z h "),
+                         (" ZH", "zh"), ("+NG", "+ng"), ("+nG", "nG"), ("+N", "N"), ("+1", "1"), ("Zh", "Zh"), ("zH", "zH"), ("ZHh", "ZHh"),
+                         ("Z", "Z"), ("1", "1"), ("12", "12"), ("", ""), ("@AZ[`{~AZ", "@az[`{~az"), ("AZ@[", "Az@["), ("Z" * 64, "Z" + "z" * 63)):
+        yield chosen("Жж", [("Ж", target), small], both, want + "zh")
+    # before lower case: a row with flag 7, whatever else it has; not the text's end, and not a-z by themselves
+    zh = ("Ж", "ZH")
+    yield chosen("Ж", [zh], both, "ZH", lower="Жж")
+    yield chosen("жжЖ", [("ж", "ZH")], both, "ZhZHЖ")
+    yield chosen("Жa", [zh], both, "ZHa")
+    yield chosen("Жa", [zh], {**both, "a": L}, "ZHa")
+    yield chosen("Жa", [zh], {**both, "a": L}, "Zha", lower="a")
+    yield chosen("ЖA", [zh], {**both, "A": L}, "ZhA", lower="A")
+    yield chosen("Ж ж", [zh, small], {**both, " ": (ZS,)}, "ZH zh")
+    for category in range(8):
+        yield chosen("Жж", [zh], {"Ж": L, "ж": (category,)})
+    for flag in (SIGN, MEDIAL, SUBJOINED, VIRAMA, VOCALIC, TONE, PRE):
+        yield chosen("Жж", [zh], {"Ж": L, "ж": (LETTER, 0, flag)}, "Zh" if flag == VIRAMA else "Zhж")
+    # one character, and the one behind it
+    yield chosen("ЖЖж", [("ЖЖ", "ZH"), small], both, "ZHzh")
+    yield chosen("ЖЖж", [zh, small], both, "ZHZhzh")
+    yield chosen("ЖжЖ", [("Жж", "ZH"), zh], both, "ZHZH", lower="жЖ")
+    # the end-of-syllable target too, and not alternatives
+    yield chosen("ЖЖж", [Rule("Ж", "S", end="TS"), small], both)
+    yield chosen("Жж", [Rule("Ж", "ZH", others=["J", "JH"]), Rule("Ж", "Zh", START, 0, (), None, ["G", "GH"])], both)
+    yield chosen("Жж", [Rule("Ж", "ZH", codes=["abc"]), Rule("Ж", "Zh", others=["GH"])], both, code="abc")
+    # fallbacks are not expanded: an absorbed virama leaves Ж alone to one
+    yield chosen("Жж", [zh], {"Ж": L, "ж": DEAD}, edges=3)
+    yield chosen("Жж", [zh], {"Ж": SIX, "ж": SIX}, "Zhж", vowel_rows=[A6])
+    # before doubling, small ya, the long mark and the Coptic accent, which meet small letters now
+    kana = {c: HIRA for c in "っかきゃー"}
+    yield chosen("っか", [("か", "KA")], kana, "っKA", lower="っか")
+    yield chosen("っかき", [("か", "KA")], kana, "っKaき", lower="き")
+    for target, want in (("KKI", "Kkya"), ("KI", "Kiya"), ("1KI", "1kya"), ("I", "Iya"), ("KKA", "Kkaya")):
+        yield chosen("きゃ", [("き", target), ("ゃ", "ya")], kana, want, lower="ゃ")
+        yield chosen("きゃー", [("き", target), ("ゃ", "YA")], kana, lower="ゃー")
+    for target, want in (("KA", "Kaa"), ("A", "Aー"), ("1A", "1aa"), ("KAK", "Kakー")):
+        yield chosen("かー", [("か", target)], kana, want, lower="ー")
+    yield chosen("ⲁ\u0300", [("ⲁ", "AB")], {"ⲁ": COPT, "\u0300": (NONSPACING,)}, "eAb", lower="\u0300")
+    # what stands before is asked for small consonants: by O ang, and at a syllable's end
+    thai = {c: T for c in "กขอา"}
+    yield chosen("กอข", [("ก", "AK"), ("อ", "o"), ("ข", "k")], thai, "Akok", lower="อ")
+    yield chosen("กอข", [("ก", "AK"), ("อ", "o"), ("ข", "k")], thai, "AKk", lower="ข")
+    yield chosen("กอข", [("ก", "k"), ("อ", "OO"), ("ข", "k")], thai, "kOok", lower="ข")
+    yield chosen("ขกา", [("ข", "AK"), Rule("ก", "k", end="t"), ("า", "a")], thai, lower="ก")
+    yield chosen("ขกา", [("ข", "AK"), Rule("ก", "k", end="t"), ("า", "a")], thai, lower="า")
+
+
 def fallbacks():
     for category in range(8):
         kinds = {"é": (category,)}
@@ -358,7 +418,7 @@ def letters():
 TURNS = lambda k: (k % 3, 3)
 GROUPS = {
     sample_results: lambda k: range(4), longest_and_most: lambda k: range(4), vowel_step: TURNS, word_boundaries: TURNS, rule_choice: TURNS,
-    syllables: TURNS, expansion: TURNS, thai: TURNS, fallbacks: TURNS, alternatives: lambda k: (k % 2, 2), letters: lambda k: (3,),
+    syllables: TURNS, expansion: TURNS, thai: TURNS, capitals: TURNS, fallbacks: TURNS, alternatives: lambda k: (k % 2, 2), letters: lambda k: (3,),
 }
 
 

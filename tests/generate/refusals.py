@@ -1,20 +1,21 @@
 #!/usr/bin/env python3
-"""Refusals made by hand from document 01's table 'Numbers a call returns' and from docs/FORMAT.md's 20 to 25: each number with its
-place, and both sides of each border. Number and place are written here; the oracle only confirms that it refuses too (1, 3 to 8
-and 20 to 25), or that its edges in their adding order give the same (9 to 11). The accepted side of a border is answered by it.
+"""Refusals made by hand from document 01's table 'Numbers a call returns' and from docs/FORMAT.md's 12 and 20 to 25: each number with its
+place, and both sides of each border. Number and place are written here; the oracle only confirms that it refuses too (1, 3 to 8,
+12 and 20 to 25), or that its edges in their adding order give the same (9 to 11). The accepted side of a border is answered by it.
 
 usage: refusals.py ORACLE FILE.calls.xz MOST_RULES.calls.xz"""
 import sys
 
 import smallest
+from lower import lowered
 from oracle import Call, Given, Lent, answered, ask, call, callfile, refused
 from tables import *
 
-PLAIN = Given(0, rules(("b", "B"), ("d", "D")), classes({"b": (LETTER, 6), "d": (LETTER,)}), vowels((5, A, "a"), (9, AO, "o")), b"", b"bad")
+PLAIN = Given(0, 0, rules(("b", "B"), ("d", "D")), classes({"b": (LETTER, 6), "d": (LETTER,)}), vowels((5, A, "a"), (9, AO, "o")), b"", b"bad")
 PLENTY = Lent(1200, 400, 8)
 NONE = block([])
-# refused for mode, tables, code or text, so that there is no lattice
-WITHOUT_LATTICE = {1, *FAULTS, *range(3, 9)}
+# refused for mode, capitals, tables, code or text, so that there is no lattice
+WITHOUT_LATTICE = {1, 12, *FAULTS, *range(3, 9)}
 
 
 class Border:
@@ -46,6 +47,20 @@ def modes():
         yield Border((1, 0), mode=mode)
     for mode in range(4):
         yield accepted(mode=mode)
+
+
+def choices():
+    for capitals in (2, 3, 127, 128, 254, 255):
+        for mode in (0, 3):
+            yield Border((12, 0), mode=mode, capitals=capitals)
+    # capitals before a character of lower case: "BaD" needs the same room as "BAD"
+    cased = dict(rules=rules(("b", "BA"), ("d", "D")), classes=lowered(PLAIN.classes, "d"), text=b"bd", mode=3)
+    for capitals in (0, 1):
+        for mode in range(4):
+            yield accepted(**{**cased, "mode": mode}, capitals=capitals)
+        yield Border((9, 1), Lent(12, 3, 40), **cased, capitals=capitals)
+        yield Border((10, 1), Lent(24, 2, 40), **cased, capitals=capitals)
+        yield Border((11, 24), Lent(24, 3, 23), **cased, capitals=capitals)
 
 
 def headers():
@@ -143,16 +158,18 @@ def smallest_rules():
 def class_rows():
     before, after = class_row("B", LETTER, 6), class_row("z", LETTER)
     bad = [(c, category, 0, 0) for c in "ZacyC" for category in (0, 2, 3, 4, 5, 6, 7)]
-    bad += [("c", LETTER, 0, 128), ("c", LETTER, 0, 255), ("c", LETTER, 128, 0), ("c", LETTER, 255, 0), ("c", 8, 0, 0), ("c", 255, 0, 0),
-            ("^", 8, 0, 0), ("^", 0, 128, 0), ("^", 0, 0, 128), ("^", 9, 130, 200)]
+    bad += [("c", OTHER, 0, 128), ("c", LETTER, 128, 128), ("c", LETTER, 128, 0), ("c", LETTER, 255, 0), ("c", 8, 0, 0), ("c", 255, 0, 0),
+            ("^", 8, 0, 0), ("^", 0, 128, 0), ("^", 8, 0, 128), ("^", 9, 130, 200)]
     for row in bad:
         yield from in_table(3, "classes", before, class_row(*row), after)
     for value in (0xD800, 0xDFFF, 0x110000, 0xFFFFFF):
         yield from in_table(3, "classes", before, value.to_bytes(3, "big") + bytes([1, 0, 0]), class_row("\U0010ffff", OTHER))
     # U+0020 is category 7, script 0, no flags
     start = class_row("\n", OTHER)
-    for row in [(" ", category) for category in range(7)] + [(" ", ZS, 1), (" ", ZS, 127), (" ", ZS, 0, 1), (" ", ZS, 0, 64), (" ", 8), (" ", ZS, 5, 3)]:
+    for row in [(" ", category) for category in range(7)] + [(" ", ZS, 1), (" ", ZS, 127), (" ", ZS, 0, 1), (" ", ZS, 0, 64), (" ", 8), (" ", ZS, 5, 3),
+                                                                (" ", ZS, 0, 128), (" ", ZS, 0, 255)]:
         yield from in_table(3, "classes", start, class_row(*row), after)
+    yield Border((3, 5), classes=block([class_row(" ", ZS, 0, 128)]), capitals=1)
     # strictly rising
     for first, second in (("b", "b"), ("c", "b"), ("\U00010000", "\uffff"), ("\u0100", "\xff")):
         one, two = class_row(first, LETTER), class_row(second, LETTER)
@@ -163,8 +180,10 @@ def class_rows():
     yield from cut_rows(3, "classes", b"", after)
     # what is still allowed: neighbours of the letters, the borders of each field
     for row in (("@", 0), ("[", 2), ("`", 5), ("{", 7), ("A", 1, 127, 127), ("z", 1, 6, 0), (" ", ZS), ("!", 6, 127, 127), ("\ud7ff", 3),
-                ("\ue000", 4), ("\U0010ffff", 7), ("\0", 0)):
+                ("\ue000", 4), ("\U0010ffff", 7), ("\0", 0), ("d", 1, 0, 128), ("z", 1, 127, 255), ("\u00a0", ZS, 0, 128)):
         yield accepted(classes=block([class_row(*row)]), text="bA@[`{z! d".encode(), mode=1)
+    for capitals in (0, 1):
+        yield accepted(classes=block([class_row("b", LETTER, 0, 128), class_row("d", LETTER, 0, 255)]), text=b"bbd", mode=1, capitals=capitals)
     yield Border((3, 5), classes=block([class_row("c", 0), class_row("d", 0)]))
 
 
@@ -311,7 +330,7 @@ def orders():
     b, c = rule_row("b", "B"), rule_row("c", "C")
     # in their order: number, place, what is changed
     faults = [
-        (1, 0, dict(mode=9)), (20, 5 + len(b), dict(rules=block([b, b"\0"]))), (3, 5, dict(classes=block([class_row("b", 2)]))),
+        (1, 0, dict(mode=9)), (12, 0, dict(capitals=2)), (20, 5 + len(b), dict(rules=block([b, b"\0"]))), (3, 5, dict(classes=block([class_row("b", 2)]))),
         (4, 0, dict(vowels=b"\x02\0\0\0\0")), (5, 0, dict(code=b"xx")), (6, 1, dict(text=b"a\xff")), (7, 512, dict(text=b"a" * 513)),
         (8, 2, dict(text="ab\u0f00".encode())),
     ]
@@ -331,7 +350,7 @@ def orders():
                 yield Border((number, place), **{**changes, **more})
         for lent in small.values():
             yield Border((number, place), lent, **changes)
-    for rank, (number, place, _) in enumerate(faults[:5]):
+    for rank, (number, place, _) in enumerate(faults[:6]):
         yield Border((number, place), Lent(0, 0, 0), **from_rank(rank))
         yield Border((number, place), Lent(5, 5, 5), **from_rank(rank))
     yield Border((9, 0), small[9])
@@ -341,8 +360,9 @@ def orders():
     for number, place, table in ((21, 5 + FLAGS, block([rule_row("c", "C", 128)])), (22, 5 + SOURCE, block([rule_row("\ud800", "C")])),
                                  (23, 5 + TEXT + 1, block([rule_row("c", "\x7f")])), (24, 5 + len(c), block([c, b]))):
         yield Border((1, 0), **{**from_rank(0), "rules": table})
-        yield Border((number, place), **{**from_rank(2), "rules": table})
-        for _, _, more in faults[2:]:
+        yield Border((12, 0), **{**from_rank(1), "rules": table})
+        yield Border((number, place), **{**from_rank(3), "rules": table})
+        for _, _, more in faults[3:]:
             yield Border((number, place), **more, rules=table)
 
 
@@ -362,7 +382,7 @@ def most_rules():
     yield accepted(rules=block([rule] * 8191 + [rule_row("b", "x")]), text=b"b")
 
 
-GROUPS = [modes, headers, rule_rows, smallest_rules, class_rows, vowel_rows, codes, utf8, lengths, left_out, rooms, orders, most_classes]
+GROUPS = [modes, choices, headers, rule_rows, smallest_rules, class_rows, vowel_rows, codes, utf8, lengths, left_out, rooms, orders, most_classes]
 
 
 def made(border, built):

@@ -3,6 +3,7 @@ import pathlib
 import sys
 
 sys.path.insert(0, str(pathlib.Path(__file__).resolve().parents[2] / "tools"))
+from lower import lowered
 from tables import *
 
 KHMER, CYRILLIC = 6, 7
@@ -25,6 +26,9 @@ CLASSES = classes({
     " ": (ZS,),
 })
 
+# the same, and ж is lower case
+CASED_CLASSES = lowered(CLASSES, "ж")
+
 VOWELS = vowels((DEVANAGARI, A, "a"), (KHMER, A, "a"))
 
 # text, code, string
@@ -34,6 +38,9 @@ RESULTS = [
     ("жж", "", "jzh"), ("Жж", "", "ZHzh"), ("р", "", "ng"), ("с", "", "+ar"),
     ("ก \u0e48อก", "", "k ok"), ("\u0e48อก", "", "k"),
 ]
+
+# strings of Жж under the cased classes, by capitals
+CASED_RESULTS = ["ZHzh", "Zhzh"]
 
 # the sample program's output in mode 1, with and without a line end
 LINE = "010000001300080000000102016b61000700010002010074"

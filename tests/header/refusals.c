@@ -19,7 +19,7 @@ typedef struct {
 
 /* what a call is given: all of it is right, and a case spoils one part */
 typedef struct {
-    uint8_t mode;
+    uint8_t mode, capitals;
     slice rules, classes, vowels, code, text;
     size_t slots, room, out;
 } call;
@@ -63,9 +63,9 @@ static void expect(const char *name, const call *c, uint64_t number, uint64_t pl
     memset(slots, 0xA5, sizeof slots);
     memset(room, 0xA5, sizeof room);
     memset(out, 0xA5, sizeof out);
-    a = jettyfig_romanize(c->mode, c->rules.bytes, c->rules.length, c->classes.bytes, c->classes.length, c->vowels.bytes,
-                          c->vowels.length, c->code.bytes, c->code.length, c->text.bytes, c->text.length, slots, c->slots, room,
-                          c->room, out, c->out);
+    a = jettyfig_romanize(c->mode, c->capitals, c->rules.bytes, c->rules.length, c->classes.bytes, c->classes.length,
+                          c->vowels.bytes, c->vowels.length, c->code.bytes, c->code.length, c->text.bytes, c->text.length, slots,
+                          c->slots, room, c->room, out, c->out);
     runs++;
     if (a.number != number || a.place != place || (number && (a.length || a.edges)) || !is_zero(slots, c->slots) ||
         !is_zero(room, c->room) || !is_zero(out + a.length, c->out - a.length)) {
@@ -89,9 +89,13 @@ int main(int argc, char **argv) {
     good.room = 3;
     good.out = 3;
     expect("done", &good, JETTYFIG_DONE, 0);
+    c = good, c.capitals = JETTYFIG_CAPITALS_ON;
+    expect("done, with capitals", &c, JETTYFIG_DONE, 0);
 
-    c = good, c.mode = JETTYFIG_SHOW_ALL_EDGES + 1;
-    expect("mode", &c, JETTYFIG_REFUSED_MODE, 0);
+    c = good, c.mode = JETTYFIG_SHOW_ALL_EDGES + 1, c.capitals = JETTYFIG_CAPITALS_ON + 1;
+    expect("mode before capitals", &c, JETTYFIG_REFUSED_MODE, 0);
+    c = good, c.capitals = JETTYFIG_CAPITALS_ON + 1, c.rules.length--;
+    expect("capitals before rules", &c, JETTYFIG_REFUSED_CAPITALS, 0);
     c = good, c.rules.length--;
     expect("rules, header", &c, JETTYFIG_REFUSED_LENGTH, 0);
     /* the second row, at 19: length at 19, flags at 21, source at 25, target at 29, count of alternatives at 32 */
@@ -113,6 +117,11 @@ int main(int argc, char **argv) {
     expect("rules, too many", &c, JETTYFIG_REFUSED_ROWS, 5 + MOST_RULES * sizeof SMALL_RULE);
     c = good, c.classes.bytes[5 + 6 + 3] = 8;
     expect("classes, second row", &c, JETTYFIG_REFUSED_CLASSES, 11);
+    /* the first class row is the space's, which has no flag; any other may have all */
+    c = good, c.classes.bytes[5 + 5] = 0x80;
+    expect("classes, lower case of the space", &c, JETTYFIG_REFUSED_CLASSES, 5);
+    c = good, c.classes.bytes[c.classes.length - 1] |= 0x80;
+    expect("classes, lower case of another", &c, JETTYFIG_DONE, 0);
     c = good, c.vowels.bytes[9 + 1] = 2;
     expect("vowels, second row", &c, JETTYFIG_REFUSED_VOWELS, 9);
     c = good, put(&c.code, "hi");

@@ -9,7 +9,9 @@ import re
 import subprocess
 import sys
 
-HEADER = pathlib.Path(__file__).resolve().parents[2] / "include" / "jettyfig.h"
+ROOT = pathlib.Path(__file__).resolve().parents[2]
+HEADER = ROOT / "include" / "jettyfig.h"
+OBJDUMP = [ROOT / "tests" / "x86_64", "objdump", "-dr", "--no-show-raw-insn"]
 ENTRY = "jettyfig_romanize"
 # what the C library's functions may take: little themselves, but where they are bound at their first call the dynamic linker
 # runs there, with all vector registers saved (3,144 bytes with AVX-512)
@@ -56,7 +58,7 @@ def deepest(found, name, above=()):
 
 
 def main(library):
-    listing = subprocess.run(["objdump", "-dr", "--no-show-raw-insn", library], capture_output=True, text=True, check=True).stdout
+    listing = subprocess.run([*OBJDUMP, library], capture_output=True, text=True, check=True).stdout
     found = functions(listing)
     depth, chain = deepest(found, ENTRY)
     own, _ = deepest({name: [frame, called - OUTSIDE.keys()] for name, (frame, called) in found.items()}, ENTRY)

@@ -34,6 +34,12 @@ done > "$out/edits.diff"
 n=$(grep -c '^[^ ]*: [-+]' "$out/edits.diff" || true)
 [ "$n" = 21 ] || { echo "21 edited lines expected, found $n"; cat "$out/edits.diff"; exit 1; }
 cmp "$here/edits.diff" "$out/edits.diff"
+
+# --- one line more, which does add logic: the Python rule for capitals, where a call chooses it ---
+cp "$out/src/lattice/romanize.rs" "$out/romanize.rs"
+sed -i 's|^        // Gemination: .*|        rom = crate::capitals::as_python(rom, start, end, next_char);|' "$out/src/lattice/romanize.rs"
+(cd "$out" && diff -U0 romanize.rs src/lattice/romanize.rs | sed '1,2d' || true) | sed "s|^|lattice/romanize.rs: |" > "$out/capitals.diff"
+cmp "$here/capitals.diff" "$out/capitals.diff"
 cp "$here"/src/*.rs "$out/src/"
 
 # --- regex and its three helpers from Debian's package, as path crates ---

@@ -1,6 +1,7 @@
 #!/usr/bin/env python3
-"""Which blocks of the published Rust do call files enter? Counts every block of lattice/*.rs: bodies of functions, closures, loops
-and matches, both sides of every `if` (the missing `else` too), and the other side of every `let .. else`.
+"""Which blocks of the published Rust do call files enter? Counts every block of lattice/*.rs, and of the rule that is added to it
+(capitals.rs): bodies of functions, closures, loops and matches, both sides of every `if` (the missing `else` too), and the other side
+of every `let .. else`.
 
 usage: coverage.py RUST_SRC_DIR BUILD_DIR FILE.calls[.xz] ..
 
@@ -14,7 +15,7 @@ here = os.path.dirname(os.path.abspath(__file__))
 sys.path.insert(0, os.path.join(here, "..", "calls"))
 import callfile
 
-FILES = ["mod", "paths", "romanize", "rules", "word_boundaries"]
+FILES = ["lattice/mod", "lattice/paths", "lattice/romanize", "lattice/rules", "lattice/word_boundaries", "capitals"]
 # lines that end in a brace but open no block of code
 NO_BLOCK = re.compile(r"\b(struct|enum|impl|match|use)\b[^|]*\{$|\bSelf \{$|=> match")
 ARM = re.compile(r"^( +)(\S.*) => ([^{}].*),$")
@@ -65,11 +66,11 @@ def build(source, folder):
     subprocess.run([os.path.join(here, "build.sh"), source, folder], check=True, stdout=subprocess.DEVNULL)
     blocks = Blocks()
     for file in FILES:
-        path = os.path.join(folder, "src/lattice", file + ".rs")
+        path = os.path.join(folder, "src", file + ".rs")
         with open(path, encoding="utf-8") as f:
             text = f.read()
         with open(path, "w", encoding="utf-8") as f:
-            f.write(blocks.counted(file, text))
+            f.write(blocks.counted(os.path.basename(file), text))
     subprocess.run(["cargo", "build", "--release", "--offline", "-q"], cwd=folder, check=True, env=dict(os.environ, RUSTFLAGS="-Awarnings"))
     return os.path.join(folder, "target/release/oracle"), blocks.names
 

@@ -30,7 +30,7 @@ RULES, CLASSES, VOWELS = range(3)
 NAMES = ('rules', 'classes', 'vowels')
 READERS = (read_rules, read_classes, read_vowels)
 NUMBERS = (set(FAULTS), {3}, {4})       # by which each is refused
-MODE = 1            # refused before any table is looked at
+BEFORE = (1, 12)    # refused before any table is looked at: mode and capitals
 ROOM = 2000000      # the length of `room` in crates/tables_vectors
 LARGE = 4000        # longer tables are taken sparingly
 
@@ -58,7 +58,7 @@ def agreed(vectors):
 
 def answered(calls):
     for given, _, (number, place, *_) in calls:
-        if number == MODE:
+        if number in BEFORE:
             continue
         for kind, name in enumerate(NAMES):
             refused = number in NUMBERS[kind]
@@ -337,7 +337,7 @@ def class_rows():
     for n in range(256):
         yield CLASSES, block([first, of(0xE01, n, 0, 0)]), unless(n <= 7, 3, 11)
         yield CLASSES, block([first, of(0xE01, LETTER, n, 0)]), unless(n <= 127, 3, 11)
-        yield CLASSES, block([first, of(0xE01, LETTER, 0, n)]), unless(n <= 127, 3, 11)
+        yield CLASSES, block([first, of(0xE01, LETTER, 0, n)]), None
     # ASCII: letters have one category, the space has one row
     for c, category in itertools.product(range(1, 128), range(9)):
         right = category == 1 if chr(c) in string.ascii_letters else category == 7 if c == 32 else category <= 7

@@ -27,6 +27,7 @@ const VOCALIC: u8 = 16;
 const TONE: u8 = 32;
 /// written before its consonant
 pub const PRE: u8 = 64;
+pub const LOWER: u8 = 128;
 
 pub const EN_DASH: char = '\u{2013}';
 
@@ -228,5 +229,10 @@ pub const TARGETS: [&str; 113] = [
     "k  ", " a", "a ", " i", "kh", "kha", "sha", "tt", "ngo", "yo", "oo", "ae", "iu", "kyi", "gya", "+k", "n-", "K1",
 ];
 
+/// what the choice of capitals may change, and what it must leave; more of these in worlds with lower case
+pub const CAPITALS: [&str; 24] = [
+    "K", "ZH", "Zh", "A", "Ka", "Ya", "KI", "KKI", "KA", "KYO", "SHCH", "A1B", "1ZH", "Z-H", "1", "N7", "+N", "+NG",
+    "+A", "zH", "CHI", " ZH", "ZH ", "AK",
+];
 pub const CODES: [&str; 8] = ["san", "asm", "ben", "guj", "kas", "pan", "hin", "abc"];
 pub const VOWELS: [&str; 8] = ["a", "a", "o", "aa", "an", "n", "aeio", "u"];

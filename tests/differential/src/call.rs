@@ -11,12 +11,19 @@ pub type Lent = [usize; 3];
 #[derive(Clone, Copy)]
 pub struct Call<'a> {
     pub mode: u8,
+    pub capitals: u8,
     pub parts: [&'a [u8]; 5],
     pub lent: Lent,
 }
 
-/// number, place, length and edges, as the library returns them
-pub use crate::jettyfig::Answer as Numbers;
+/// what the library returns
+#[derive(Clone, Copy, Default, PartialEq, Eq)]
+pub struct Numbers {
+    pub number: u64,
+    pub place: u64,
+    pub length: u64,
+    pub edges: u64,
+}
 
 #[derive(Clone, Copy, PartialEq, Eq)]
 pub struct Answer<'a> {

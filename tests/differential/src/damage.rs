@@ -1,4 +1,4 @@
-//! Damages a call: a mode, a table, the code or the text. What it leaves may still be valid.
+//! Damages a call: mode or capitals, a table, the code or the text. What it leaves may still be valid.
 
 use crate::damaged_table::table;
 use crate::random::Random;
@@ -6,9 +6,10 @@ use crate::random::Random;
 /// tables, code and text, to be changed in place
 pub type Parts = [Vec<u8>; 5];
 
-pub fn damage(random: &mut Random, mode: &mut u8, parts: &mut Parts) {
+pub fn damage(random: &mut Random, mode: &mut u8, capitals: &mut u8, parts: &mut Parts) {
     match random.below(100) {
-        0..5 => *mode = random.between(4, 255) as u8,
+        0..3 => *mode = random.between(4, 255) as u8,
+        3..5 => *capitals = random.between(2, 255) as u8,
         5..43 => table(random, 0, &mut parts[0]),
         43..58 => table(random, 1, &mut parts[1]),
         58..69 => table(random, 2, &mut parts[2]),
@@ -16,8 +17,8 @@ pub fn damage(random: &mut Random, mode: &mut u8, parts: &mut Parts) {
         74..92 => text(random, &mut parts[4]),
         // two at once: the one that is looked for first is named
         _ => {
-            damage(random, mode, parts);
-            damage(random, mode, parts);
+            damage(random, mode, capitals, parts);
+            damage(random, mode, capitals, parts);
         }
     }
 }

@@ -33,6 +33,7 @@ pub fn run(tester: &mut Tester, seconds: u64, seed: u64) {
     }
     let (cases, numbers) = (tester.cases, tester.by_number());
     let speed = cases as f64 / begun.elapsed().as_secs_f64();
+    println!("in {} cases the choice of capitals has changed letters", tester.capitalized);
     println!("{cases} cases, {} differ (seed {seed}: {numbers}), {speed:.0}/s", tester.differ());
 }
 
@@ -42,21 +43,30 @@ fn parts<'a>(world: &'a World, (code, text): &'a (&'static str, String)) -> [&'a
 
 /// one lattice in each mode, and some more; what is strange is strange in all of them
 fn ask(tester: &mut Tester, name: &str, random: &mut Random, parts: [&[u8]; 5], tables: Option<&Tables>) {
-    let judged = judge(0, parts, tables);
+    let capitals = random.below(2) as u8;
+    let judged = judge(0, capitals, parts, tables);
     let modes = [0, 1, 2, 3, random.below(4) as u8, random.below(4) as u8];
     let asked = if judged.strange().is_some() { 1 } else { modes.len() };
     for mode in &modes[..asked] {
-        test(tester, name, random, *mode, parts, &judged);
+        test(tester, name, random, (*mode, capitals), parts, &judged);
     }
 }
 
 /// as much as is likely to matter is lent where there is a lattice, anything where there is none
-fn test(tester: &mut Tester, name: &str, random: &mut Random, mode: u8, parts: [&[u8]; 5], judged: &Judged) {
+fn test(
+    tester: &mut Tester,
+    name: &str,
+    random: &mut Random,
+    (mode, capitals): (u8, u8),
+    parts: [&[u8]; 5],
+    judged: &Judged,
+) {
     let lent = match judged {
         Judged::Shown(shown) => rooms::some(random, &shown.added, &shown.outputs[mode as usize]),
         _ => [random.below(100), random.below(60), random.below(60)],
     };
-    let call = Call { mode, parts, lent };
+    let call = Call { mode, capitals, parts, lent };
+    tester.capitalized += judged.capitalized() as u64;
     tester.test(name, &call, &judged.wanted(mode, lent), judged.strange(), random.next());
 }
 
@@ -64,14 +74,14 @@ fn ask_damaged(tester: &mut Tester, name: &str, random: &mut Random, world: &Wor
     let asked = &world.asked[random.below(world.asked.len())];
     let whole = parts(world, asked);
     let mut damaged: Parts = whole.map(<[u8]>::to_vec);
-    let mut mode = random.below(4) as u8;
-    damage(random, &mut mode, &mut damaged);
+    let (mut mode, mut capitals) = (random.below(4) as u8, random.below(2) as u8);
+    damage(random, &mut mode, &mut capitals, &mut damaged);
     let parts = damaged.each_ref().map(|part| &part[..]);
     let read = if parts[..3] == whole[..3] { None } else { Some(Tables::read(parts[0], parts[1], parts[2])) };
     let tables = match &read {
         None => tables,
         Some(read) => read.as_ref(),
     };
-    let judged = judge(mode, parts, tables);
-    test(tester, name, random, mode, parts, &judged);
+    let judged = judge(mode, capitals, parts, tables);
+    test(tester, name, random, (mode, capitals), parts, &judged);
 }

@@ -1,10 +1,10 @@
-//! What a call must answer: by the checker where mode, tables, code or text are refused, all else by the oracle; both must
-//! agree on which it is.
+//! What a call must answer: by the checker where mode, capitals, tables, code or text are refused, all else by the oracle;
+//! both must agree on which it is.
 
 use crate::call::{Answer, Lent};
 use crate::refusals::refusal;
 use crate::rooms::answered;
-use oracle::{Shown, Tables, allowed_code, allowed_text};
+use oracle::{Shown, Tables, allowed_capitals, allowed_code, allowed_text};
 
 pub enum Judged {
     Refused(u64, u64),
@@ -14,13 +14,13 @@ pub enum Judged {
 }
 
 /// `tables` are what the oracle read of the first three parts
-pub fn judge(mode: u8, parts: [&[u8]; 5], tables: Option<&Tables>) -> Judged {
-    let refused = refusal(mode, parts);
-    let accepted =
-        (mode <= 3).then_some(()).and_then(|()| Some((tables?, allowed_code(parts[3])?, allowed_text(parts[4])?)));
+pub fn judge(mode: u8, capitals: u8, parts: [&[u8]; 5], tables: Option<&Tables>) -> Judged {
+    let refused = refusal(mode, capitals, parts);
+    let allowed = || Some((tables?, allowed_capitals(capitals)?, allowed_code(parts[3])?, allowed_text(parts[4])?));
+    let accepted = if mode <= 3 { allowed() } else { None };
     match (refused, accepted) {
         (Some((number, place)), None) => Judged::Refused(number, place),
-        (None, Some((tables, code, text))) => match tables.show(code, text) {
+        (None, Some((tables, capitals, code, text))) => match tables.show(capitals, code, text) {
             Some(shown) => Judged::Shown(shown),
             None => Judged::Strange("the oracle panicked", None),
         },
@@ -38,6 +38,11 @@ impl Judged {
             Judged::Strange(_, None) => Answer::done(&[], 0),
             Judged::Shown(shown) => answered(&shown.added, &shown.outputs[mode as usize], lent),
         }
+    }
+
+    /// whether the choice of capitals has changed letters
+    pub fn capitalized(&self) -> bool {
+        matches!(self, Judged::Shown(shown) if shown.capitalized > 0)
     }
 
     pub fn strange(&self) -> Option<String> {

@@ -1,14 +1,19 @@
 //! The proved library, called in guarded rooms.
 
 use crate::call::{Call, Numbers, PARTS, ROOMS};
-use crate::jettyfig::{Rooms, Tables, romanize};
+// the library is built for x86-64: on another processor it can't be linked
+#[cfg(not(target_arch = "x86_64"))]
+use crate::emulated::Callee;
+#[cfg(target_arch = "x86_64")]
+use crate::linked::Callee;
+use std::path::Path;
 
 const GUARD: [u8; 16] = *b"guard behind it.";
 
 /// a lent slice, and the guard behind it
 #[derive(Default)]
 pub struct Slice {
-    bytes: Vec<u8>,
+    pub bytes: Vec<u8>,
 }
 
 impl Slice {
@@ -43,14 +48,20 @@ impl Slice {
 }
 
 /// What a call got and what it left; used again and again, so that a call allocates nothing.
-#[derive(Default)]
 pub struct Library {
+    callee: Callee,
     parts: [Slice; 5],
     rooms: [Slice; 3],
     pub numbers: Numbers,
 }
 
 impl Library {
+    /// `folder` has what `run` built
+    pub fn new(folder: &Path) -> Self {
+        let (parts, rooms) = Default::default();
+        Library { callee: Callee::start(folder), parts, rooms, numbers: Numbers::default() }
+    }
+
     pub fn call(&mut self, call: &Call, rubbish: u64) {
         for (slice, part) in self.parts.iter_mut().zip(call.parts) {
             slice.put(part);
@@ -58,9 +69,7 @@ impl Library {
         for (slice, n) in self.rooms.iter_mut().zip(call.lent) {
             slice.put_rubbish(n, rubbish);
         }
-        let [rules, classes, vowels, code, text] = self.parts.each_ref().map(Slice::lent);
-        let [slots, room, out] = self.rooms.each_mut().map(Slice::lent_mut);
-        self.numbers = romanize(call.mode, Tables { rules, classes, vowels }, code, text, Rooms { slots, room, out });
+        self.numbers = self.callee.call(call, &mut self.parts, &mut self.rooms);
     }
 
     pub fn room(&self, k: usize) -> &[u8] {

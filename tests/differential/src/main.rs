@@ -1,10 +1,10 @@
-//! Holds the proved library against the published Rust, in one process.
+//! Holds the proved library against the published Rust.
 //!
 //!     differential FOLDER SECONDS SEED [--spoil N]     cases from a seed
 //!     differential FOLDER --calls FILE.. [--spoil N]   calls of files
 //!
-//! FOLDER gets a call file for each difference. Status 0: none differs, or exactly the spoilt ones; 1: otherwise;
-//! 2: bad usage, or a file cannot be read.
+//! FOLDER gets a call file for each difference; where the library can't be linked, it has the program `answers`. Status 0:
+//! none differs, or exactly the spoilt ones; 1: otherwise; 2: bad usage, or a file cannot be read.
 
 mod alphabets;
 mod call;
@@ -13,11 +13,16 @@ mod compare;
 mod damage;
 mod damaged_rule;
 mod damaged_table;
+#[cfg(not(target_arch = "x86_64"))]
+mod emulated;
 mod generated;
+#[cfg(target_arch = "x86_64")]
 #[path = "../../../include/jettyfig.rs"]
 mod jettyfig;
 mod judge;
 mod library;
+#[cfg(target_arch = "x86_64")]
+mod linked;
 mod random;
 mod recorded;
 mod refusals;

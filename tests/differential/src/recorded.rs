@@ -33,7 +33,7 @@ pub fn run(tester: &mut Tester, paths: &[String]) -> Result<(), String> {
 /// how oracle and checker differ from what is recorded
 fn unlike(call: &Call, recorded: &Answer) -> Option<String> {
     let tables = Tables::read(call.parts[0], call.parts[1], call.parts[2]);
-    let judged = judge(call.mode, call.parts, tables.as_ref());
+    let judged = judge(call.mode, call.capitals, call.parts, tables.as_ref());
     judged.strange().or_else(|| {
         let wanted = judged.wanted(call.mode, call.lent);
         let both = || format!("{}, recorded {}", told(&wanted.numbers), told(&recorded.numbers));

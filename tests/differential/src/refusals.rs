@@ -1,5 +1,6 @@
 //! What a call is refused by before its lattice, and where: document 01's "Numbers a call returns" and "Table and output
-//! bytes", written from its words alone. The rule table's refusals are in rule_refusals.rs.
+//! bytes", and for capitals ticket 2 (docs/DECISIONS.md), written from their words alone. The rule table's refusals are in
+//! rule_refusals.rs.
 
 use crate::rule_refusals::rule_fault;
 
@@ -9,9 +10,12 @@ const MOST_TEXT: usize = 512;
 /// number and place; none where the call goes on to its lattice
 pub type Refusal = Option<(u64, u64)>;
 
-pub fn refusal(mode: u8, [rules, classes, vowels, code, text]: [&[u8]; 5]) -> Refusal {
+pub fn refusal(mode: u8, capitals: u8, [rules, classes, vowels, code, text]: [&[u8]; 5]) -> Refusal {
     if mode > 3 {
         return Some((1, 0));
+    }
+    if capitals > 1 {
+        return Some((12, 0));
     }
     let faulty = |number| move |place: usize| (number, place as u64);
     rule_fault(rules)
@@ -83,7 +87,7 @@ fn class_fault(table: &[u8]) -> Option<usize> {
         let rises = last.is_none_or(|last| last < c);
         let space_right = c != 0x20 || (category, script, flags) == (7, 0, 0);
         let letter = (0x41..=0x5A).contains(&c) || (0x61..=0x7A).contains(&c);
-        let right = scalar(c) && category <= 7 && script <= 127 && flags <= 127;
+        let right = scalar(c) && category <= 7 && script <= 127;
         last = Some(c);
         (right && rises && space_right && (!letter || category == 1)).then_some(6)
     })

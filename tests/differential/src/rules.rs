@@ -1,6 +1,6 @@
 //! The rules of a world, made from pieces of its texts.
 
-use crate::alphabets::{CODES, EN_DASH, PRE, TARGETS, USUAL};
+use crate::alphabets::{CAPITALS, CODES, EN_DASH, PRE, TARGETS, USUAL};
 use crate::rows::{Rule, block};
 use crate::world::{Maker, Text};
 
@@ -106,7 +106,11 @@ impl Maker<'_> {
             && let Some((_, usual)) = USUAL.iter().find(|(d, _)| d == c)
             && self.chance(0.5)
         {
-            return usual.as_bytes().to_vec();
+            let large = self.cased && self.chance(0.5);
+            return if large { usual.to_ascii_uppercase() } else { usual.to_string() }.into_bytes();
+        }
+        if self.cased && self.chance(0.6) {
+            return self.random.choice(&CAPITALS).as_bytes().to_vec();
         }
         if self.chance(0.03) {
             let n = self.random.choice(&[3, 5, 9, 64]);

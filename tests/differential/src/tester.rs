@@ -17,6 +17,8 @@ pub struct Tester {
     /// whether a case that differs is written to a file of its own
     pub keeps: bool,
     pub cases: u64,
+    /// cases in which the choice of capitals has changed letters
+    pub capitalized: u64,
     /// cases by the number that was wanted
     numbers: [u64; HIGHEST_NUMBER + 1],
     differ: u64,
@@ -25,9 +27,9 @@ pub struct Tester {
 
 impl Tester {
     pub fn new(folder: PathBuf, spoil: Spoil) -> Self {
-        let library = Library::default();
+        let library = Library::new(&folder);
         let numbers = [0; HIGHEST_NUMBER + 1];
-        Tester { folder, library, spoil, keeps: true, cases: 0, numbers, differ: 0, spoilt_found: 0 }
+        Tester { folder, library, spoil, keeps: true, cases: 0, capitalized: 0, numbers, differ: 0, spoilt_found: 0 }
     }
 
     /// One case, unless there were differences enough. `strange` says what is wrong with it before the library is asked.
@@ -52,7 +54,8 @@ impl Tester {
 
     fn report(&mut self, name: &str, call: &Call, wanted: &Answer, what: &str) {
         self.differ += 1;
-        println!("difference {}: {name} case {}, mode {}: {what}", self.differ, self.cases, call.mode);
+        let Call { mode, capitals, .. } = call;
+        println!("difference {}: {name} case {}, mode {mode}, capitals {capitals}: {what}", self.differ, self.cases);
         if self.keeps {
             println!("{}", keep(&self.folder, call, wanted).unwrap_or_else(|e| format!("not kept: {e}")));
         }

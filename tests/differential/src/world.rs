@@ -1,7 +1,7 @@
 //! A world: tables, and texts and codes to ask under them. Small alphabets meet random rules made from pieces of the texts,
 //! so that sources match, targets chain and the special characters stand beside each other.
 
-use crate::alphabets::{Alphabet, CODES, LETTER, LIKELY, VOWELS, ZS};
+use crate::alphabets::{Alphabet, CODES, LETTER, LIKELY, LOWER, VOWELS, ZS};
 use crate::random::Random;
 use crate::rows::{Class, block, class_row, vowel_row};
 
@@ -32,6 +32,8 @@ pub struct Maker<'r> {
     pub kinds: Vec<(char, Class)>,
     pub phrases: Vec<&'static str>,
     pub code: &'static str,
+    /// whether there is lower case, and many targets have capitals
+    pub cased: bool,
     /// what texts are made from, some of it more often
     pub letters: Vec<char>,
 }
@@ -46,7 +48,9 @@ impl<'r> Maker<'r> {
             }
         }
         let code = if random.chance(3.0 / 11.0) { "" } else { random.choice(&CODES) };
-        let mut maker = Maker { random, alphabets, kinds: Vec::new(), phrases: Vec::new(), code, letters: Vec::new() };
+        let cased = random.chance(0.4);
+        let (kinds, phrases, letters) = Default::default();
+        let mut maker = Maker { random, alphabets, kinds, phrases, code, cased, letters };
         for alphabet in maker.alphabets.clone() {
             let all = alphabet.kinds;
             let n = maker.random.between(all.len().min(3), all.len());
@@ -102,6 +106,9 @@ impl<'r> Maker<'r> {
             if strange {
                 self.kinds[k].1 = self.bent(c, kind, &scripts);
             }
+            if self.chance(if self.cased { 0.7 } else { 0.03 }) {
+                self.kinds[k].1.2 |= LOWER;
+            }
             if self.chance(0.05) {
                 self.kinds.remove(k);
             }
@@ -126,8 +133,8 @@ impl<'r> Maker<'r> {
         if self.chance(0.3) {
             flags = match self.random.below(3) {
                 0 => 0,
-                1 => 1 << self.random.below(7),
-                _ => self.random.below(128) as u8,
+                1 => 1 << self.random.below(8),
+                _ => self.random.byte(),
             };
         }
         (category, script, flags)

@@ -109,6 +109,9 @@ pub fn class_of(c: char) -> (u8, u8, u8) {
 fn flag(c: char, bit: u8) -> bool {
     class_of(c).2 >> bit & 1 == 1
 }
+pub fn is_lower(c: char) -> bool {
+    flag(c, 7)
+}
 
 #[derive(Clone, Copy)]
 pub struct Dicts {

@@ -2,6 +2,7 @@
 //! `Tables` for many texts under the same ones.
 #![allow(dead_code, clippy::all)]
 
+mod capitals;
 mod dicts;
 mod edge;
 mod lattice;
@@ -37,7 +38,7 @@ pub const PANICKED: u8 = 1;
 pub const REFUSED: u8 = 2;
 
 pub struct Answer {
-    /// `DONE`, `PANICKED`, or `REFUSED` for mode, tables, code or text
+    /// `DONE`, `PANICKED`, or `REFUSED` for mode, capitals, tables, code or text
     pub status: u8,
     pub output: Vec<u8>,
     /// start and text length of every lattice edge, in adding order
@@ -49,6 +50,8 @@ pub struct Shown {
     pub outputs: [Vec<u8>; 4],
     /// as in `Answer`
     pub added: Vec<(usize, usize)>,
+    /// how many romanizations the Python rule for capitals has changed
+    pub capitalized: usize,
 }
 
 /// Tables that were read once.
@@ -62,24 +65,27 @@ impl Tables {
         tables::read(rules, classes, vowels).map(|data| Tables { data })
     }
 
-    /// The output of a mode, and nothing besides. A text that `allowed_text` refuses is no text to ask.
+    /// The output of a mode as published, and nothing besides. A text that `allowed_text` refuses is no text to ask.
     pub fn romanize(&self, mode: u8, code: &str, text: &str) -> Vec<u8> {
-        self.installed(|dicts| output(&mut filled(dicts, code, text), mode, text))
+        self.installed(false, |dicts| output(&mut filled(dicts, code, text), mode, text))
     }
 
     /// The lattice of a text in all modes; none where the Rust panics.
-    pub fn show(&self, code: &str, text: &str) -> Option<Shown> {
+    pub fn show(&self, capitals: bool, code: &str, text: &str) -> Option<Shown> {
         let shown = || {
-            self.installed(|dicts| {
+            self.installed(capitals, |dicts| {
                 let (mut lattice, added) = filled_and_counted(dicts, code, text);
-                Shown { outputs: [0, 1, 2, 3].map(|mode| output(&mut lattice, mode, text)), added }
+                let capitalized = shim::choice::changes();
+                Shown { outputs: [0, 1, 2, 3].map(|mode| output(&mut lattice, mode, text)), added, capitalized }
             })
         };
         catch_unwind(AssertUnwindSafe(shown)).ok()
     }
 
-    fn installed<T>(&self, run: impl FnOnce(Dicts) -> T) -> T {
+    /// `capitals` chooses the Python rule
+    fn installed<T>(&self, capitals: bool, run: impl FnOnce(Dicts) -> T) -> T {
         let _taken_out_again = Installed;
+        shim::choice::set(capitals);
         // SAFETY: `run` returns outputs and numbers; none of them points into the tables.
         run(unsafe { Dicts::install(&self.data) })
     }
@@ -139,14 +145,20 @@ pub fn allowed_code(code: &[u8]) -> Option<&str> {
     std::str::from_utf8(code).ok().filter(|_| right)
 }
 
-pub fn answer(mode: u8, [rules, classes, vowels, code, text]: [&[u8]; 5]) -> Answer {
+/// A choice that no call refuses: whether capitals are as the Python has them.
+pub fn allowed_capitals(capitals: u8) -> Option<bool> {
+    (capitals <= 1).then_some(capitals == 1)
+}
+
+pub fn answer(mode: u8, capitals: u8, [rules, classes, vowels, code, text]: [&[u8]; 5]) -> Answer {
     let empty = |status| Answer { status, output: Vec::new(), added: Vec::new() };
     let read = Tables::read(rules, classes, vowels);
-    let (Some(tables), Some(code), Some(text), 0..=3) = (read, allowed_code(code), allowed_text(text), mode) else {
+    let asked = (allowed_capitals(capitals), allowed_code(code), allowed_text(text));
+    let (Some(tables), (Some(capitals), Some(code), Some(text)), 0..=3) = (read, asked, mode) else {
         return empty(REFUSED);
     };
     let run = || {
-        tables.installed(|dicts| {
+        tables.installed(capitals, |dicts| {
             let (mut lattice, added) = filled_and_counted(dicts, code, text);
             Answer { status: DONE, output: output(&mut lattice, mode, text), added }
         })

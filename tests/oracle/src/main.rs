@@ -1,8 +1,8 @@
 //! The oracle: calls answered by the published Rust, whose left-out passes are switched off.
 //!
-//! Standard input holds cases one after another: a mode byte, then rules, classes, vowels,
+//! Standard input holds cases one after another: a mode byte and a capitals byte, then rules, classes, vowels,
 //! language code and text, each a 4-byte big-endian length and its bytes.
-//! Standard output holds for each a status (0 done, 1 panicked, 2 refused for mode, tables, code or text),
+//! Standard output holds for each a status (0 done, 1 panicked, 2 refused for mode, capitals, tables, code or text),
 //! the count of lattice edges (4), the output's length (4) and bytes, and then the lattice edges
 //! in adding order, each its start (2) and the length of its text (2).
 
@@ -27,12 +27,12 @@ fn main() {
     let mut out = std::io::BufWriter::new(std::io::stdout().lock());
     let mut r = Reader::new(&input);
     while !r.done() {
-        let mode = r.number(1).unwrap() as u8;
+        let [mode, capitals] = [(); 2].map(|_| r.number(1).unwrap() as u8);
         let parts = [(); 5].map(|_| {
             let n = r.number(4).unwrap() as usize;
             r.take(n).unwrap()
         });
-        write(&mut out, &oracle::answer(mode, parts)).unwrap();
+        write(&mut out, &oracle::answer(mode, capitals, parts)).unwrap();
     }
     out.flush().unwrap();
     oracle::report();

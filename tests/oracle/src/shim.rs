@@ -46,6 +46,30 @@ impl<'a> IntoIterator for &'a OrderedSet {
     }
 }
 
+/// Whether a call chooses the Python rule for capitals, and how many romanizations that has changed.
+pub mod choice {
+    use std::cell::Cell;
+
+    thread_local! {
+        static CAPITALS: Cell<bool> = const { Cell::new(false) };
+        static CHANGES: Cell<usize> = const { Cell::new(0) };
+    }
+
+    pub fn set(capitals: bool) {
+        CAPITALS.set(capitals);
+        CHANGES.set(0);
+    }
+    pub fn capitals() -> bool {
+        CAPITALS.get()
+    }
+    pub fn note_change() {
+        CHANGES.set(CHANGES.get() + 1);
+    }
+    pub fn changes() -> usize {
+        CHANGES.get()
+    }
+}
+
 /// Counts of the blocks entered; coverage.py writes the calls of `enter`, a plain build has none.
 pub mod blocks {
     use std::collections::HashMap;

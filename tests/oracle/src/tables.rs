@@ -110,7 +110,6 @@ fn read_classes(data: &mut Data, bytes: &[u8]) -> Option<()> {
         let c = char::from_u32(value)?;
         if category > 7
             || script > 127
-            || flags > 127
             || (c == ' ' && (category, script, flags) != (7, 0, 0))
             || (c.is_ascii_alphabetic() && category != 1)
             || data.classes.last().is_some_and(|row| row.0 >= value)
