@@ -19,7 +19,7 @@ among-all String.[] P h c e = absurd (true≢false (sym e))
 among-all (String._∷_ d s) P h c e = or-cases (eqb (code d) c) (among s c)
     (λ q. subst P (eqb-true (code d) c q) (h .0)) (among-all s P (h .1) c) e
 
--- a vowel is no consonant but a small letter, and neither is a space
+-- a vowel is no consonant, and a small letter; neither of both is a space
 pub vowel-no-consonant : (c : ℕ) → vowels c ≡ true → consonants c ≡ false
 unfolding vowels consonants among
 vowel-no-consonant = among-all "aeiou" (λ c. consonants c ≡ false) (refl, (refl, (refl, (refl, (refl, tt)))))

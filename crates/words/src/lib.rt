@@ -11,7 +11,7 @@ ghost use Rattle.definition.specs.ClassRows.{classes-of};
 ghost use Rattle.definition.specs.Boundaries.{fresh, word-start, word-end};
 ghost use Rattle.table_classes.specs.Told.{alphas-of};
 ghost use Rattle.words.specs.Did.{Asked};
-ghost use Rattle.words.specs.Given.{World, kinds, seen, size-in, kind-in, index-in, letters-in, choices-in, Prepared, Told, Lined, Lent, alpha-kind};
+ghost use Rattle.words.specs.Given.{World, kinds, seen, size-in, kind-in, index-from, index-in, letters-in, choices-in, Prepared, Told, Lined, Lent, alpha-kind};
 ghost use Rattle.words.specs.Found.{Row, Rows, rules-in};
 ghost use Rattle.words.specs.Looks.{Looked};
 ghost use Rattle.words.specs.Choosing.{choices-of};
@@ -142,7 +142,7 @@ pub fn choices_in(ready: &[u32]) -> Choices
 
 // The index of the rule table with what is kept of characters, behind the choices.
 pub fn index_in<'a>(ready: &'a [u32]) -> &'a [u32]
-    requires { ⌜ 129 ≤ length (now ready) ⌝ }
+    requires { ⌜ index-from ≤ length (now ready) ⌝ }
     ensures { λ r. ⌜ now r ≡ index-in (now (ready .entry)) ⌝ }
 {
     &ready[INDEX..]
