@@ -27,7 +27,7 @@ use Rattle.definition.specs.Rules.{spans, holds-at}
 use Rattle.definition.specs.Cores.{Syllable}
 use Rattle.definition.specs.Bounds.{Sound}
 use Rattle.definition.specs.Growth.{all-bytes}
-use Rattle.definition.specs.Cover.{right-sound}
+use Rattle.definition.specs.Cover.{right-all}
 use Rattle.definition.specs.Paths.{join, next, path-from}
 use Rattle.definition.specs.Recalled.{told-start, Recalls, asked-recalls, valid-rules}
 use Rattle.definition.specs.Offers.{found-by, found-all, found-alike}
@@ -158,11 +158,11 @@ module _ (L : Lexicon) (t : Text) (v : View) where
 
 -- the best edge at a position is one of all
 pub best-sound : (n p : ℕ) (es : List Edge) (o : Option Edge) → All (Sound n) es → o ≡ right-best es p → Opt (Sound n) o
-best-sound n p es o h e = subst (Opt (Sound n)) (sym e) (Opt-map (λ x z. z .0) (right-best es p) (right-sound n p es h))
+best-sound n p es o h e = subst (Opt (Sound n)) (sym e) (Opt-map (λ x z. z .0) (right-best es p) (right-all (Sound n) p es h))
 
 -- where the path goes on from there
 pub next-inside : (n p : ℕ) (es : List Edge) (o : Option Edge) → All (Sound n) es → o ≡ right-best es p → p < n → (p < next o p) × (next o p ≤ n)
-next-inside n p es o h e l = go o (subst (Opt (λ x. Sound n x × (x .from ≡ p))) (sym e) (right-sound n p es h))
+next-inside n p es o h e l = go o (subst (Opt (λ x. Sound n x × (x .from ≡ p))) (sym e) (right-all (Sound n) p es h))
   where
     go : (o : Option Edge) → Opt (λ x. Sound n x × (x .from ≡ p)) o → (p < next o p) × (next o p ≤ n)
     go none z = (omega arith, omega arith)
@@ -173,7 +173,7 @@ module _ (n : ℕ) (es : List Edge) (h : All (Sound n) es) where
   path-over : (k p : ℕ) → n ≤ p → path-from k p es ≡ []
   unfolding path-from
   path-over zero p l = refl
-  path-over (suc k) p l = go (right-best es p) (right-sound n p es h) (path-over k (p + 1) (omega arith))
+  path-over (suc k) p l = go (right-best es p) (right-all (Sound n) p es h) (path-over k (p + 1) (omega arith))
     where
       go : (o : Option Edge) → Opt (λ x. Sound n x × (x .from ≡ p)) o → path-from k (p + 1) es ≡ [] → join o (path-from k (next o p) es) ≡ []
       go none s z = z

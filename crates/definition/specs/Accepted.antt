@@ -1,4 +1,4 @@
--- What a call has checked when it refuses nothing of 1 to 8 and 12: its tables' rows are right, and its text is short enough.
+-- What a call has checked when it refuses nothing of 1 to 8, 12 and 13: its tables' rows are right, and its text is short enough.
 use mathlib.Core.Bool.{Bool, true, false}
 use mathlib.Core.Path.{_≡_, refl}
 use mathlib.Core.List.{List, []}
@@ -21,6 +21,7 @@ use Rattle.definition.specs.RuleRows.{rule-size, rule-source, rule-right
 use Rattle.definition.specs.RuleFaults.{row-fault, rule-fault}
 use Rattle.definition.specs.ClassRows.{class-fault, class-size, class-next, class-right, class-of, classes-of}
 use Rattle.definition.specs.VowelRows.{vowel-fault, vowel-size, vowel-next, vowel-right, vowel-of, vowels-of}
+use Rattle.definition.specs.DecompositionRows.{decomposition-fault}
 use Rattle.definition.specs.Refusals.{refuse, refused-length, when, placed}
 use Rattle.definition.specs.Call.{Inputs, characters, code-right, first-left-out, before-text, text-refusal, refusal}
 use Rattle.definition.specs.BlockTurns.{Chain, offset-tells, fault-none, chain-each, chain-few}
@@ -99,6 +100,7 @@ pub record Accepted (i : Inputs) : Type 0 where
   pub rules : rule-fault (i .rules) ≡ none
   pub classes : class-fault (i .classes) ≡ none
   pub vowels : vowel-fault (i .vowels) ≡ none
+  pub decompositions : decomposition-fault (i .decompositions) ≡ none
   pub code : code-right (i .code) ≡ true
   pub text : bad-sequence (i .text) ≡ none
   pub size : length (characters i) ≤ most-characters
@@ -123,7 +125,8 @@ accepted-of i e =
     let b = or-none _ _ (m .1) in
     let c = or-none _ _ (b .1) in
     let d = or-none _ _ (c .1) in
-    let f = or-none _ _ (d .1) in
+    let z = or-none _ _ (d .1) in
+    let f = or-none _ _ (z .1) in
     let g = or-none _ _ (both .1) in
     let h = or-none _ _ (g .1) in
     let k = or-none _ _ (h .1) in
@@ -133,6 +136,7 @@ accepted-of i e =
       rules = b .0;
       classes = placed-none _ _ (c .0);
       vowels = placed-none _ _ (d .0);
+      decompositions = placed-none _ _ (z .0);
       code = not-false _ (when-none _ _ _ (f .0));
       text = placed-none _ _ (g .0);
       size = ltb-false most-characters _ (when-none _ _ _ (h .0));
@@ -148,6 +152,7 @@ refusal-of i a = rw (
   a .rules,
   a .classes,
   a .vowels,
+  a .decompositions,
   a .code,
   a .text,
   le-ltb most-characters (length (characters i)) (a .size),

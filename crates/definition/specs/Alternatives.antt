@@ -11,18 +11,17 @@ use lib.Seq.{drop-append-seam}
 use borrow.Author.Tests.{eqb-true}
 use Rattle.base.specs.Pick.{pick, pick-all, pick-ind}
 use Rattle.base.specs.Bools.{and-left}
-use Rattle.base.specs.Lists.{all, is}
 use Rattle.base.specs.Alls.{All, All-each, All-map, All-append, All-keep, All-best, Opt, Opt-any, Opt-map, maybe-all, all-all}
 use Rattle.definition.specs.Limits.{most-target, most-vowel, most-alternative}
 use Rattle.definition.specs.Notes.{note-core, note-alt, note-alt2, note-alt3}
 use Rattle.definition.specs.Texts.{Text, vowels}
 use Rattle.definition.specs.Tables.{Rule, Lexicon, lexicon}
 use Rattle.definition.specs.Edges.{Edge, View, M, starting, right-best, new-in, view}
-use Rattle.definition.specs.Building.{lattice}
 use Rattle.definition.specs.Capacity.{bytes}
 use Rattle.definition.specs.Paths.{join, next, path-from, akin, other, also-all, cored, by-target, by-end-target, by-rule, by-rules, by-edges, path-of}
-use Rattle.definition.specs.Paths.{with-alternatives-of, path, with-alternatives, alternatives}
-use Rattle.definition.specs.Call.{Inputs, tables, characters, refusal}
+use Rattle.definition.specs.Paths.{with-alternatives-of}
+use Rattle.definition.specs.Decomposing.{lattice, edges, path, with-alternatives, alternatives}
+use Rattle.definition.specs.Call.{Inputs, tables, decompositions, characters, refusal}
 use Rattle.definition.specs.Accepted.{accepted-of}
 use Rattle.definition.specs.Growth.{Added, added-not, added-twice, added-new}
 use Rattle.definition.specs.Shorts.{Low, Short, short-none, short-wide, short-append, encoded-low}
@@ -30,8 +29,8 @@ use Rattle.definition.specs.Posts.{Post, post-ret, post-bind, valids-all
 use Rattle.definition.specs.Letters.{among-all}
 use Rattle.definition.specs.ExpandBounds.{Spoken}
 use Rattle.definition.specs.Cores.{Syllable}
-use Rattle.definition.specs.Bounds.{Sound, lattice-sound}
-use Rattle.definition.specs.Promises.{bounded}
+use Rattle.definition.specs.Bounds.{Known, Formed}
+use Rattle.definition.specs.Promises.{bounded, formed-edges}
 
 -- What the rules of an edge add, each of it as `P` says, where each rule's texts would give such edges
 abbrev pub edge-vowel : Edge → Text → Text
@@ -97,13 +96,13 @@ then-short text core y =
     ap (λ n. drop n text) (y .size) ∙ ap (drop (length (y .first))) (y .whole) ∙ drop-append-seam (y .first) (y .then) in
     subst (Short most-vowel) (sym e) (record { long = y .few; low = all-all Low vowels vowels-low (y .then) (y .vowels) })
 
-module _ (n : ℕ) (x : Edge) (sound : Sound n x) where
+module _ (n : ℕ) (x : Edge) (formed : Formed n x) where
   other-alternative : (note : ℕ) (w : Text) → (note ≡ note-alt) ⊎ (note ≡ note-alt3) → Short most-alternative w
       → Alternative n (other x note w)
   unfolding other bytes
   other-alternative note w k s = record {
-    forward = sound .forward;
-    inside = sound .inside;
+    forward = formed .forward;
+    inside = formed .inside;
     note = k;
     core = refl;
     short = rw (encoded-low w (s .low)) (s .long);
@@ -112,7 +111,7 @@ module _ (n : ℕ) (x : Edge) (sound : Sound n x) where
   vowel-short : (w : Text) → Short most-vowel (edge-vowel x w)
   unfolding cored
   vowel-short w = pick-ind (Short most-vowel) _ _ _
-      (λ e. then-short (x .text) (x .core) (sound .core .there (eqb-true (x .note) note-core (and-left _ _ e))))
+      (λ e. then-short (x .text) (x .core) (formed .core .there (eqb-true (x .note) note-core (and-left _ _ e))))
       (λ e. short-none most-vowel)
 
   spoken-gives : (r : Rule) → Spoken r → Gives (Alternative n) x r
@@ -123,7 +122,7 @@ module _ (n : ℕ) (x : Edge) (sound : Sound n x) where
   }
 
 module _ (L : Lexicon) (t : Text) (v : View) (n : ℕ) (spoken : All Spoken (L .rules)) where
-  by-edges-new : (xs seen : List Edge) → All (Sound n) xs → Post (List Edge) (Added (Alternative n) seen) (by-edges L t v xs seen)
+  by-edges-new : (xs seen : List Edge) → All (Formed n) xs → Post (List Edge) (Added (Alternative n) seen) (by-edges L t v xs seen)
   unfolding by-edges
   by-edges-new [] seen h = post-ret seen (added-not seen)
   by-edges-new (x ∷ xs) seen h = post-bind (All Spoken) _ (valids-all L t v Spoken (x .from) (x .to) spoken)
@@ -145,22 +144,23 @@ path-sound P (suc k) p es h = go (right-best es p) (All-best P _ (starting es p)
 
 -- Mode 2 lists the path, then the alternatives
 pub record Listed (i : Inputs) : Type 0 where
-  pub whole : with-alternatives (tables i) (characters i) ≡ path (tables i) (characters i) ++ alternatives (tables i) (characters i)
-  pub path : All (Sound (length (characters i))) (path (tables i) (characters i))
-  pub alternatives : All (Alternative (length (characters i))) (alternatives (tables i) (characters i))
+  pub whole : with-alternatives (tables i) (decompositions i) (characters i) ≡ path (tables i) (decompositions i) (characters i) ++ alternatives (tables i) (decompositions i) (characters i)
+  pub path : All (Formed (length (characters i))) (path (tables i) (decompositions i) (characters i))
+  pub alternatives : All (Alternative (length (characters i))) (alternatives (tables i) (decompositions i) (characters i))
 
 pub listed : (i : Inputs) → refusal i ≡ none → Listed i
-unfolding path path-of with-alternatives with-alternatives-of alternatives
+unfolding path path-of with-alternatives with-alternatives-of alternatives edges
 listed i e =
     let D = tables i in
     let t = characters i in
     let ok = bounded i (accepted-of i e) in
-    let es = lattice D t .0 in
+    let ds = decompositions i in
+    let es = lattice D ds t .0 in
     let xs = path-from (length t) 0 es in
-    let h = path-sound (Sound (length t)) (length t) 0 es (lattice-sound D ok t) in
+    let h = path-sound (Formed (length t)) (length t) 0 es (formed-edges i e) in
     let v = view (D .classes) es in
-    let a = by-edges-new (lexicon D) t v (length t) (ok .rules) xs xs h .gives (lattice D t .1) in
-    let own : drop (length xs) ((by-edges (lexicon D) t v xs xs (lattice D t .1)) .0) ≡ a .more = ap (drop (length xs)) (a .is) ∙ drop-append-seam xs (a .more) in
+    let a = by-edges-new (lexicon D) t v (length t) (ok .rules) xs xs h .gives (lattice D ds t .1) in
+    let own : drop (length xs) ((by-edges (lexicon D) t v xs xs (lattice D ds t .1)) .0) ≡ a .more = ap (drop (length xs)) (a .is) ∙ drop-append-seam xs (a .more) in
     record {
       whole = a .is ∙ ap (λ l. xs ++ l) (sym own);
       path = h;
@@ -168,14 +168,18 @@ listed i e =
     }
 
 -- No listed edge has the annotation "rom-alt2"
-pub no-alt2 : (i : Inputs) → refusal i ≡ none → All (λ x. x .note ≡ note-alt2 → ⊥) (with-alternatives (tables i) (characters i))
+pub no-alt2 : (i : Inputs) → refusal i ≡ none → All (λ x. x .note ≡ note-alt2 → ⊥) (with-alternatives (tables i) (decompositions i) (characters i))
 no-alt2 i e =
     let l = listed i e in
     let P : Edge → Type 0 = λ x. x .note ≡ note-alt2 → ⊥ in
-    subst (All P) (sym (l .whole)) (All-append P (path (tables i) (characters i)) (alternatives (tables i) (characters i))
-    (All-map (λ x s z. let k = s .known in omega arith) (path (tables i) (characters i)) (l .path))
-    (All-map (λ x s z. either (x .note) (s .note) z) (alternatives (tables i) (characters i)) (l .alternatives)))
+    subst (All P) (sym (l .whole)) (All-append P (path (tables i) (decompositions i) (characters i)) (alternatives (tables i) (decompositions i) (characters i))
+    (All-map (λ x s z. own (x .note) (s .known) z) (path (tables i) (decompositions i) (characters i)) (l .path))
+    (All-map (λ x s z. either (x .note) (s .note) z) (alternatives (tables i) (decompositions i) (characters i)) (l .alternatives)))
   where
+    own : (k : ℕ) → Known k → k ≡ note-alt2 → ⊥
+    own k (inl p) z = omega arith
+    own k (inr p) z = omega arith
+
     either : (k : ℕ) → (k ≡ note-alt) ⊎ (k ≡ note-alt3) → k ≡ note-alt2 → ⊥
     either k (inl p) z = omega arith
     either k (inr p) z = omega arith

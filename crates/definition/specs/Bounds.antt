@@ -1,27 +1,28 @@
--- Every edge of the lattice goes forward, lies within the text, has a text of 198 bytes at most, and a core as its
--- text has it.
+-- Every edge that a rule or a fallback gives goes forward, lies within the text, has a text of 198 bytes at most, and a
+-- core as its text has it.
 use mathlib.Core.Bool.{Bool, true, false}
 use mathlib.Core.Path.{_≡_, refl}
-use mathlib.Core.List.{List, [], _∷_, _++_}
+use mathlib.Core.Logic.{_⊎_, inl}
+use mathlib.Core.List.{List, [], _∷_}
 use mathlib.Core.Option.{Option, none, some}
 use Prim.Native.Nat.{ℕ, zero, suc, _+_, _-_, _≤_, _<_}
 use native.Mathlib.Omega.{arith}
 use lib.ListN.{length, replicate, length-append}
 use Rattle.base.specs.Pick.{pick-all}
-use Rattle.base.specs.Lists.{any}
-use Rattle.base.specs.Alls.{All, All-append, Opt, Opt-map, maybe-all, bind-all}
+use Rattle.base.specs.Alls.{All, Opt, Opt-map, maybe-all, bind-all}
 use Rattle.definition.specs.Limits.{most-target, most-vowel, most-bytes, most-source}
-use Rattle.definition.specs.Notes.{note-core, note-single, note-Mn, note-Cf, note-Co, note-Zs, note-orig}
+use Rattle.definition.specs.Notes.{note-core, note-single, note-Mn, note-Cf, note-Co, note-Zs, note-orig, note-decomp}
 use Rattle.definition.specs.Texts.{Text, at, the-space}
 use Rattle.definition.specs.Utf8.{encode, encoded}
 use Rattle.definition.specs.Tables.{Tables, lexicon}
 use Rattle.definition.specs.Classes.{class}
-use Rattle.definition.specs.Edges.{Edge, View, M, State, starting, covered, alike, new-in, add, view}
+use Rattle.definition.specs.Edges.{Edge, View, M, State, covered, view}
 use Rattle.definition.specs.Rules.{is-prefix, simple}
 use Rattle.definition.specs.Syllables.{syllable-end, full}
-use Rattle.definition.specs.Building.{is-tail, without-plus, as-edge, single, fallback-plus, fallback-by, put-in, each, fallback-edge, edge-of, span-edge, rise, build, fall, lattice}
+use Rattle.definition.specs.Building.{is-tail, without-plus, as-edge, single, fallback-plus, fallback-by, put-in, each, fallback-edge, edge-of, span-edge, rise, build, fall, lattice-by, rule-lattice}
 use Rattle.definition.specs.Capacity.{bytes}
-use Rattle.definition.specs.Shorts.{Short, short-none, short-wide, short-tail, encoded-low, encode-length}
+use Rattle.definition.specs.Growth.{Added, added-not, added-twice, added-map, added-all, put-in-added, each-added}
+use Rattle.definition.specs.Shorts.{Low, Short, short-none, short-wide, short-tail, encoded-low, encode-length}
 use Rattle.definition.specs.Posts.{Post, post-ret, post-bind, post-then, post-pick, post-maybe, choose-all, both}
 use Rattle.definition.specs.Within.{prefix-bound}
 use Rattle.definition.specs.VowelBounds.{Voiced, vowel-step-voiced}
@@ -34,13 +35,32 @@ pub record Bounded (D : Tables) : Type 0 where
   pub vowels : All (λ y. Short most-vowel (y .letters)) (D .vowels)
   pub virama : class (D .classes) the-space .virama ≡ false
 
--- An edge within a text of `n`
+-- An edge within a text of `n`: whatever its text, and with one of 198 bytes at most
+abbrev pub Known : ℕ → Type 0
+Known k = (k ≤ note-orig) ⊎ (k ≡ note-decomp)
+
+pub record Formed (n : ℕ) (x : Edge) : Type 0 where
+  pub forward : x .from < x .to
+  pub inside : x .to ≤ n
+  pub known : Known (x .note)
+  pub core : Cored x
+
 pub record Sound (n : ℕ) (x : Edge) : Type 0 where
   pub forward : x .from < x .to
   pub inside : x .to ≤ n
   pub short : bytes x ≤ most-bytes
-  pub known : x .note ≤ note-orig
+  pub known : Known (x .note)
   pub core : Cored x
+
+pub sound-formed : {n : ℕ} (x : Edge) → Sound n x → Formed n x
+sound-formed x s = record { forward = s .forward; inside = s .inside; known = s .known; core = s .core }
+
+-- one that a rule or a fallback gives: its text is the character itself where it is so annotated, and else ASCII
+pub record Ruled (t : Text) (x : Edge) : Type 0 where
+  pub sound : Sound (length t) x
+  pub note : x .note ≤ note-orig
+  pub own : x .note ≡ note-orig → x .text ≡ at t (x .from) ∷ []
+  pub low : (x .note ≡ note-orig → ⊥) → All Low (x .text)
 
 module _ (D : Tables) (ok : Bounded D) (t : Text) where
   -- What the searches answer
@@ -62,11 +82,11 @@ module _ (D : Tables) (ok : Bounded D) (t : Text) where
       → Sound (length t) x
   unfolding bytes
   sound-of x l k h n c =
-      record { forward = l; inside = k; short = rw (encoded-low (x .text) (h .low)) (h .long); known = n; core = c }
+      record { forward = l; inside = k; short = rw (encoded-low (x .text) (h .low)) (h .long); known = inl n; core = c }
 
-  -- it is sound, and its text ASCII
+  -- it is sound, its text ASCII, and a rule gives it
   abbrev pub Spelt : Edge → Type 0
-  Spelt x = Sound (length t) x × Short most-bytes (x .text)
+  Spelt x = Sound (length t) x × Short most-bytes (x .text) × (x .note < note-orig)
 
   edge-sound : (v : View) (b : Bool) (rom : Text) (s e : ℕ) → s < e → e ≤ length t → Short most-target rom
       → Post Edge Spelt (edge-of D t v b rom s e)
@@ -77,10 +97,11 @@ module _ (D : Tables) (ok : Bounded D) (t : Text) where
       let r = h .long in
       let w = expand-held (lexicon D) t (ok .rules) (ok .virama) v (D .choices) new s e l k (short-wide (length rom + most-vowel) (omega arith) (q .short)) in
       post-bind (λ x. Held (length t) most-bytes x × Kept new x) _ (both w (expand-kept (lexicon D) t new v (D .choices) s e))
-      (λ x z. post-ret _ (unfold as-edge in (
-        sound-of (as-edge b rom new x) (z .0 .forward) (z .0 .inside) (z .0 .short)
-            (let y = edge-known b rom new x (z .1) in omega arith) (edge-cored b rom new x q (z .1)),
+      (λ x z. let y : as-edge b rom new x .note < note-orig = let k = edge-known b rom new x (z .1) in omega arith in
+      post-ret _ (unfold as-edge in (
+        sound-of (as-edge b rom new x) (z .0 .forward) (z .0 .inside) (z .0 .short) (omega arith) (edge-cored b rom new x q (z .1)),
         z .0 .short,
+        y,
       ))))
 
   pub plus-short : (w : Text) → Short most-target w → Short most-target (without-plus w)
@@ -94,85 +115,90 @@ module _ (D : Tables) (ok : Bounded D) (t : Text) where
       (λ w z. post-bind Spelt _ (edge-sound v (is-tail w) (without-plus w) s e l k (plus-short w z))
       (λ x y. post-ret (some x) y)))
 
-  span-sound : (v : View) (s e : ℕ) → s < e → e ≤ length t → Post (Option Edge) (Opt (Sound (length t))) (span-edge D t v s e)
-  span-sound v s e l k = record { gives = λ m. Opt-map (λ x y. y .0) ((span-edge D t v s e m) .0) (span-spelt v s e l k .gives m) }
-
-  -- The fallback: nothing, a space, a target, or the character's own bytes
-  single-sound : (p n : ℕ) (w : Text) → p < length t → note-core < n → n ≤ note-orig → Short most-target w → Sound (length t) (single p n w)
-  unfolding single
-  single-sound p n w l k m h =
-      sound-of (single p n w) (omega arith) (omega arith) (short-wide most-target (omega arith) h) m (uncored (single p n w) k refl)
-
-  own-sound : (p n c : ℕ) → p < length t → note-core < n → n ≤ note-orig → Sound (length t) (single p n (c ∷ []))
-  unfolding single bytes encoded
-  own-sound p n c l k m = record {
-    forward = omega arith;
-    inside = omega arith;
-    short = let e = encode-length c in omega (arith, length-append (encode c) []);
-    known = m;
-    core = uncored (single p n (c ∷ [])) k refl;
+  span-ruled : (v : View) (s e : ℕ) → s < e → e ≤ length t → Post (Option Edge) (Opt (Ruled t)) (span-edge D t v s e)
+  span-ruled v s e l k = record {
+    gives = λ m. Opt-map (λ x y. let n = y .2 in record { sound = y .0; note = omega arith; own = λ z. absurd (omega arith); low = λ z. y .1 .low })
+        ((span-edge D t v s e m) .0) (span-spelt v s e l k .gives m);
   }
 
-  fallback-by-sound : (p : ℕ) (o : Option Text) → p < length t → Opt (Short most-target) o → Sound (length t) (fallback-by t p o)
+  -- The fallback: nothing, a space, a target, or the character's own bytes
+  single-ruled : (p n : ℕ) (w : Text) → p < length t → note-core < n → n < note-orig → Short most-target w → Ruled t (single p n w)
+  unfolding single
+  single-ruled p n w l k m h = record {
+    sound = sound-of (single p n w) (omega arith) (omega arith) (short-wide most-target (omega arith) h) (omega arith) (uncored (single p n w) k refl);
+    note = omega arith;
+    own = λ z. absurd (omega arith);
+    low = λ z. h .low;
+  }
+
+  space-short : Short most-target (the-space ∷ [])
+  space-short = record { long = omega arith; low = (omega arith, tt) }
+
+  own-ruled : (p : ℕ) → p < length t → Ruled t (single p note-orig (at t p ∷ []))
+  unfolding single bytes encoded
+  own-ruled p l = record {
+    sound = record {
+      forward = omega arith;
+      inside = omega arith;
+      short = let e = encode-length (at t p) in omega (arith, length-append (encode (at t p)) []);
+      known = inl (omega arith);
+      core = uncored (single p note-orig (at t p ∷ [])) (omega arith) refl;
+    };
+    note = omega arith;
+    own = λ z. refl;
+    low = λ z. absurd (z refl);
+  }
+
+  fallback-by-ruled : (p : ℕ) (o : Option Text) → p < length t → Opt (Short most-target) o → Ruled t (fallback-by t p o)
   unfolding fallback-by
-  fallback-by-sound p o l q = maybe-all (Sound (length t)) (Short most-target) o q
-      (own-sound p note-orig (at t p) l (omega arith) (omega arith))
-      (λ w z. single-sound p note-single _ l (omega arith) (omega arith)
+  fallback-by-ruled p o l q = maybe-all (Ruled t) (Short most-target) o q
+      (own-ruled p l)
+      (λ w z. single-ruled p note-single _ l (omega arith) (omega arith)
       (pick-all (Short most-target) (fallback-plus w) (short-wide (most-target - 1) (omega arith) (short-tail most-target z)) z))
 
-  fallback-sound : (v : View) (p : ℕ) → p < length t → Post (Option Edge) (Opt (Sound (length t))) (fallback-edge (lexicon D) t v p)
+  fallback-ruled : (v : View) (p : ℕ) → p < length t → Post (Option Edge) (Opt (Ruled t)) (fallback-edge (lexicon D) t v p)
   unfolding fallback-edge
-  fallback-sound v p l =
-      post-pick _ (post-ret _ (single-sound p note-Mn [] l (omega arith) (omega arith) (short-none most-target)))
-      (post-pick _ (post-ret _ (single-sound p note-Cf [] l (omega arith) (omega arith) (short-none most-target)))
-      (post-pick _ (post-ret _ (single-sound p note-Co [] l (omega arith) (omega arith) (short-none most-target)))
-      (post-pick _ (post-ret _ (own-sound p note-Zs the-space l (omega arith) (omega arith)))
+  fallback-ruled v p l =
+      post-pick _ (post-ret _ (single-ruled p note-Mn [] l (omega arith) (omega arith) (short-none most-target)))
+      (post-pick _ (post-ret _ (single-ruled p note-Cf [] l (omega arith) (omega arith) (short-none most-target)))
+      (post-pick _ (post-ret _ (single-ruled p note-Co [] l (omega arith) (omega arith) (short-none most-target)))
+      (post-pick _ (post-ret _ (single-ruled p note-Zs (the-space ∷ []) l (omega arith) (omega arith) space-short))
       (post-bind (Opt (Short most-target)) _ (simple-short v p (p + 1))
-      (λ o q. post-ret _ (fallback-by-sound p o l q))))))
+      (λ o q. post-ret _ (fallback-by-ruled p o l q))))))
 
   -- The passes
-  abbrev Sounds : List Edge → Type 0
-  Sounds es = All (Sound (length t)) es
-
-  put-in-sound : (f : List Edge → M (Option Edge)) (st : State) → Sounds (st .0)
-      → Post (Option Edge) (Opt (Sound (length t))) (f (st .0)) → Sounds (put-in f st .0)
-  unfolding put-in add new-in
-  put-in-sound f st h p = go ((f (st .0) (st .1)) .0) (p .gives (st .1))
-    where
-      go : (o : Option Edge) → Opt (Sound (length t)) o → All (Sound (length t)) (add (st .0) o)
-      go none q = h
-      go (some x) q = pick-all (All (Sound (length t))) (any (alike x) (starting (st .0) (x .from)))
-          {x = st .0} {y = st .0 ++ x ∷ []} h (All-append (Sound (length t)) (st .0) (x ∷ []) h (q, tt))
-
-  rise-sound : (k : ℕ) (b : Bool) (s e : ℕ) (st : State) → s < e → s ≤ length t → (b ≡ true → e ≤ length t)
-      → Sounds (st .0) → Sounds (rise D t k b s e st .0)
+  rise-ruled : (k : ℕ) (b : Bool) (s e : ℕ) (st : State) → s < e → s ≤ length t → (b ≡ true → e ≤ length t)
+      → Added (Ruled t) (st .0) (rise D t k b s e st .0)
   unfolding rise
-  rise-sound zero b s e st l n c h = h
-  rise-sound (suc k) false s e st l n c h = h
-  rise-sound (suc k) true s e st l n c h =
-      rise-sound k (is-prefix (D .rules) t s (e + 1)) s (e + 1) _ (omega arith) n
-      (prefix-bound (D .rules) t s (e + 1) n (omega arith))
-      (put-in-sound (λ es. span-edge D t (view (D .classes) es) s e) st h (span-sound (view (D .classes) (st .0)) s e l (c refl)))
+  rise-ruled zero b s e st l n c = added-not (st .0)
+  rise-ruled (suc k) false s e st l n c = added-not (st .0)
+  rise-ruled (suc k) true s e st l n c =
+      let f : List Edge → M (Option Edge) = λ es. span-edge D t (view (D .classes) es) s e in
+      added-twice (put-in-added f st (span-ruled (view (D .classes) (st .0)) s e l (c refl) .gives (st .1)))
+      (rise-ruled k (is-prefix (D .rules) t s (e + 1)) s (e + 1) (put-in f st) (omega arith) n
+      (prefix-bound (D .rules) t s (e + 1) n (omega arith)))
 
-  build-sound : (p : ℕ) (st : State) → p < length t → Sounds (st .0) → Sounds (build D t p st .0)
+  pub build-ruled : (p : ℕ) (st : State) → p < length t → Added (Ruled t) (st .0) (build D t p st .0)
   unfolding build
-  build-sound p st l h = rise-sound most-source (is-prefix (D .rules) t p (p + 1)) p (p + 1) st (omega arith) (omega arith)
-      (prefix-bound (D .rules) t p (p + 1) (omega arith) (omega arith)) h
+  build-ruled p st l = rise-ruled most-source (is-prefix (D .rules) t p (p + 1)) p (p + 1) st (omega arith) (omega arith)
+      (prefix-bound (D .rules) t p (p + 1) (omega arith) (omega arith))
 
-  fall-sound : (p : ℕ) (st : State) → p < length t → Sounds (st .0) → Sounds (fall D t p st .0)
+  pub fall-ruled : (p : ℕ) (st : State) → p < length t → Added (Ruled t) (st .0) (fall D t p st .0)
   unfolding fall
-  fall-sound p st l h =
+  fall-ruled p st l =
       let f : List Edge → M (Option Edge) = λ es. fallback-edge (lexicon D) t (view (D .classes) es) p in
-      pick-all (λ S. Sounds (S .0)) (covered (st .0) p) {x = st} {y = put-in f st} h
-      (put-in-sound f st h (fallback-sound (view (D .classes) (st .0)) p l))
+      pick-all (λ S. Added (Ruled t) (st .0) (S .0)) (covered (st .0) p) {x = st} {y = put-in f st} (added-not (st .0))
+      (put-in-added f st (fallback-ruled (view (D .classes) (st .0)) p l .gives (st .1)))
 
-  each-sound : (f : ℕ → State → State) → ((p : ℕ) (st : State) → p < length t → Sounds (st .0) → Sounds (f p st .0))
-      → (k p : ℕ) (st : State) → p + k ≤ length t → Sounds (st .0) → Sounds (each f k p st .0)
-  unfolding each
-  each-sound f g zero p st l h = h
-  each-sound f g (suc k) p st l h = each-sound f g k (p + 1) (f p st) (omega arith) (g p st (omega arith) h)
+  -- Whatever a step adds besides, both passes add it and what rules and fallbacks give
+  pub lattice-by-all : (P : Edge → Type 0) (step : ℕ → State → State) → ((p : ℕ) (st : State) → p < length t → Added P (st .0) (step p st .0))
+      → ((x : Edge) → Ruled t x → P x) → All P (lattice-by D t step .0)
+  unfolding lattice-by
+  lattice-by-all P step g f =
+      let st : State = ([], replicate (length t) 0) in
+      added-all (added-twice (each-added (length t) step g (length t) 0 st (omega arith))
+      (each-added (length t) (fall D t) (λ p st l. added-map f (fall-ruled p st l)) (length t) 0 (each step (length t) 0 st) (omega arith)))
 
-  pub lattice-sound : All (Sound (length t)) (lattice D t .0)
-  unfolding lattice
-  lattice-sound = each-sound (fall D t) fall-sound (length t) 0 _ (omega arith)
-      (each-sound (build D t) build-sound (length t) 0 ([], replicate (length t) 0) (omega arith) tt)
+  pub rule-lattice-ruled : All (Ruled t) (rule-lattice D t .0)
+  unfolding rule-lattice
+  rule-lattice-ruled = lattice-by-all (Ruled t) (build D t) build-ruled (λ x r. r)

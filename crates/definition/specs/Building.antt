@@ -106,7 +106,7 @@ module _ (D : Tables) (t : Text) where
       rise k (is-prefix (D .rules) t s (e + 1)) s (e + 1)
       (put-in (λ es. span-edge (view (D .classes) es) s e) st)
 
-  -- `add_romanization` at one start
+  -- `add_romanization` at one start, but for a decomposition
   unfoldable pub build : ℕ → State → State
   build p st = rise most-source (is-prefix (D .rules) t p (p + 1)) p (p + 1) st
 
@@ -116,6 +116,10 @@ module _ (D : Tables) (t : Text) where
       pick (covered (st .0) p) st
       (put-in (λ es. fallback-edge (lexicon D) t (view (D .classes) es) p) st)
 
-  -- The lattice: both passes from no edges, nothing remembered
-  unfoldable pub lattice : State
-  lattice = each fall (length t) 0 (each build (length t) 0 ([], replicate (length t) 0))
+  -- Both passes from no edges, nothing remembered: a step at each start, then the fallbacks
+  unfoldable pub lattice-by : (ℕ → State → State) → State
+  lattice-by step = each fall (length t) 0 (each step (length t) 0 ([], replicate (length t) 0))
+
+  -- The lattice of a text in which no character stands for others: the step is the edges of each start's spans
+  unfoldable pub rule-lattice : State
+  rule-lattice = lattice-by build

@@ -3,25 +3,26 @@ use mathlib.Core.Bool.{Bool, not, _&&_, _||_}
 use mathlib.Core.List.{List, [], _∷_, _++_}
 use mathlib.Core.Option.{Option, none, some}
 use Prim.Native.Nat.{ℕ, _+_, _-_, _/_}
-use lib.Dec.{eqb, leb, ltb}
+use lib.Dec.{eqb, ltb}
 use lib.ListN.{length, replicate}
 use Rattle.base.specs.Pick.{pick}
 use Rattle.base.specs.Lists.{all, or-else, first-of, same}
 use Rattle.definition.specs.Limits.{most-mode, most-choice, code-letters, most-characters, slot-bytes}
-use Rattle.definition.specs.Refusals.{Refusal, refuse, when, placed, refused-mode, refused-capitals, refused-classes, refused-vowels, refused-code}
+use Rattle.definition.specs.Refusals.{Refusal, refuse, when, placed, refused-mode, refused-capitals, refused-classes, refused-vowels, refused-decompositions, refused-code}
 use Rattle.definition.specs.Refusals.{refused-utf8, refused-too-long, refused-left-out, refused-output}
-use Rattle.definition.specs.Texts.{Text}
-use Rattle.definition.specs.Tables.{Choices, Tables}
+use Rattle.definition.specs.Texts.{Text, left-out}
+use Rattle.definition.specs.Tables.{Decomposition, Choices, Tables}
 use Rattle.definition.specs.Blocks.{small}
 use Rattle.definition.specs.RuleRows.{rules-of}
 use Rattle.definition.specs.RuleFaults.{rule-fault}
 use Rattle.definition.specs.ClassRows.{class-fault, classes-of}
 use Rattle.definition.specs.VowelRows.{vowel-fault, vowels-of}
+use Rattle.definition.specs.DecompositionRows.{decomposition-fault, decompositions-of}
 use Rattle.definition.specs.Utf8.{bad-sequence, decoded}
 use Rattle.definition.specs.Edges.{State}
-use Rattle.definition.specs.Building.{lattice}
+use Rattle.definition.specs.Decomposing.{lattice}
 use Rattle.definition.specs.Listing.{shown}
-use Rattle.definition.specs.Capacity.{misfit}
+use Rattle.definition.specs.Capacity.{overflow}
 
 -- What a call is given: tables, code and text are bytes; slots, text room and output are their lengths in bytes
 pub record Inputs : Type 0 where
@@ -30,6 +31,7 @@ pub record Inputs : Type 0 where
   pub rules : List ℕ
   pub classes : List ℕ
   pub vowels : List ℕ
+  pub decompositions : List ℕ
   pub code : List ℕ
   pub text : List ℕ
   pub slots : ℕ
@@ -44,7 +46,7 @@ pub record Called : Type 0 where
   pub edges : ℕ
   pub output : List ℕ
 
--- What the choices, the tables' bytes and the code stand for, and the text's characters
+-- What the choices, the tables' bytes and the code stand for, the characters that stand for others, and the text's
 unfoldable pub tables-of : Choices → List ℕ → List ℕ → List ℕ → List ℕ → Tables
 tables-of choices rules classes vowels code = record {
   choices = choices;
@@ -57,6 +59,9 @@ tables-of choices rules classes vowels code = record {
 unfoldable pub tables : Inputs → Tables
 tables i = tables-of (i .choices) (i .rules) (i .classes) (i .vowels) (i .code)
 
+unfoldable pub decompositions : Inputs → List Decomposition
+decompositions i = decompositions-of (i .decompositions)
+
 unfoldable pub characters : Inputs → Text
 characters i = decoded (i .text)
 
@@ -64,22 +69,20 @@ characters i = decoded (i .text)
 unfoldable pub code-right : Text → Bool
 code-right c = same c [] || (eqb (length c) code-letters && all small c)
 
--- Tibetan, Braille and Hangul syllables are left out: the position of the first
-unfoldable pub left-out : ℕ → Bool
-left-out c = (leb 0x0F00 c && leb c 0x0FFF) || (leb 0x2800 c && leb c 0x28FF) || (leb 0xAC00 c && leb c 0xD7A3)
-
+-- the position of the first character that is left out
 unfoldable pub first-left-out : ℕ → Text → Option ℕ
 first-left-out p [] = none
 first-left-out p (c ∷ t) = pick (left-out c) (some p) (first-left-out (p + 1) t)
 
 -- What is refused before any edge is built: the first of these, in this order. Of mode, choices, tables and code
-unfoldable pub before-text : ℕ → Choices → List ℕ → List ℕ → List ℕ → List ℕ → Option Refusal
-before-text mode choices rules classes vowels code = first-of
+unfoldable pub before-text : ℕ → Choices → List ℕ → List ℕ → List ℕ → List ℕ → List ℕ → Option Refusal
+before-text mode choices rules classes vowels decompositions code = first-of
     (when (ltb most-mode mode) refused-mode 0
     ∷ when (ltb most-choice (choices .capitals)) refused-capitals 0
     ∷ rule-fault rules
     ∷ placed refused-classes (class-fault classes)
     ∷ placed refused-vowels (vowel-fault vowels)
+    ∷ placed refused-decompositions (decomposition-fault decompositions)
     ∷ when (not (code-right code)) refused-code 0
     ∷ [])
 
@@ -92,7 +95,9 @@ text-refusal text = first-of
     ∷ [])
 
 unfoldable pub refusal : Inputs → Option Refusal
-refusal i = or-else (before-text (i .mode) (i .choices) (i .rules) (i .classes) (i .vowels) (i .code)) (text-refusal (i .text))
+refusal i = or-else
+    (before-text (i .mode) (i .choices) (i .rules) (i .classes) (i .vowels) (i .decompositions) (i .code))
+    (text-refusal (i .text))
 
 -- after a refusal length and count are 0, and the output is zero
 unfoldable pub refused : Inputs → Refusal → Called
@@ -110,10 +115,10 @@ within-room i D t st none = written i (length (st .0)) (shown D t (i .mode) st)
 within-room i D t st (some r) = refused i r
 
 unfoldable pub with-lattice : Inputs → Tables → Text → State → Called
-with-lattice i D t st = within-room i D t st (misfit (i .slots / slot-bytes) (i .room) (st .0))
+with-lattice i D t st = within-room i D t st (overflow D (decompositions i) t (i .slots / slot-bytes) (i .room) (st .0))
 
 unfoldable pub accepted : Inputs → Tables → Text → Called
-accepted i D t = with-lattice i D t (lattice D t)
+accepted i D t = with-lattice i D t (lattice D (decompositions i) t)
 
 unfoldable pub unless-refused : Inputs → Option Refusal → Called
 unless-refused i none = accepted i (tables i) (characters i)

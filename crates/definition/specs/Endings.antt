@@ -8,35 +8,36 @@ use mathlib.Core.Logic.{_⊎_, inl, inr}
 use lib.Dec.{eqb, leb, ltb}
 use lib.ListN.{length, replicate}
 use borrow.Author.Tests.{ltb-false, le-ltb}
-use Rattle.base.specs.Pick.{pick, pick-ind}
+use Rattle.base.specs.Pick.{pick, pick-ind, pick-all}
 use Rattle.base.specs.Lists.{any, or-else, first-of}
 use Rattle.base.specs.Alls.{All}
-use Rattle.definition.specs.Limits.{slot-bytes}
+use Rattle.definition.specs.Limits.{most-bytes, slot-bytes}
+use Rattle.definition.specs.Notes.{note-decomp}
 use Rattle.definition.specs.Texts.{Text}
-use Rattle.definition.specs.Tables.{Tables}
+use Rattle.definition.specs.Tables.{Decomposition, Tables}
 use Rattle.definition.specs.Edges.{Edge}
-use Rattle.definition.specs.Building.{lattice}
+use Rattle.definition.specs.Decomposing.{lattice}
 use Rattle.definition.specs.Listing.{shown}
-use Rattle.definition.specs.Refusals.{Refusal, refuse, when, placed, numbers, refused-mode, refused-capitals, refused-classes, refused-vowels, refused-code}
-use Rattle.definition.specs.Refusals.{refused-utf8, refused-too-long, refused-left-out, refused-room, refused-output}
+use Rattle.definition.specs.Refusals.{Refusal, refuse, when, placed, numbers, refused-mode, refused-capitals, refused-classes, refused-vowels, refused-decompositions, refused-code}
+use Rattle.definition.specs.Refusals.{refused-utf8, refused-too-long, refused-left-out, refused-room, refused-edge-text, refused-output}
 use Rattle.definition.specs.RuleFaults.{rule-fault}
 use Rattle.definition.specs.RuleNumbers.{fault-number}
-use Rattle.definition.specs.Capacity.{bytes, misfit}
-use Rattle.definition.specs.Call.{Inputs, Called, tables, characters, before-text, text-refusal, refusal, refused, written, within-room, with-lattice, accepted, unless-refused, called}
+use Rattle.definition.specs.Capacity.{bytes, misfit, placed-at, inner-edges, before-edge, overflow}
+use Rattle.definition.specs.Call.{Inputs, Called, tables, decompositions, characters, before-text, text-refusal, refusal, refused, written, within-room, with-lattice, accepted, unless-refused, called}
 
 -- what a call is to show: the string, the path, its alternatives or all edges
 abbrev pub romanization : Inputs → List ℕ
-romanization i = shown (tables i) (characters i) (i .mode) (lattice (tables i) (characters i))
+romanization i = shown (tables i) (characters i) (i .mode) (lattice (tables i) (decompositions i) (characters i))
 
 -- nothing was refused: neither the inputs, nor the slots and the room, nor the output
 pub record Romanized (i : Inputs) (r : Called) : Type 0 where
   pub accepted : refusal i ≡ none
-  pub held : misfit (i .slots / slot-bytes) (i .room) (lattice (tables i) (characters i) .0) ≡ none
+  pub held : overflow (tables i) (decompositions i) (characters i) (i .slots / slot-bytes) (i .room) (lattice (tables i) (decompositions i) (characters i) .0) ≡ none
   pub fits : length (romanization i) ≤ i .out
   pub number : r .number ≡ 0
   pub place : r .place ≡ 0
   pub written : r .length ≡ length (romanization i)
-  pub count : r .edges ≡ length (lattice (tables i) (characters i) .0)
+  pub count : r .edges ≡ length (lattice (tables i) (decompositions i) (characters i) .0)
   pub shows : r .output ≡ romanization i ++ replicate (i .out - length (romanization i)) 0
 
 pub record Refused (i : Inputs) (r : Called) : Type 0 where
@@ -87,7 +88,10 @@ refusal-numbered i = or-numbered _ _
           rules-numbered (i .rules) (rule-fault (i .rules)) refl,
           (
             placed-numbered _ refused-classes refl,
-            (placed-numbered _ refused-vowels refl, (when-numbered _ refused-code 0 refl, tt)),
+            (
+              placed-numbered _ refused-vowels refl,
+              (placed-numbered _ refused-decompositions refl, (when-numbered _ refused-code 0 refl, tt)),
+            ),
           ),
         ),
       ),
@@ -105,6 +109,27 @@ misfit-numbered (suc k) r (x ∷ l) = fits (leb (bytes x) r) (misfit-numbered k 
     fits true h = h
     fits false h = refl
 
+placed-at-numbered : (p : ℕ) (o : Option Refusal) → Numbered o → Numbered (placed-at p o)
+unfolding Numbered placed-at
+placed-at-numbered p none h = tt
+placed-at-numbered p (some r) h = h
+
+overflow-numbered : (D : Tables) (ds : List Decomposition) (t : Text) (k r : ℕ) (l : List Edge) → Numbered (overflow D ds t k r l)
+unfolding overflow any Numbered
+overflow-numbered D ds t k r [] = tt
+overflow-numbered D ds t k r (x ∷ l) =
+    first-numbered (before-edge D ds t k r x ∷ misfit k r (x ∷ []) ∷ overflow D ds t (k - 1) (r - bytes x) l ∷ [])
+    (before-numbered, (misfit-numbered k r (x ∷ []), (overflow-numbered D ds t (k - 1) (r - bytes x) l, tt)))
+  where
+    inner : Option Refusal
+    inner = misfit k r (inner-edges D ds t (x .from))
+
+    before-numbered : Numbered (before-edge D ds t k r x)
+    before-numbered = unfold before-edge in pick-all Numbered (eqb (x .note) note-decomp)
+        (or-numbered (placed-at (x .from) inner) (when (ltb most-bytes (bytes x)) refused-edge-text (x .from))
+        (placed-at-numbered (x .from) inner (misfit-numbered k r (inner-edges D ds t (x .from))))
+        (when-numbered (ltb most-bytes (bytes x)) refused-edge-text (x .from) refl)) tt
+
 refused-so : (i : Inputs) (r : Refusal) → any (eqb (r .number)) numbers ≡ true → Refused i (refused i r)
 unfolding refused
 refused-so i r h = record { number = h; written = refl; count = refl; zeros = refl }
@@ -117,13 +142,16 @@ module _ (i : Inputs) where
   abbrev t : Text
   t = characters i
 
+  abbrev ds : List Decomposition
+  ds = decompositions i
+
   abbrev fault : Option Refusal
-  fault = misfit (i .slots / slot-bytes) (i .room) (lattice D t .0)
+  fault = overflow D ds t (i .slots / slot-bytes) (i .room) (lattice D ds t .0)
 
   abbrev Ends : Called → Type 0
   Ends r = Romanized i r ⊎ Refused i r
 
-  by-room : refusal i ≡ none → (o : Option Refusal) → fault ≡ o → Numbered o → Ends (within-room i D t (lattice D t) o)
+  by-room : refusal i ≡ none → (o : Option Refusal) → fault ≡ o → Numbered o → Ends (within-room i D t (lattice D ds t) o)
   unfolding Numbered within-room written any
   by-room q none e h =
       pick-ind Ends (ltb (i .out) (length (romanization i))) _ _
@@ -142,7 +170,7 @@ module _ (i : Inputs) where
 
   by-refusal : (o : Option Refusal) → refusal i ≡ o → Numbered o → Ends (unless-refused i o)
   unfolding Numbered unless-refused accepted with-lattice
-  by-refusal none e h = by-room e fault refl (misfit-numbered (i .slots / slot-bytes) (i .room) (lattice D t .0))
+  by-refusal none e h = by-room e fault refl (overflow-numbered D ds t (i .slots / slot-bytes) (i .room) (lattice D ds t .0))
   by-refusal (some r) e h = inr (refused-so i r h)
 
   pub ends : Ends (called i)

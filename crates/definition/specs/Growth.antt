@@ -1,9 +1,9 @@
 -- Edges are only appended; a character brings 17 at most; and a list that does not fit in the room fits no more when it has grown.
 use mathlib.Core.Bool.{Bool, true, false, _||_, or-true}
-use mathlib.Core.Path.{_≡_, refl, sym, _∙_, ap}
+use mathlib.Core.Path.{_≡_, refl, sym, _∙_, ap, subst}
 use mathlib.Core.List.{List, [], _∷_, _++_, append-nil, append-assoc}
 use mathlib.Core.Option.{Option, none, some}
-use Prim.Native.Nat.{ℕ, zero, suc, _+_, _-_, _*_, _≤_}
+use Prim.Native.Nat.{ℕ, zero, suc, _+_, _-_, _*_, _≤_, _<_}
 use native.Mathlib.Omega.{arith}
 use lib.Dec.{eqb, leb}
 use lib.ListN.{length, replicate, length-append}
@@ -11,13 +11,13 @@ use borrow.Author.Tests.{eq-eqb}
 use Rattle.base.specs.Pick.{pick-all}
 use Rattle.base.specs.Lists.{put, keep, any}
 use Rattle.base.specs.ListLaws.{any-append, keep-append}
-use Rattle.base.specs.Alls.{All, All-map, All-append}
+use Rattle.base.specs.Alls.{All, All-map, All-append, Opt}
 use Rattle.definition.specs.Limits.{most-source, most-edges}
 use Rattle.definition.specs.Texts.{Text}
 use Rattle.definition.specs.Tables.{Tables, lexicon}
 use Rattle.definition.specs.Edges.{Edge, M, State, starting, covered, alike, new-in, add, view}
 use Rattle.definition.specs.Rules.{is-prefix}
-use Rattle.definition.specs.Building.{put-in, each, span-edge, fallback-edge, rise, build, fall, lattice}
+use Rattle.definition.specs.Building.{put-in, each, span-edge, fallback-edge, rise, build, fall, lattice-by, rule-lattice}
 use Rattle.definition.specs.Refusals.{Refusal, refuse, refused-room}
 use Rattle.definition.specs.Capacity.{bytes, misfit}
 
@@ -46,6 +46,15 @@ added-one es x p = record { more = x ∷ []; is = refl; all = (p, tt) }
 pub added-new : {P : Edge → Type 0} (like : Edge → Edge → Bool) (es : List Edge) (x : Edge) → P x → Added P es (new-in like es x)
 unfolding new-in
 added-new {P} like es x p = pick-all (Added P es) (any (like x) (starting es (x .from))) (added-not es) (added-one es x p)
+
+pub add-added : {P : Edge → Type 0} (es : List Edge) (o : Option Edge) → Opt P o → Added P es (add es o)
+unfolding add
+add-added es none p = added-not es
+add-added es (some x) p = added-new alike es x p
+
+-- all edges, where there were none
+pub added-all : {P : Edge → Type 0} {fs : List Edge} → Added P [] fs → All P fs
+added-all {P} a = subst (All P) (sym (a .is)) (a .all)
 
 -- `n` of them at most
 pub record Grown (n : ℕ) (es fs : List Edge) : Type 0 where
@@ -97,7 +106,18 @@ pub put-in-grown : (f : List Edge → M (Option Edge)) (st : State) → Grown 1 
 unfolding put-in
 put-in-grown f st = add-grown (st .0) ((f (st .0) (st .1)) .0)
 
+pub put-in-added : {P : Edge → Type 0} (f : List Edge → M (Option Edge)) (st : State) → Opt P ((f (st .0) (st .1)) .0)
+    → Added P (st .0) (put-in f st .0)
+unfolding put-in
+put-in-added f st p = add-added (st .0) ((f (st .0) (st .1)) .0) p
+
 -- By a pass
+pub each-added : {P : Edge → Type 0} (n : ℕ) (f : ℕ → State → State) → ((p : ℕ) (st : State) → p < n → Added P (st .0) (f p st .0))
+    → (k p : ℕ) (st : State) → p + k ≤ n → Added P (st .0) (each f k p st .0)
+unfolding each
+each-added n f g zero p st l = added-not (st .0)
+each-added n f g (suc k) p st l = added-twice (g p st (omega arith)) (each-added n f g k (p + 1) (f p st) (omega arith))
+
 pub each-grown : (f : ℕ → State → State) (n : ℕ) → ((p : ℕ) (st : State) → Grown n (st .0) (f p st .0))
     → (k p : ℕ) (st : State) → Grown (n * k) (st .0) (each f k p st .0)
 unfolding each
@@ -129,10 +149,10 @@ module _ (D : Tables) (t : Text) where
       pick-all (λ S. Grown 1 (st .0) (S .0)) (covered (st .0) p) {x = st} {y = put-in f st}
       (grown-not 1 (st .0)) (put-in-grown f st)
 
-  -- At most 17 edges for each character
-  pub lattice-few : length (lattice D t .0) ≤ most-edges * length t
-  unfolding lattice
-  lattice-few =
+  -- At most 17 edges for each character, where none stands for others
+  pub rule-lattice-few : length (rule-lattice D t .0) ≤ most-edges * length t
+  unfolding rule-lattice lattice-by
+  rule-lattice-few =
       let st : State = each (build D t) (length t) 0 ([], replicate (length t) 0) in
       let a = each-grown (build D t) most-source build-grown (length t) 0 ([], replicate (length t) 0) .few in
       let b = each-grown (fall D t) 1 fall-grown (length t) 0 st .few in

@@ -12,6 +12,7 @@ pub mod RuleFields
 pub mod RuleFaults
 pub mod ClassRows
 pub mod VowelRows
+pub mod DecompositionRows
 pub mod Classes
 -- 'Boundaries' and 'Choosing a rule'
 pub mod Edges
@@ -24,6 +25,8 @@ pub mod Expansion
 pub mod Building
 -- 'Path and alternatives'
 pub mod Paths
+-- document 02's third request: characters that stand for others
+pub mod Decomposing
 -- 'Table and output bytes' again, and 'Numbers a call returns'
 pub mod Listing
 pub mod Capacity
@@ -31,6 +34,7 @@ pub mod Call
 -- 'Sample table and its results', computed
 pub mod Compute
 pub mod Sample
+pub mod SampleForms
 -- Laws. Loops over bytes, a character or a row at a time
 pub mod Utf8Turns
 pub mod BlockTurns
@@ -48,6 +52,7 @@ pub mod FaultLaws
 pub mod RuleNumbers
 -- what an accepted call has passed; rows rise; the space is blank
 pub mod Accepted
+pub mod DecompositionLaws
 pub mod Risen
 pub mod Ranges
 pub mod Blank
@@ -60,6 +65,7 @@ pub mod Growth
 -- each edge goes forward within the text, in 198 bytes, with the core that its text has
 pub mod Shorts
 pub mod Posts
+pub mod Covers
 pub mod Within
 pub mod Letters
 pub mod Capitals
@@ -67,6 +73,8 @@ pub mod VowelBounds
 pub mod ExpandBounds
 pub mod Cores
 pub mod Bounds
+-- with characters that stand for others: 17 edges still, and all these as far as the room goes
+pub mod Decomposed
 -- and it starts at its span's start or up to two characters before
 pub mod Near
 pub mod Promises
@@ -88,3 +96,11 @@ pub mod Rewritten
 pub mod Parts
 pub mod Returned
 pub mod Endings
+-- document 02's third request: a table that gives no edges changes nothing
+pub mod FormsOff
+-- a row's characters give inside a text what they give alone
+pub mod InnerCalls
+-- and the first added edge of a span is the one that the Rust ranks first, as each ends at its span's end or behind it
+pub mod Far
+pub mod Ranking
+pub mod RankedNeighbours

@@ -15,7 +15,7 @@ code-letters = 3
 abbrev pub most-characters : ℕ
 most-characters = 512
 
--- rows of a rule table and of a class table
+-- rows of a rule table, a class table and a decomposition table
 abbrev pub most-rows : ℕ
 most-rows = 8192
 
@@ -28,6 +28,10 @@ most-codes = 8
 
 abbrev pub most-alternatives : ℕ
 most-alternatives = 8
+
+-- characters that one stands for
+abbrev pub most-into : ℕ
+most-into = 18
 
 -- bytes of a target text
 abbrev pub most-target : ℕ

@@ -46,6 +46,10 @@ note-alt2 = 13
 abbrev pub note-alt3 : ℕ
 note-alt3 = 14
 
+-- "rom decomp": a character read by those that it stands for
+abbrev pub note-decomp : ℕ
+note-decomp = 15
+
 -- nothing yet: what the expansion leaves where it acts on nothing
 abbrev pub note-none : ℕ
 note-none = 0

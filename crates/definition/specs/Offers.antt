@@ -19,8 +19,8 @@ use Rattle.definition.specs.Edges.{Edge, View, Mem, starting, right-best
 use Rattle.definition.specs.Rules.{valids}
 use Rattle.definition.specs.Paths.{join, next, path-from, akin, other, also-all, cored, by-target, by-end-target, by-rule, by-rules, by-edges}
 use Rattle.definition.specs.Growth.{found-append}
-use Rattle.definition.specs.Bounds.{Sound}
-use Rattle.definition.specs.Cover.{right-sound}
+use Rattle.definition.specs.Bounds.{Formed}
+use Rattle.definition.specs.Cover.{right-all}
 use Rattle.definition.specs.Alternatives.{edge-vowel}
 use Rattle.definition.specs.Recalled.{Recalls, valid-rules, valid-rules-alike, valids-are, valids-recall}
 
@@ -257,26 +257,26 @@ alone-found x rs seen (y ∷ ys) b a =
     (found-elsewhere x rs seen (y .from) (b .0) ∙ a .0, alone-found x rs seen ys (b .1) (a .1))
 
 -- A path's edges start one after the other
-path-after : (n : ℕ) (es : List Edge) → All (Sound n) es → (k p : ℕ) → All (λ x. p ≤ x .from) (path-from k p es)
+path-after : (n : ℕ) (es : List Edge) → All (Formed n) es → (k p : ℕ) → All (λ x. p ≤ x .from) (path-from k p es)
 unfolding path-from
 path-after n es h zero p = tt
-path-after n es h (suc k) p = go (right-best es p) (right-sound n p es h) (λ q. path-after n es h k q)
+path-after n es h (suc k) p = go (right-best es p) (right-all (Formed n) p es h) (λ q. path-after n es h k q)
   where
     far : (q : ℕ) → p ≤ q → All (λ x. q ≤ x .from) (path-from k q es) → All (λ x. p ≤ x .from) (path-from k q es)
     far q l f = All-map (λ x m. omega arith) (path-from k q es) f
 
-    go : (o : Option Edge) → Opt (λ x. Sound n x × (x .from ≡ p)) o → ((q : ℕ) → All (λ x. q ≤ x .from) (path-from k q es))
+    go : (o : Option Edge) → Opt (λ x. Formed n x × (x .from ≡ p)) o → ((q : ℕ) → All (λ x. q ≤ x .from) (path-from k q es))
         → All (λ x. p ≤ x .from) (join o (path-from k (next o p) es))
     go none s f = far (p + 1) (omega arith) (f (p + 1))
     go (some x) s f =
         let a = s .0 .forward in let b = s .1 in (omega arith, far (x .to) (omega arith) (f (x .to)))
 
-path-rises : (n : ℕ) (es : List Edge) → All (Sound n) es → (k p : ℕ) → Ordered Before (path-from k p es)
+path-rises : (n : ℕ) (es : List Edge) → All (Formed n) es → (k p : ℕ) → Ordered Before (path-from k p es)
 unfolding path-from
 path-rises n es h zero p = tt
-path-rises n es h (suc k) p = go (right-best es p) (right-sound n p es h) (λ q. path-rises n es h k q)
+path-rises n es h (suc k) p = go (right-best es p) (right-all (Formed n) p es h) (λ q. path-rises n es h k q)
   where
-    go : (o : Option Edge) → Opt (λ x. Sound n x × (x .from ≡ p)) o → ((q : ℕ) → Ordered Before (path-from k q es))
+    go : (o : Option Edge) → Opt (λ x. Formed n x × (x .from ≡ p)) o → ((q : ℕ) → Ordered Before (path-from k q es))
         → Ordered Before (join o (path-from k (next o p) es))
     go none s f = f (p + 1)
     go (some x) s f =
@@ -311,7 +311,7 @@ module _ (L : Lexicon) (t : Text) (v : View) where
       ∙ append-assoc seen (found-by x rs) (found-all m xs)
 
 -- The list with alternatives is the path, then those of each of its edges
-pub alternatives-are : (L : Lexicon) (t : Text) (v : View) (n : ℕ) (es : List Edge) → All (Sound n) es → (k p : ℕ) (m : Mem)
+pub alternatives-are : (L : Lexicon) (t : Text) (v : View) (n : ℕ) (es : List Edge) → All (Formed n) es → (k p : ℕ) (m : Mem)
     → (by-edges L t v (path-from k p es) (path-from k p es) m) .0 ≡ path-from k p es ++ found-all L t v m (path-from k p es)
 alternatives-are L t v n es h k p m =
     let xs = path-from k p es in

@@ -11,9 +11,9 @@ use borrow.Author.Tests.{lt-ltb, ltb-true}
 use Rattle.base.specs.Pick.{pick, pick-ind}
 use Rattle.base.specs.Bools.{and-right}
 use Rattle.base.specs.Alls.{All, All-left, All-right}
-use Rattle.definition.specs.Texts.{Text}
+use Rattle.definition.specs.Texts.{Text, left-out}
 use Rattle.definition.specs.Utf8.{Read, char, bad, checked, sequence, read, scalar, decode-by, decoded, encoded}
-use Rattle.definition.specs.Call.{Inputs, tables, characters, left-out, first-left-out, refusal}
+use Rattle.definition.specs.Call.{Inputs, tables, decompositions, characters, first-left-out, refusal}
 use Rattle.definition.specs.Accepted.{Accepted, accepted-of, refusal-of}
 use Rattle.definition.specs.Roundtrip.{decoded-encoded, encoded-right}
 
@@ -61,7 +61,7 @@ kept-all p (c ∷ t) e = go (left-out c) refl e (kept-all (p + 1) t)
     go true q e f = absurd (let w : _≡_ {A = ℕ} 0 1 = cc in omega arith)
     go false q e f = (q, f e)
 
-all-kept : (p : ℕ) (t : Text) → All (λ c. left-out c ≡ false) t → first-left-out p t ≡ none
+pub all-kept : (p : ℕ) (t : Text) → All (λ c. left-out c ≡ false) t → first-left-out p t ≡ none
 unfolding first-left-out pick
 all-kept p [] h = refl
 all-kept p (c ∷ t) h = rw (h .0) (all-kept (p + 1) t (h .1))
@@ -74,6 +74,7 @@ with-text i w = record {
   rules = i .rules;
   classes = i .classes;
   vowels = i .vowels;
+  decompositions = i .decompositions;
   code = i .code;
   text = encoded w;
   slots = i .slots;
@@ -85,10 +86,16 @@ pub record Accepts (i : Inputs) (w : Text) : Type 0 where
   pub accepted : refusal (with-text i w) ≡ none
   pub characters : characters (with-text i w) ≡ w
   pub tables : tables (with-text i w) ≡ tables i
+  pub decompositions : decompositions (with-text i w) ≡ decompositions i
 
 pub part-accepted : (i : Inputs) → refusal i ≡ none → (x w y : Text) → characters i ≡ x ++ (w ++ y) → Accepts i w
-unfolding with-text tables
-part-accepted i e x w y q = record { accepted = refusal-of (with-text i w) (kept (accepted-of i e)); characters = own; tables = refl }
+unfolding with-text tables decompositions
+part-accepted i e x w y q = record {
+  accepted = refusal-of (with-text i w) (kept (accepted-of i e));
+  characters = own;
+  tables = refl;
+  decompositions = refl;
+}
   where
     part : (P : ℕ → Type 0) → All P (characters i) → All P w
     part P h = All-left P w y (All-right P x (w ++ y) (subst (All P) q h))
@@ -103,6 +110,7 @@ part-accepted i e x w y q = record { accepted = refusal-of (with-text i w) (kept
       rules = a .rules;
       classes = a .classes;
       vowels = a .vowels;
+      decompositions = a .decompositions;
       code = a .code;
       text = encoded-right w (part (λ c. scalar c ≡ true) (scalars i));
       size = rw own (let z = a .size in let l = ap length q in omega (arith, length-append x (w ++ y), length-append w y));

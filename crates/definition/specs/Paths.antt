@@ -12,7 +12,6 @@ use Rattle.definition.specs.Texts.{Text}
 use Rattle.definition.specs.Tables.{Rule, Lexicon, Tables, lexicon}
 use Rattle.definition.specs.Edges.{Edge, View, M, State, starting, right-best, new-in, view, ret, _>>=_}
 use Rattle.definition.specs.Rules.{valids}
-use Rattle.definition.specs.Building.{lattice}
 
 -- The path takes the longest edge at each position, then goes on at its end (`best_rom_edge_path`)
 abbrev pub join : Option Edge → List Edge → List Edge
@@ -96,23 +95,3 @@ module _ (D : Tables) (t : Text) where
 
   unfoldable pub all-edges-of : State → List Edge
   all-edges-of st = sorted (st .0) (length t) 0
-
-  -- Of the text's own lattice: the edges as added, and their number
-  unfoldable pub edges : List Edge
-  edges = lattice D t .0
-
-  unfoldable pub edge-count : ℕ
-  edge-count = length edges
-
-  -- mode 1's list, mode 2's, the alternatives alone, mode 3's
-  unfoldable pub path : List Edge
-  path = path-of (lattice D t)
-
-  unfoldable pub with-alternatives : List Edge
-  with-alternatives = with-alternatives-of (lattice D t)
-
-  unfoldable pub alternatives : List Edge
-  alternatives = drop (length path) with-alternatives
-
-  unfoldable pub all-edges : List Edge
-  all-edges = all-edges-of (lattice D t)

@@ -4,7 +4,7 @@ use mathlib.Core.Bool.{Bool, true, false, not, _&&_, _||_}
 use mathlib.Core.Path.{_≡_}
 use mathlib.Core.List.{List}
 use mathlib.Core.Option.{none}
-use Prim.Native.Nat.{ℕ, zero, suc, _*_, _≤_, _<_}
+use Prim.Native.Nat.{ℕ, zero, suc, _*_, _/_, _≤_, _<_}
 use native.Mathlib.Omega.{arith}
 use lib.Dec.{leb}
 use lib.ListN.{length, getD, drop}
@@ -13,7 +13,7 @@ use Rattle.base.specs.Pick.{pick}
 use Rattle.base.specs.Bools.{and-left, and-right}
 use Rattle.base.specs.ListLaws.{take-most}
 use Rattle.base.specs.Alls.{All, Opt, all-all}
-use Rattle.definition.specs.Limits.{most-characters, most-alternatives, most-target, most-vowel, most-edges}
+use Rattle.definition.specs.Limits.{most-characters, most-alternatives, most-target, most-vowel, most-edges, slot-bytes}
 use Rattle.definition.specs.Texts.{Text}
 use Rattle.definition.specs.Blocks.{small}
 use Rattle.definition.specs.RuleRows.{end-target-right-from, target-right-from}
@@ -23,16 +23,17 @@ use Rattle.definition.specs.RuleRows.{rule-of}
 use Rattle.definition.specs.RuleFaults.{rule-fault}
 use Rattle.definition.specs.ClassRows.{class-fault}
 use Rattle.definition.specs.VowelRows.{vowel-length, vowel-letters, vowel-right, vowel-fault, vowel-of}
-use Rattle.definition.specs.Paths.{edges, edge-count}
+use Rattle.definition.specs.Decomposing.{edges, edge-count}
 use Rattle.definition.specs.Tables.{Choices}
-use Rattle.definition.specs.Call.{Inputs, tables-of, tables, characters, refusal}
+use Rattle.definition.specs.Capacity.{overflow}
+use Rattle.definition.specs.Call.{Inputs, tables-of, tables, decompositions, characters, refusal}
 use Rattle.definition.specs.Checked.{rule-checked, vowel-checked}
 use Rattle.definition.specs.Accepted.{Accepted, accepted-of, rules-all, vowels-all}
 use Rattle.definition.specs.Blank.{blank}
-use Rattle.definition.specs.Growth.{lattice-few}
 use Rattle.definition.specs.Shorts.{Low, Short}
 use Rattle.definition.specs.ExpandBounds.{Spoken}
-use Rattle.definition.specs.Bounds.{Bounded, Sound, lattice-sound}
+use Rattle.definition.specs.Bounds.{Bounded, Formed, Sound}
+use Rattle.definition.specs.Decomposed.{lattice-few, lattice-formed, lattice-sound}
 
 -- Texts of a right row
 below-128 : (low high c : ℕ) → high < 128 → (leb low c && leb c high) ≡ true → Low c
@@ -92,10 +93,18 @@ bounded i a = tables-bounded (i .choices) (i .rules) (i .classes) (i .vowels) (i
 pub few-characters : (i : Inputs) → refusal i ≡ none → length (characters i) ≤ most-characters
 few-characters i e = accepted-of i e .size
 
-pub few-edges : (i : Inputs) → edge-count (tables i) (characters i) ≤ most-edges * length (characters i)
+pub few-edges : (i : Inputs) → edge-count (tables i) (decompositions i) (characters i) ≤ most-edges * length (characters i)
 unfolding edge-count edges
-few-edges i = lattice-few (tables i) (characters i)
+few-edges i = lattice-few (tables i) (decompositions i) (characters i)
 
-pub sound-edges : (i : Inputs) → refusal i ≡ none → All (Sound (length (characters i))) (edges (tables i) (characters i))
+pub formed-edges : (i : Inputs) → refusal i ≡ none → All (Formed (length (characters i))) (edges (tables i) (decompositions i) (characters i))
 unfolding edges
-sound-edges i e = lattice-sound (tables i) (bounded i (accepted-of i e)) (characters i)
+formed-edges i e = lattice-formed (tables i) (decompositions i) (characters i) (bounded i (accepted-of i e))
+
+-- and whose edges find room: nothing overflows
+abbrev pub Held : Inputs → Type 0
+Held i = overflow (tables i) (decompositions i) (characters i) (i .slots / slot-bytes) (i .room) (edges (tables i) (decompositions i) (characters i)) ≡ none
+
+pub sound-edges : (i : Inputs) → refusal i ≡ none → Held i → All (Sound (length (characters i))) (edges (tables i) (decompositions i) (characters i))
+unfolding edges
+sound-edges i e h = lattice-sound (tables i) (decompositions i) (characters i) (bounded i (accepted-of i e)) (i .slots / slot-bytes) (i .room) h

@@ -34,12 +34,15 @@ refused-order = 24
 abbrev pub refused-rows : ℕ
 refused-rows = 25
 
--- the class table, the vowel table, the language code
+-- the class table, the vowel table, the decomposition table, the language code
 abbrev pub refused-classes : ℕ
 refused-classes = 3
 
 abbrev pub refused-vowels : ℕ
 refused-vowels = 4
+
+abbrev pub refused-decompositions : ℕ
+refused-decompositions = 13
 
 abbrev pub refused-code : ℕ
 refused-code = 5
@@ -53,6 +56,10 @@ refused-too-long = 7
 
 abbrev pub refused-left-out : ℕ
 refused-left-out = 8
+
+-- an edge's text that would be too long: that of a character which stands for others
+abbrev pub refused-edge-text : ℕ
+refused-edge-text = 14
 
 -- what was lent: slots, text room, output
 abbrev pub refused-slots : ℕ
@@ -68,8 +75,8 @@ refused-output = 11
 abbrev pub numbers : List ℕ
 numbers =
     refused-mode ∷ refused-capitals ∷ refused-length ∷ refused-range ∷ refused-letter ∷ refused-byte ∷ refused-order ∷ refused-rows
-    ∷ refused-classes ∷ refused-vowels ∷ refused-code
-    ∷ refused-utf8 ∷ refused-too-long ∷ refused-left-out ∷ refused-slots ∷ refused-room ∷ refused-output ∷ []
+    ∷ refused-classes ∷ refused-vowels ∷ refused-decompositions ∷ refused-code
+    ∷ refused-utf8 ∷ refused-too-long ∷ refused-left-out ∷ refused-slots ∷ refused-room ∷ refused-edge-text ∷ refused-output ∷ []
 
 -- A refusal is one of these numbers, and its place
 pub record Refusal : Type 0 where

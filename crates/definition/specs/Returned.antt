@@ -2,7 +2,7 @@
 use mathlib.Core.Path.{_≡_}
 use mathlib.Core.List.{List}
 use mathlib.Core.Option.{Option, none, some}
-use Prim.Native.Nat.{ℕ, zero, _-_, _/_, _≤_}
+use Prim.Native.Nat.{ℕ, _-_, _/_, _≤_}
 use native.Mathlib.Omega.{arith}
 use lib.Dec.{ltb}
 use lib.ListN.{length, drop, replicate, length-append, length-replicate}
@@ -13,11 +13,11 @@ use Rattle.definition.specs.Limits.{slot-bytes}
 use Rattle.definition.specs.Texts.{Text}
 use Rattle.definition.specs.Tables.{Tables}
 use Rattle.definition.specs.Edges.{State}
-use Rattle.definition.specs.Building.{lattice}
+use Rattle.definition.specs.Decomposing.{lattice}
 use Rattle.definition.specs.Listing.{shown}
 use Rattle.definition.specs.Refusals.{Refusal}
-use Rattle.definition.specs.Capacity.{misfit}
-use Rattle.definition.specs.Call.{Inputs, Called, tables, characters, refusal, refused, written, within-room, with-lattice, accepted, unless-refused, called}
+use Rattle.definition.specs.Capacity.{overflow}
+use Rattle.definition.specs.Call.{Inputs, Called, tables, decompositions, characters, refusal, refused, written, within-room, with-lattice, accepted, unless-refused, called}
 
 pub record Returned (i : Inputs) (r : Called) : Type 0 where
   pub whole : length (r .output) ≡ i .out
@@ -50,5 +50,9 @@ returned i = by-refusal (refusal i)
     by-room D t st (some r) = refused-returned i r
 
     by-refusal : (o : Option Refusal) → Returned i (unless-refused i o)
-    by-refusal none = let t = characters i in let D = tables i in by-room D t (lattice D t) (misfit (i .slots / slot-bytes) (i .room) (lattice D t .0))
+    by-refusal none =
+        let t = characters i in
+        let D = tables i in
+        let ds = decompositions i in
+        by-room D t (lattice D ds t) (overflow D ds t (i .slots / slot-bytes) (i .room) (lattice D ds t .0))
     by-refusal (some r) = refused-returned i r

@@ -17,15 +17,15 @@ use Rattle.definition.specs.Call.{Inputs, Called, called}
 use Rattle.definition.specs.Compute.{compute}
 
 -- Rows as bytes
-abbrev joint : List (List ℕ) → List ℕ
+abbrev pub joint : List (List ℕ) → List ℕ
 joint [] = []
 joint (r ∷ l) = r ++ joint l
 
-abbrev threes : Text → List ℕ
+abbrev pub threes : Text → List ℕ
 threes [] = []
 threes (c ∷ w) = three c ++ threes w
 
-abbrev sized : List ℕ → List ℕ
+abbrev pub sized : List ℕ → List ℕ
 sized r = two (length r) ++ r
 
 -- a rule with flags, a count, a source and a target: no codes, no alternatives
@@ -34,7 +34,7 @@ rule-by flags count w r =
     sized (flags ∷ (two count ++ (length (chars w) ∷ (threes (chars w)
     ++ (0 ∷ length (chars r) ∷ (chars r ++ 0 ∷ []))))))
 
-abbrev rule : String → String → List ℕ
+abbrev pub rule : String → String → List ℕ
 rule w r = rule-by 32 0 w r
 
 -- one at a start of word only, of count 1
@@ -42,11 +42,11 @@ abbrev rule-first : String → String → List ℕ
 rule-first w r = rule-by 33 1 w r
 
 -- a character with category, script and flags
-abbrev class-by : ℕ → ℕ → ℕ → ℕ → List ℕ
+abbrev pub class-by : ℕ → ℕ → ℕ → ℕ → List ℕ
 class-by c k s f = three c ++ k ∷ s ∷ f ∷ []
 
 -- letters of a script
-abbrev letters : ℕ → Text → List ℕ
+abbrev pub letters : ℕ → Text → List ℕ
 letters s [] = []
 letters s (c ∷ w) = class-by c 1 s 0 ++ letters s w
 
@@ -77,11 +77,15 @@ sample-classes = sample-classes-by 0
 abbrev pub sample-vowels : List ℕ
 sample-vowels = block (vowel 5 "a" ++ vowel 6 "a")
 
+-- no character stands for others
+abbrev pub no-decompositions : List ℕ
+no-decompositions = block []
+
 -- Choices: none, as the port has it, or this number for capitals
 abbrev pub capitals-by : ℕ → Choices
 capitals-by n = record { capitals = n }
 
-abbrev as-port : Choices
+abbrev pub as-port : Choices
 as-port = capitals-by 0
 
 -- A call with choices, rules and classes, and room enough; and one with the sample's
@@ -92,6 +96,7 @@ sample-with mode choices rules classes code text = record {
   rules = rules;
   classes = classes;
   vowels = sample-vowels;
+  decompositions = no-decompositions;
   code = chars code;
   text = encoded (chars text);
   slots = 1200;
@@ -103,7 +108,7 @@ abbrev pub sample : ℕ → String → String → Inputs
 sample mode code text = sample-with mode as-port sample-rules sample-classes code text
 
 -- the call is done, and its output is these bytes
-abbrev gave : Called → List ℕ → Bool
+abbrev pub gave : Called → List ℕ → Bool
 gave r w = eqb (r .number) 0 && eqb (r .length) (length w) && same (take (length w) (r .output)) w
 
 -- A row of document 01's table: code, text, result, and the edge count or 0 where none is said
@@ -149,7 +154,7 @@ sample-results = refl
 abbrev digit : ℕ → ℕ
 digit c = pick (ltb c 97) (c - 48) (c - 87)
 
-abbrev hex : Text → List ℕ
+abbrev pub hex : Text → List ℕ
 hex [] = []
 hex (a ∷ []) = []
 hex (a ∷ b ∷ w) = (digit a * 16 + digit b) ∷ hex w
@@ -223,7 +228,7 @@ pub record Refused : Type 0 where
   pub number : ℕ
   pub place : ℕ
 
-abbrev refused-at : ℕ → ℕ → Inputs → Refused
+abbrev pub refused-at : ℕ → ℕ → Inputs → Refused
 refused-at n p i = record { call = i; number = n; place = p }
 
 -- a call with these tables and choices, and one with this code, text and room
@@ -234,6 +239,7 @@ chosen mode capitals r c v = record {
   rules = r;
   classes = c;
   vowels = v;
+  decompositions = no-decompositions;
   code = [];
   text = encoded (chars "कत");
   slots = 24;
@@ -251,6 +257,7 @@ roomed mode code text slots room out = record {
   rules = sample-rules;
   classes = sample-classes;
   vowels = sample-vowels;
+  decompositions = no-decompositions;
   code = code;
   text = text;
   slots = slots;

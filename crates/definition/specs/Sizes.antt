@@ -16,14 +16,14 @@ use Rattle.definition.specs.Blocks.{head-bytes, version-1, headed}
 use Rattle.definition.specs.Utf8.{encoded}
 use Rattle.definition.specs.Tables.{lexicon}
 use Rattle.definition.specs.Edges.{Edge, view}
-use Rattle.definition.specs.Building.{lattice}
-use Rattle.definition.specs.Paths.{path-of, with-alternatives-of, all-edges-of, edges, edge-count, path, with-alternatives, alternatives, all-edges}
+use Rattle.definition.specs.Paths.{path-of, with-alternatives-of, all-edges-of}
+use Rattle.definition.specs.Decomposing.{lattice, edges, edge-count, path, with-alternatives, alternatives, all-edges}
 use Rattle.definition.specs.Listing.{row-head-bytes, edge-row, edge-rows, block, listing, shown}
 use Rattle.definition.specs.Capacity.{bytes}
-use Rattle.definition.specs.Call.{Inputs, tables-of, tables, characters, refusal}
+use Rattle.definition.specs.Call.{Inputs, tables-of, tables, decompositions, characters, refusal}
 use Rattle.definition.specs.Accepted.{accepted-of, rules-few}
-use Rattle.definition.specs.Promises.{few-characters, few-edges, sound-edges}
-use Rattle.definition.specs.Alternatives.{listed}
+use Rattle.definition.specs.Promises.{few-characters, few-edges, Held, sound-edges}
+use Rattle.definition.specs.Alternatives.{path-sound, listed}
 use Rattle.definition.specs.Counts.{path-few, rules-others, for-edge, edges-grown}
 use Rattle.definition.specs.AllEdges.{sorted-all, sorted-few}
 
@@ -79,56 +79,61 @@ block-headed rows e = eq-eqb (head-bytes + be4 (block rows) 1) (length (block ro
 
 -- what a mode shows of a call's text
 abbrev pub shown-in : Inputs → ℕ → List ℕ
-shown-in i m = shown (tables i) (characters i) m (lattice (tables i) (characters i))
+shown-in i m = shown (tables i) (characters i) m (lattice (tables i) (decompositions i) (characters i))
 
--- Of a call that is not refused for its mode, tables, code or text: the edges of the path, and the alternatives
-module _ (i : Inputs) (ok : refusal i ≡ none) where
-  few-path : length (path (tables i) (characters i)) ≤ most-characters
+-- Of a call that is not refused for its mode, tables, code, text or room: the edges of the path, and the alternatives
+module _ (i : Inputs) (ok : refusal i ≡ none) (held : Held i) where
+  few-path : length (path (tables i) (decompositions i) (characters i)) ≤ most-characters
   unfolding path path-of
-  few-path = let n = few-characters i ok in let k = path-few (length (characters i)) 0 (lattice (tables i) (characters i) .0) in omega arith
+  few-path = let n = few-characters i ok in let k = path-few (length (characters i)) 0 (lattice (tables i) (decompositions i) (characters i) .0) in omega arith
 
-  few-alternatives : length (alternatives (tables i) (characters i)) ≤ for-edge * length (path (tables i) (characters i))
+  short-path : All (λ x. bytes x ≤ most-bytes) (path (tables i) (decompositions i) (characters i))
+  unfolding path path-of edges
+  short-path = path-sound (λ x. bytes x ≤ most-bytes) (length (characters i)) 0 (lattice (tables i) (decompositions i) (characters i) .0)
+      (All-map (λ x s. s .short) (lattice (tables i) (decompositions i) (characters i) .0) (sound-edges i ok held))
+
+  few-alternatives : length (alternatives (tables i) (decompositions i) (characters i)) ≤ for-edge * length (path (tables i) (decompositions i) (characters i))
   unfolding path path-of with-alternatives with-alternatives-of tables tables-of
   few-alternatives =
       let D = tables i in
       let t = characters i in
-      let st = lattice D t in
+      let st = lattice D (decompositions i) t in
       let n = rules-few (i .rules) (accepted-of i ok .rules) in
       let o = rules-others (i .rules) (accepted-of i ok .rules) in
       let xs = path-of D t st in
       let g = edges-grown (lexicon D) t (view (D .classes) (st .0)) n o xs xs .gives (st .1) .few in
       let w = ap (λ (l : List Edge). length l) (listed i ok .whole) in
-      omega (arith, length-append (path D t) (alternatives D t))
+      omega (arith, length-append (path D (decompositions i) t) (alternatives D (decompositions i) t))
 
   -- Mode 1's rows, mode 2's and mode 3's
-  pub path-size : length (edge-rows (path (tables i) (characters i))) ≤ most-listing
+  pub path-size : length (edge-rows (path (tables i) (decompositions i) (characters i))) ≤ most-listing
   path-size =
-      let xs = path (tables i) (characters i) in
+      let xs = path (tables i) (decompositions i) (characters i) in
       let n = few-path in
-      let r = rows-length most-bytes xs (All-map (λ x s. s .short) xs (listed i ok .path)) in
+      let r = rows-length most-bytes xs short-path in
       omega arith
 
-  pub alternatives-size : length (edge-rows (with-alternatives (tables i) (characters i))) ≤ most-listing
+  pub alternatives-size : length (edge-rows (with-alternatives (tables i) (decompositions i) (characters i))) ≤ most-listing
   alternatives-size =
-      let xs = path (tables i) (characters i) in
-      let ys = alternatives (tables i) (characters i) in
+      let xs = path (tables i) (decompositions i) (characters i) in
+      let ys = alternatives (tables i) (decompositions i) (characters i) in
       let n = few-path in
       let m = few-alternatives in
-      let r = rows-length most-bytes xs (All-map (λ x s. s .short) xs (listed i ok .path)) in
+      let r = rows-length most-bytes xs short-path in
       let q = rows-length most-alternative ys (All-map (λ x s. s .short) ys (listed i ok .alternatives)) in
       let w = ap (λ (l : List Edge). length (edge-rows l)) (listed i ok .whole) in
       omega (arith, rows-append xs ys)
 
-  pub all-size : length (edge-rows (all-edges (tables i) (characters i))) ≤ most-listing
+  pub all-size : length (edge-rows (all-edges (tables i) (decompositions i) (characters i))) ≤ most-listing
   unfolding all-edges all-edges-of edges edge-count
   all-size =
       let t = characters i in
-      let es = lattice (tables i) t .0 in
+      let es = lattice (tables i) (decompositions i) t .0 in
       let n = few-characters i ok in
       let m = few-edges i in
       let k = sorted-few es (length t) 0 in
-      let l = all-edges (tables i) t in
-      let r = rows-length most-bytes l (sorted-all (λ x. bytes x ≤ most-bytes) es (length t) 0 (All-map (λ x s. s .short) es (sound-edges i ok))) in
+      let l = all-edges (tables i) (decompositions i) t in
+      let r = rows-length most-bytes l (sorted-all (λ x. bytes x ≤ most-bytes) es (length t) 0 (All-map (λ x s. s .short) es (sound-edges i ok held))) in
       omega arith
 
   -- So in each mode that lists, 1 to 3, the bytes of the rows are fewer than four bytes can count

@@ -104,6 +104,17 @@ pub record Vowel : Type 0 where
   pub ao : Bool
   pub letters : Text
 
+-- A character that stands for others
+pub record Decomposition : Type 0 where
+  pub char : ℕ
+  pub tag : ℕ
+  -- 1 to 18 characters in an accepted table
+  pub into : Text
+
+-- The tag that gives an edge; 0 to 4 are none, super, sub, noBreak and compat
+abbrev pub tag-other : ℕ
+tag-other = 5
+
 -- What a caller may choose beside the port's behaviour, each 0 or 1 in an accepted call
 pub record Choices : Type 0 where
   -- capitals as the Python has them

@@ -60,6 +60,12 @@ khmer-yo = 0x1799
 abbrev pub en-dash : ℕ
 en-dash = 0x2013
 
+abbrev pub slash : ℕ
+slash = 47
+
+abbrev pub fraction-slash : ℕ
+fraction-slash = 0x2044
+
 abbrev pub long-mark : ℕ
 long-mark = 0x30FC
 
@@ -99,6 +105,10 @@ vowels = among "aeiou"
 
 unfoldable pub consonants : ℕ → Bool
 consonants = among "bcdfghjklmnpqrstvwxyz"
+
+-- Tibetan, Braille and Hangul syllables, which are left out
+unfoldable pub left-out : ℕ → Bool
+left-out c = (leb 0x0F00 c && leb c 0x0FFF) || (leb 0x2800 c && leb c 0x28FF) || (leb 0xAC00 c && leb c 0xD7A3)
 
 -- A-Z; and a capital letter made small
 unfoldable pub capital : ℕ → Bool

@@ -51,7 +51,7 @@ module _ (r : Spanned) where
   pub span-spelt : (D : Tables) → Bounded D → (t : Text) (v : View) (s e : ℕ) (m : Mem) {m₁ : Mem} → s < e → e ≤ length t
       → Did (span-edge D t v s e m) (found r) m₁ → r .there ≡ true → Sound (length t) (edge-with (r .numbers) w) × Short most-bytes w
   span-spelt D ok t v s e m l k d h =
-      subst (Opt (Spelt D ok t)) (sym (d .value) ∙ found-there r h) (bounds.span-spelt D ok t v s e l k .gives m)
+      let y = subst (Opt (Spelt D ok t)) (sym (d .value) ∙ found-there r h) (bounds.span-spelt D ok t v s e l k .gives m) in (y .0, y .1)
 
   -- and starts near
   pub span-near : (D : Tables) (t : Text) (v : View) (s e : ℕ) (m : Mem) {m₁ : Mem}

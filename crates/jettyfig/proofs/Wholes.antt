@@ -5,16 +5,16 @@ use mathlib.Core.Path.{_≡_, refl, sym, ap, _∙_, subst}
 use native.Mathlib.Omega.{arith}
 use lib.ListN.{length, take, replicate, length-replicate, length-append}
 use lib.Seq.{take-at}
-use Rattle.base.specs.Alls.{All}
+use Rattle.base.specs.Alls.{All, All-map}
 use Rattle.base.specs.Rows.{counted}
 use Rattle.base.specs.ListLaws.{take-replicate}
 use Rattle.definition.specs.Limits.{most-characters}
 use Rattle.definition.specs.Texts.{Text}
 use Rattle.definition.specs.Tables.{Tables}
 use Rattle.definition.specs.Edges.{Mem}
-use Rattle.definition.specs.Building.{lattice}
-use Rattle.definition.specs.Bounds.{Bounded, Sound, lattice-sound}
-use Rattle.definition.specs.Growth.{lattice-few}
+use Rattle.definition.specs.Building.{rule-lattice}
+use Rattle.definition.specs.Bounds.{Bounded, Sound, rule-lattice-ruled}
+use Rattle.definition.specs.Growth.{rule-lattice-few}
 use Rattle.definition.specs.Promises.{tables-bounded}
 use Rattle.definition.specs.Listing.{shown}
 use Rattle.definition.specs.Call.{Called, tables-of, written, accepted}
@@ -62,14 +62,14 @@ first-over {w} {ready} {line} t g slots room places e = record {
 
 module _ (rules vowels code : List ℕ) {ready line S R P S′ R′ P′ : List ℕ} {w : World} (o : Over w ready line S R P nothing) (table : Prepared rules ready)
     (fine : FineVowels vowels) {c u most : ℕ}
-    (b : Reached (kinds w) (size w) S R S′ R′ P′ most (lattice (tables-of (w .choices) rules (w .classes) vowels code) (w .text)) (Fits c u)) where
+    (b : Reached (kinds w) (size w) S R S′ R′ P′ most (rule-lattice (tables-of (w .choices) rules (w .classes) vowels code) (w .text)) (Fits c u)) where
   abbrev D : Tables
   D = tables-of (w .choices) rules (w .classes) vowels code
 
   abbrev t : Text
   t = w .text
 
-  pub built-lent : Lent (with-edges w (lattice D t .0)) line P′
+  pub built-lent : Lent (with-edges w (rule-lattice D t .0)) line P′
   built-lent = record { text = record { fine = o .lent .text .fine; few = o .lent .text .few; is = o .lent .text .is }; edges = b .came .0 .shown }
 
   ok : Bounded D
@@ -85,20 +85,20 @@ module _ (rules vowels code : List ℕ) {ready line S R P S′ R′ P′ : List 
         stored = b .came .0 .stored;
         stands = s;
         sized = l;
-        sound = reached-sound b (size-in line) (subst (λ (k : ℕ). All (Sound k) (lattice D t .0)) (sym is) (lattice-sound D ok t));
+        sound = reached-sound b (size-in line) (subst (λ (k : ℕ). All (Sound k) (rule-lattice D t .0)) (sym is) (All-map (λ x r. r .sound) (rule-lattice D t .0) (rule-lattice-ruled D ok t)));
         short = omega (arith, few, is);
-        few = omega (arith, reached-count b, lattice-few D t, few);
+        few = omega (arith, reached-count b, rule-lattice-few D t, few);
         mode = h;
-        world = with-edges w (lattice D t .0);
-        told = told-with (o .told) (lattice D t .0);
+        world = with-edges w (rule-lattice D t .0);
+        told = told-with (o .told) (rule-lattice D t .0);
         lent = built-lent;
         edges = b .came .0 .edges;
       }
 
   pub built-written : (mode out : ℕ) (text : List ℕ) (r : Called)
-      → r ≡ written (given mode (w .choices) rules (w .classes) vowels code text (length S) (length R) out) c (shown D t mode (lattice D t .0, memory (size w) P′))
+      → r ≡ written (given mode (w .choices) rules (w .classes) vowels code text (length S) (length R) out) c (shown D t mode (rule-lattice D t .0, memory (size w) P′))
       → r ≡ accepted (given mode (w .choices) rules (w .classes) vowels code text (length S) (length R) out) D t
   built-written mode out text r e =
       let i = given mode (w .choices) rules (w .classes) vowels code text (length S) (length R) out in
-      e ∙ ap (λ (m : Mem). written i c (shown D t mode (lattice D t .0, m))) (b .came .0 .remembered)
-      ∙ ap (λ (k : ℕ). written i k (shown D t mode (lattice D t))) (reached-count b) ∙ built-all i D t (reached-fits b)
+      e ∙ ap (λ (m : Mem). written i c (shown D t mode (rule-lattice D t .0, m))) (b .came .0 .remembered)
+      ∙ ap (λ (k : ℕ). written i k (shown D t mode (rule-lattice D t))) (reached-count b) ∙ built-all i D t ok refl (reached-fits b)

@@ -10,15 +10,18 @@ use Rattle.base.specs.Pick.{pick}
 use Rattle.base.specs.Lists.{or-else}
 use Rattle.base.specs.Alls.{All}
 use Rattle.definition.specs.Limits.{slot-bytes}
-use Rattle.definition.specs.Texts.{Text}
+use Rattle.definition.specs.Texts.{Text, at}
 use Rattle.definition.specs.Tables.{Class, Tables}
 use Rattle.definition.specs.Edges.{State}
-use Rattle.definition.specs.Building.{lattice}
-use Rattle.definition.specs.Bounds.{Sound}
+use Rattle.definition.specs.Building.{rule-lattice}
+use Rattle.definition.specs.Bounds.{Bounded, Sound}
+use Rattle.definition.specs.DecompositionRows.{decompositions-of}
+use Rattle.definition.specs.Sample.{no-decompositions}
+use Rattle.definition.specs.FormsOff.{Silent, stands-off, by-rules-alone, accepted-off, empty-silent}
 use Rattle.definition.specs.Listing.{shown}
 use Rattle.definition.specs.Refusals.{Refusal, refuse, refused-output}
 use Rattle.definition.specs.Capacity.{misfit}
-use Rattle.definition.specs.Call.{Inputs, Called, tables, characters, before-text, refusal, refused, written, within-room, with-lattice, accepted, unless-refused, called}
+use Rattle.definition.specs.Call.{Inputs, Called, tables, decompositions, characters, before-text, refusal, refused, written, within-room, accepted, unless-refused, called}
 use Rattle.definition.specs.Call.{text-refusal}
 use Rattle.lent_bytes.specs.Puts.{put-at}
 use Rattle.edge.specs.declared.Added.the-variants.{Fits}
@@ -69,18 +72,25 @@ module _ (w out out′ : List ℕ) (r : ℕ) (s : Shows w out out′ r) (h : out
       (ap (λ (m : ℕ). returned (refusing refused-output m) z) (s .needed)
       ∙ ap (returned (refusing refused-output (length w))) (e ∙ ap (λ (m : ℕ). replicate {A = ℕ} m 0) (s .kept ∙ sym l)))
 
--- What is built: a refusal of slots or room, or the lattice
-module _ (i : Inputs) (D : Tables) (t : Text) where
+-- What is built, where no character stands for others: a refusal of slots or room, or the lattice
+module _ (i : Inputs) (D : Tables) (t : Text) (ok : Bounded D) (e : i .decompositions ≡ no-decompositions) where
   abbrev built : Option Refusal
-  built = misfit (i .slots / slot-bytes) (i .room) (lattice D t .0)
+  built = misfit (i .slots / slot-bytes) (i .room) (rule-lattice D t .0)
+
+  silent : Silent (decompositions i)
+  unfolding decompositions
+  silent = subst Silent (sym (ap decompositions-of e ∙ empty-silent)) tt
+
+  by-rules : by-rules-alone i D t ≡ accepted i D t
+  by-rules = sym (accepted-off i D t ok (λ p l. stands-off (decompositions i) silent (at t p)))
 
   pub built-refused : (x : Refusal) → built ≡ some x → refused i x ≡ accepted i D t
-  unfolding accepted with-lattice within-room
-  built-refused x e = sym (ap (within-room i D t (lattice D t)) e)
+  unfolding by-rules-alone within-room
+  built-refused x q = sym (ap (within-room i D t (rule-lattice D t)) q) ∙ by-rules
 
-  pub built-all : built ≡ none → written i (length (lattice D t .0)) (shown D t (i .mode) (lattice D t)) ≡ accepted i D t
-  unfolding accepted with-lattice within-room
-  built-all e = sym (ap (within-room i D t (lattice D t)) e)
+  pub built-all : built ≡ none → written i (length (rule-lattice D t .0)) (shown D t (i .mode) (rule-lattice D t)) ≡ accepted i D t
+  unfolding by-rules-alone within-room
+  built-all q = sym (ap (within-room i D t (rule-lattice D t)) q) ∙ by-rules
 
 -- a lattice that is in the slots has found room
 module _ {ks : List Class} {n : ℕ} {S R S′ R′ P′ : List ℕ} {most : ℕ} {st : State} {c u : ℕ} (b : Reached ks n S R S′ R′ P′ most st (Fits c u)) where
@@ -100,7 +110,7 @@ module _ {ks : List Class} {n : ℕ} {S R S′ R′ P′ : List ℕ} {most : ℕ
 -- What is read, and what is checked before
 module _ (i : Inputs) where
   abbrev first : Option Refusal
-  first = before-text (i .mode) (i .choices) (i .rules) (i .classes) (i .vowels) (i .code)
+  first = before-text (i .mode) (i .choices) (i .rules) (i .classes) (i .vowels) (i .decompositions) (i .code)
 
   pub read-refused : (x : Refusal) → text-refusal (i .text) ≡ some x → refused i x ≡ unless-refused i (text-refusal (i .text))
   unfolding unless-refused

@@ -16,6 +16,7 @@ use Rattle.definition.specs.Blocks.{small}
 use Rattle.definition.specs.Refusals.{Refusal, refuse, when, placed, refused-code}
 use Rattle.definition.specs.Utf8.{bad-sequence, bad-from, decoded, decode-by}
 use Rattle.definition.specs.Call.{Inputs, Called, code-right, first-left-out, before-text, text-refusal, refusal}
+use Rattle.definition.specs.Sample.{no-decompositions}
 use Rattle.definition.specs.Accepted as accepted
 use Rattle.definition.specs.Tables.{Choices}
 use Rattle.jettyfig.specs.declared.Answer.{Answer}
@@ -35,7 +36,7 @@ choose capitals = record { capitals = capitals }
 abbrev pub chosen : Asked → Choices
 chosen a = choose (a .capitals)
 
--- what a call was given, and what it returned with the whole output
+-- what a call was given, and what it returned with the whole output. No character stands for others
 abbrev pub given : ℕ → Choices → List ℕ → List ℕ → List ℕ → List ℕ → List ℕ → ℕ → ℕ → ℕ → Inputs
 given mode choices rules classes vowels code text slots room out = record {
   mode = mode;
@@ -43,6 +44,7 @@ given mode choices rules classes vowels code text slots room out = record {
   rules = rules;
   classes = classes;
   vowels = vowels;
+  decompositions = no-decompositions;
   code = code;
   text = text;
   slots = slots;
@@ -105,7 +107,7 @@ module _ (most n number : ℕ) (l : List (Option Refusal)) where
   not-above h = sym (first-past (when (ltb most n) number 0) l (rw (le-ltb most n h)))
 
 -- nothing refused of either is nothing refused
-pub nothing-refused : (i : Inputs) → before-text (i .mode) (i .choices) (i .rules) (i .classes) (i .vowels) (i .code) ≡ none → text-refusal (i .text) ≡ none → refusal i ≡ none
+pub nothing-refused : (i : Inputs) → before-text (i .mode) (i .choices) (i .rules) (i .classes) (i .vowels) (i .decompositions) (i .code) ≡ none → text-refusal (i .text) ≡ none → refusal i ≡ none
 unfolding refusal
 nothing-refused i e f = ap (λ o. or-else o (text-refusal (i .text))) e ∙ f
 
@@ -114,7 +116,7 @@ empty-text : text-refusal [] ≡ none
 unfolding text-refusal first-of placed when bad-sequence bad-from decoded decode-by first-left-out pick
 empty-text = refl
 
-pub passed : (mode : ℕ) (choices : Choices) (rules classes vowels code : List ℕ) → before-text mode choices rules classes vowels code ≡ none
+pub passed : (mode : ℕ) (choices : Choices) (rules classes vowels code : List ℕ) → before-text mode choices rules classes vowels no-decompositions code ≡ none
     → accepted.Accepted (given mode choices rules classes vowels code [] 0 0 0)
 passed mode choices rules classes vowels code e =
     let i = given mode choices rules classes vowels code [] 0 0 0 in

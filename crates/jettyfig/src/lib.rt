@@ -10,6 +10,7 @@ ghost use Rattle.definition.specs.Utf8.{decoded};
 ghost use Rattle.definition.specs.ClassRows.{class-fault};
 ghost use Rattle.definition.specs.RuleFaults.{rule-fault};
 ghost use Rattle.definition.specs.Call.{Inputs, before-text, text-refusal, refusal, called};
+ghost use Rattle.definition.specs.Sample.{no-decompositions};
 ghost use Rattle.table_blocks.specs.Faults.{table-means};
 ghost use Rattle.rule_table_check.specs.Told.{rules-means};
 ghost use Rattle.utf8.specs.Read.{text-means};
@@ -142,7 +143,7 @@ fn check_code(code: &[u8]) -> Verdict
 
 // What is refused before the text is read, in this order.
 fn check(asked: Asked, rules: &[u8], classes: &[u8], vowels: &[u8], code: &[u8]) -> Verdict
-    ensures { λ r. ⌜ verdict-means r ≡ before-text (asked .mode) (chosen asked) (now (rules .entry)) (now (classes .entry)) (now (vowels .entry)) (now (code .entry)) ⌝ }
+    ensures { λ r. ⌜ verdict-means r ≡ before-text (asked .mode) (chosen asked) (now (rules .entry)) (now (classes .entry)) (now (vowels .entry)) no-decompositions (now (code .entry)) ⌝ }
 {
     if MOST_MODE < asked.mode {
         return Verdict::Refused(REFUSED_MODE, 0);
@@ -342,7 +343,7 @@ fn read<'a>(
     room: &mut [u8],
     out: &mut [u8],
 ) -> Answer
-    requires { ⌜ (before-text (asked .mode) (chosen asked) (now rules) (now classes) (now vowels) (now code) ≡ none) × (now out ≡ replicate (length (now out)) 0) ⌝ }
+    requires { ⌜ (before-text (asked .mode) (chosen asked) (now rules) (now classes) (now vowels) no-decompositions (now code) ≡ none) × (now out ≡ replicate (length (now out)) 0) ⌝ }
     ensures { λ r. ⌜ Reads (asked .mode) (chosen asked) (now (rules .entry)) (now (classes .entry)) (now (vowels .entry)) (now (code .entry)) (now (text .entry))
         (length (now (slots .entry))) (length (now (room .entry))) (length (now (out .entry))) (returned r (now (out .exit))) ⌝ }
 {
@@ -388,7 +389,8 @@ fn respond<'a>(
     }
 }
 
-// The call. Answer and output are the definition's `called`; slots and text room are zeros afterwards, whatever happened.
+// The call. Answer and output are the definition's `called`, of a decomposition table without rows: no character stands for
+// others here; slots and text room are zeros afterwards, whatever happened.
 #[no_mangle]
 pub extern "C" fn jettyfig_romanize<'a>(
     mode: u8,

@@ -4,7 +4,7 @@ use mathlib.Core.List.{List}
 use mathlib.Core.Path.{_≡_}
 use lib.ListN.{replicate}
 use Rattle.definition.specs.Limits.{most-bytes, most-edges, most-characters}
-use Rattle.definition.specs.Building.{lattice}
+use Rattle.definition.specs.Building.{rule-lattice}
 use Rattle.definition.specs.Call.{tables-of}
 use Rattle.edge.specs.declared.Added.{Added as Answer}
 use Rattle.table_vowels.specs.Told.{FineVowels}
@@ -17,7 +17,7 @@ abbrev pub Lattice : List ℕ → List ℕ → List ℕ → List ℕ → List �
 Lattice rules ready vowels code line before after r =
     (w : World) → Over w ready line (before .0) (before .1) (before .2) nothing
     → Reached (kinds w) (size w) (before .0) (before .1) (after .0) (after .1) (after .2) (most-edges * most-characters * most-bytes)
-    (lattice (tables-of (w .choices) rules (w .classes) vowels code) (w .text)) r
+    (rule-lattice (tables-of (w .choices) rules (w .classes) vowels code) (w .text)) r
 
 -- What building it needs: the tables are as they were checked, the text's bytes are its own, what is lent stands for a
 -- world without edges, and places and starts are zeros

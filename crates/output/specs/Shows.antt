@@ -9,14 +9,14 @@ use lib.ListN.{length, drop, length-append}
 use borrow.Author.Tests.{le-leb, leb-true}
 use Rattle.base.specs.Pick.{pick, pick-ind}
 use Rattle.base.specs.Big.{two, three, four}
-use Rattle.base.specs.Alls.{All}
+use Rattle.base.specs.Alls.{All, All-map}
 use Rattle.definition.specs.Texts.{Text}
 use Rattle.definition.specs.Tables.{Tables, lexicon}
 use Rattle.definition.specs.Utf8.{encoded}
 use Rattle.definition.specs.Edges.{Edge, Mem, State, view}
 use Rattle.definition.specs.Paths.{joined, path-from, sorted, path-of, with-alternatives-of, all-edges-of}
 use Rattle.definition.specs.Offers.{found-all, alternatives-are}
-use Rattle.definition.specs.Bounds.{Sound}
+use Rattle.definition.specs.Bounds.{Sound, sound-formed}
 use Rattle.definition.specs.Listing.{edge-rows, block, listing, shown}
 use Rattle.lent_bytes.specs.Puts.{put-at, put-from, put-length}
 use Rattle.listing.specs.Items.{items-rows, items-texts, put-items, put-items-end, put-items-length, put-items-all}
@@ -45,7 +45,7 @@ module _ (D : Tables) (t : Text) (n : ℕ) (l : length t ≡ n) (mode : ℕ) (es
       → listed D t mode (es, m) ≡ path-from n 0 es ++ found-all (lexicon D) t (view (D .classes) es) m (path-from n 0 es)
   unfolding listed with-alternatives-of path-of
   lists-alternatives e h =
-      ap (λ k. listed D t k (es, m)) e ∙ alternatives-are (lexicon D) t (view (D .classes) es) n es h (length t) 0 m
+      ap (λ k. listed D t k (es, m)) e ∙ alternatives-are (lexicon D) t (view (D .classes) es) n es (All-map sound-formed es h) (length t) 0 m
       ∙ ap (λ k. path-from k 0 es ++ found-all (lexicon D) t (view (D .classes) es) m (path-from k 0 es)) l
 
   -- below: the path

@@ -16,11 +16,11 @@ use Rattle.base.specs.Bools.{eqb-alike}
 use Rattle.base.specs.ListLaws.{map-uncons}
 use Rattle.definition.specs.Notes.{note-alt, note-alt3}
 use Rattle.definition.specs.Texts.{Text, the-space, at}
-use Rattle.definition.specs.Tables.{Rule, Lexicon, Tables}
+use Rattle.definition.specs.Tables.{Rule, Decomposition, Lexicon, Tables}
 use Rattle.definition.specs.Edges.{Edge, new-in, View, Mem, ret, _>>=_}
 use Rattle.definition.specs.Rules.{valids}
-use Rattle.definition.specs.Building.{lattice}
-use Rattle.definition.specs.Paths.{akin, other, also-all, cored, by-target, by-end-target, by-rule, by-rules, by-edges, with-alternatives-of, path, with-alternatives}
+use Rattle.definition.specs.Paths.{akin, other, also-all, cored, by-target, by-end-target, by-rule, by-rules, by-edges, with-alternatives-of}
+use Rattle.definition.specs.Decomposing.{lattice, path, with-alternatives}
 use Rattle.definition.specs.Blank.{blank-alpha}
 use Rattle.definition.specs.Alternatives.{Gives, gives-any, by-rules-added}
 use Rattle.stretches.specs.Demand.{First, within, shift}
@@ -181,12 +181,13 @@ module _ {L : Lexicon} (fair : Fair L) {T st : Text} {a : ℕ} (h : Stretch T st
           (sym (z .2)) (own (z .0) (z .1) (z .4) (subst (All (Inside 0 n)) (z .2) (e .full)) f))
 
 -- Mode 2's list
-pub listed-inside : {D : Tables} → FairTables D → {T st : Text} {a : ℕ} → Stretch T st a → First st
-    → keep (within a (length st)) (with-alternatives D T) ≡ map (shift a) (with-alternatives D st)
+pub listed-inside : {D : Tables} {ds : List Decomposition} → FairTables D ds → {T st : Text} {a : ℕ} → Stretch T st a
+    → First st
+    → keep (within a (length st)) (with-alternatives D ds T) ≡ map (shift a) (with-alternatives D ds st)
 unfolding with-alternatives with-alternatives-of path
-listed-inside {D} fair {T} {st} {a} h first =
+listed-inside {D} {ds} fair {T} {st} {a} h first =
     let r = lattice-inside fair h first in
     let p = path-inside fair h first in
     let g = see-edges (r .edges) first (D .classes) (blank-alpha (D .classes) (fair .lexicon .blank)) in
-    by-edges-inside (fair .lexicon) h g (path D T) (path D st) (path D T) (path D st)
-    (lattice D T .1) (lattice D st .1) p p (r .memory) .cut
+    by-edges-inside (fair .lexicon) h g (path D ds T) (path D ds st) (path D ds T) (path D ds st)
+    (lattice D ds T .1) (lattice D ds st .1) p p (r .memory) .cut

@@ -1,5 +1,6 @@
--- Demand 3 applied: its premises met by document 01's sample tables, its equations for a line of two words and for a
--- word where capitals are chosen, and a text for which it would be false without the premise on U+0E2D.
+-- Demand 3 applied: its premises met by document 01's sample tables, its equations for a line of two words, for a word
+-- where capitals are chosen and for one with a character that stands for others, and a text for which it would be false
+-- without the premise on U+0E2D.
 use mathlib.Core.Bool.{true, not, true≢false}
 use mathlib.Core.Path.{_≡_, refl, sym, _∙_, ap}
 use mathlib.Core.List.{[], _∷_, _++_, map}
@@ -11,12 +12,15 @@ use lib.ListN.{length}
 use borrow.Author.Tests.{eq-eqb}
 use Rattle.base.specs.Lists.{keep, all, tail}
 use Rattle.base.specs.Alls.{All-getD, all-all}
-use Rattle.definition.specs.Notes.{note-rom, note-core, note-exp, note-single, note-Zs}
+use Rattle.definition.specs.Notes.{note-rom, note-core, note-exp, note-single, note-Zs, note-orig, note-decomp}
 use Rattle.definition.specs.Texts.{Text, chars, the-space, o-ang, at}
+use Rattle.definition.specs.Utf8.{encoded}
 use Rattle.definition.specs.Edges.{Edge}
 use Rattle.definition.specs.Building.{single}
-use Rattle.definition.specs.Paths.{joined, edges, path}
-use Rattle.definition.specs.Call.{Inputs, tables, characters}
+use Rattle.definition.specs.Paths.{joined}
+use Rattle.definition.specs.Decomposing.{edges, path}
+use Rattle.definition.specs.Listing.{block}
+use Rattle.definition.specs.Call.{Inputs, tables, decompositions, characters}
 use Rattle.definition.specs.Compute.{compute}
 use Rattle.definition.specs.Sample.{sample-rules, sample-classes-by, capitals-by, lower-case, sample-with, sample}
 use Rattle.definition.specs.Parts.{Accepts}
@@ -45,31 +49,34 @@ pub line-taken : Taken line
 unfolding compute spaceless spaceless-if spaceless-rule
 line-taken = record { accepted = refl; no-space = refl }
 
-pub first-word : Alone (tables line) (characters line) (chars "कत") 0 × Accepts line (chars "कत")
+pub first-word : Alone (tables line) (decompositions line) (characters line) (chars "कत") 0 × Accepts line (chars "कत")
 unfolding compute
 first-word = demand line line-taken .stretches [] (chars "कत") (chars " क्त") refl start (After.space (chars "क्त"))
     (first-by (chars "कत") refl)
 
-pub second-word : Alone (tables line) (characters line) (chars "क्त") 3 × Accepts line (chars "क्त")
+pub second-word : Alone (tables line) (decompositions line) (characters line) (chars "क्त") 3
+    × Accepts line (chars "क्त")
 unfolding compute
 second-word = demand line line-taken .stretches (chars "कत ") (chars "क्त") [] refl (Before.space (chars "कत")) end
     (first-by (chars "क्त") refl)
 
 -- the space between them
-pub line-space : keep (over 2) (edges (tables line) (characters line)) ≡ single 2 note-Zs (chars " ") ∷ []
+pub line-space : keep (over 2) (edges (tables line) (decompositions line) (characters line))
+    ≡ single 2 note-Zs (chars " ") ∷ []
 unfolding compute has-row space-edge
 line-space = demand line line-taken .spaces 2 (omega arith) refl
 
 -- The edges of the second word in the line are those of the word alone, moved by 3
 pub second-edges :
-    keep (within 3 3) (edges (tables line) (characters line)) ≡ map (shift 3) (edges (tables line) (chars "क्त"))
+    keep (within 3 3) (edges (tables line) (decompositions line) (characters line))
+    ≡ map (shift 3) (edges (tables line) (decompositions line) (chars "क्त"))
 second-edges = second-word .0 .edges
 
 -- so they are these: क with its virama, the virama, त with its vowel, and क by itself
 abbrev edge : ℕ → ℕ → ℕ → ℕ → String → Edge
 edge s e n c w = record { from = s; to = e; note = n; core = c; text = chars w }
 
-pub second-edges-are : keep (within 3 3) (edges (tables line) (characters line))
+pub second-edges-are : keep (within 3 3) (edges (tables line) (decompositions line) (characters line))
     ≡ edge 3 5 note-exp 0 "k" ∷ edge 4 5 note-rom 0 "" ∷ edge 5 6 note-core 1 "ta" ∷ edge 3 4 note-single 0 "k" ∷ []
 unfolding compute shift
 second-edges-are = second-edges
@@ -82,16 +89,53 @@ pub capital-taken : Taken capital-line
 unfolding compute spaceless spaceless-if spaceless-rule
 capital-taken = record { accepted = refl; no-space = refl }
 
-pub capital-word : Alone (tables capital-line) (characters capital-line) (chars "Жж") 2 × Accepts capital-line (chars "Жж")
+pub capital-word : Alone (tables capital-line) (decompositions capital-line) (characters capital-line) (chars "Жж") 2
+    × Accepts capital-line (chars "Жж")
 unfolding compute
 capital-word = demand capital-line capital-taken .stretches (chars "ж ") (chars "Жж") (chars " ж") refl
     (Before.space (chars "ж")) (After.space (chars "ж")) (first-by (chars "Жж") refl)
 
 -- The word's edges alone, moved by 2: Ж before a lower-case letter is "Zh"
-pub capital-edges : keep (within 2 2) (edges (tables capital-line) (characters capital-line))
+pub capital-edges :
+    keep (within 2 2) (edges (tables capital-line) (decompositions capital-line) (characters capital-line))
     ≡ edge 2 3 note-rom 0 "Zh" ∷ edge 3 4 note-rom 0 "zh" ∷ []
 unfolding compute shift
 capital-edges = capital-word .0 .edges
+
+-- ½ stands for 1, the fraction slash and 2; ½ and 1 are numbers. There is no rule
+abbrev pub halves : ℕ → String → Inputs
+halves mode text = record {
+  mode = mode;
+  choices = capitals-by 0;
+  rules = block [];
+  classes = block (0 ∷ 0 ∷ 0x20 ∷ 7 ∷ 0 ∷ 0 ∷ 0 ∷ 0 ∷ 0x31 ∷ 4 ∷ 0 ∷ 0 ∷ 0 ∷ 0 ∷ 0xBD ∷ 4 ∷ 0 ∷ 0 ∷ []);
+  vowels = block [];
+  decompositions = block (0 ∷ 0 ∷ 0xBD ∷ 5 ∷ 3 ∷ 0 ∷ 0 ∷ 0x31 ∷ 0 ∷ 0x20 ∷ 0x44 ∷ 0 ∷ 0 ∷ 0x32 ∷ []);
+  code = [];
+  text = encoded (chars text);
+  slots = 1200;
+  room = 1000;
+  out = 100;
+}
+
+abbrev half-line : Inputs
+half-line = halves 2 "1 ½1"
+
+pub half-taken : Taken half-line
+unfolding compute spaceless spaceless-if spaceless-rule
+half-taken = record { accepted = refl; no-space = refl }
+
+pub half-word : Alone (tables half-line) (decompositions half-line) (characters half-line) (chars "½1") 2
+    × Accepts half-line (chars "½1")
+unfolding compute
+half-word = demand half-line half-taken .stretches (chars "1 ") (chars "½1") [] refl (Before.space (chars "1")) end
+    (first-by (chars "½1") refl)
+
+-- The word's edges alone, moved by 2: ½ is parted from the number beside it, and not from the one beyond the space
+pub half-edges : keep (within 2 2) (edges (tables half-line) (decompositions half-line) (characters half-line))
+    ≡ edge 2 3 note-decomp 0 "1/2 " ∷ edge 3 4 note-orig 0 "1" ∷ []
+unfolding compute shift
+half-edges = half-word .0 .edges
 
 -- What document 01 has run: ก, space, U+0E48, อ, ก gives "k ok", while U+0E48, อ, ก alone gives "k"
 abbrev thai-line : Inputs
@@ -101,17 +145,18 @@ pub thai-taken : Taken thai-line
 unfolding compute spaceless spaceless-if spaceless-rule
 thai-taken = record { accepted = refl; no-space = refl }
 
-in-the-line : joined (keep (within 2 3) (path (tables thai-line) (characters thai-line))) ≡ chars "ok"
+in-the-line :
+    joined (keep (within 2 3) (path (tables thai-line) (decompositions thai-line) (characters thai-line))) ≡ chars "ok"
 unfolding compute within
 in-the-line = refl
 
-by-itself : joined (map (shift 2) (path (tables thai-line) (chars "่อก"))) ≡ chars "k"
+by-itself : joined (map (shift 2) (path (tables thai-line) (decompositions thai-line) (chars "่อก"))) ≡ chars "k"
 unfolding compute shift
 by-itself = refl
 
 -- So the statement without the premise on U+0E2D is false for this call, though it is taken
 pub o-ang-needed : ((x st y : Text) → characters thai-line ≡ x ++ (st ++ y) → Before x → After y
-    → Alone (tables thai-line) (characters thai-line) st (length x))
+    → Alone (tables thai-line) (decompositions thai-line) (characters thai-line) st (length x))
     → ⊥
 unfolding compute
 o-ang-needed every =

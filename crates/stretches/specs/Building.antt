@@ -1,7 +1,7 @@
 -- The edges that a step finds inside a stretch: those that it finds on the stretch, moved.
 use mathlib.Core.Bool.{Bool}
 use mathlib.Core.Path.{_≡_, refl, ap}
-use mathlib.Core.List.{[], _∷_}
+use mathlib.Core.List.{List, [], _∷_}
 use mathlib.Core.Option.{Option, none, some, Option·map}
 use Prim.Native.Nat.{ℕ, _+_, _≤_, _<_}
 use native.Mathlib.Omega.{arith}
@@ -9,12 +9,13 @@ use lib.ListN.{length}
 use Rattle.base.specs.Pick.{pick-all}
 use Rattle.base.specs.Lists.{tail, maybe}
 use Rattle.base.specs.Alls.{All-tail, Opt}
-use Rattle.definition.specs.Notes.{note-single, note-Mn, note-Cf, note-Co, note-Zs, note-orig}
+use Rattle.definition.specs.Notes.{note-single, note-Mn, note-Cf, note-Co, note-Zs, note-orig, note-decomp}
 use Rattle.definition.specs.Texts.{Text, the-space, at}
-use Rattle.definition.specs.Tables.{Lexicon, Tables}
+use Rattle.definition.specs.Tables.{Decomposition, Lexicon, Tables}
 use Rattle.definition.specs.Edges.{Edge, View, M, ret}
 use Rattle.definition.specs.Expansion.{Work}
 use Rattle.definition.specs.Building.{is-tail, without-plus, as-edge, single, fallback-by, fallback-edge, edge-of, span-edge}
+use Rattle.definition.specs.Decomposing.{stands-for, decomp-text, decomp-edge}
 use Rattle.stretches.specs.Demand.{shift}
 use Rattle.stretches.specs.Given.{Ink, Solid, Fair, FairTables, Stretch, Span}
 use Rattle.stretches.specs.Windows.{Sim, sim-ret-by, sim-ret, sim-pick, sim-maybe, sim-bind}
@@ -61,7 +62,7 @@ unfolding without-plus
 plus-solid w s = pick-all Solid (is-tail w) {x = tail w} {y = w} (All-tail Ink w s) s
 
 -- The edge of a span
-module _ {D : Tables} (fair : FairTables D) {T st : Text} {a : ℕ} (h : Stretch T st a)
+module _ {D : Tables} {ds : List Decomposition} (fair : FairTables D ds) {T st : Text} {a : ℕ} (h : Stretch T st a)
     {W v : View} (g : See st a W v) where
   edge-of-inside : (b : Bool) (rom : Text) {P E p e : ℕ} → Span a (length st) P E p e → e ≤ length st → Solid rom
       → Sim a (length st) Edge (shift a) (Inside 0 (length st)) (edge-of D T W b rom P E) (edge-of D st v b rom p e)
@@ -103,3 +104,33 @@ module _ {L : Lexicon} (fair : Fair L) {T st : Text} {a : ℕ} (h : Stretch T st
     where
       one : (n : ℕ) (w : Text) → Finds a (length st) (ret (some (single (a + p) n w))) (ret (some (single p n w)))
       one n w = sim-ret-by _ _ (ap some (single-moved a p n w)) (single-held (length st) p n w l)
+
+-- The edge of a character that stands for others. What is beside it is read alike: at the stretch's ends a space
+module _ (D : Tables) (ds : List Decomposition) {T st : Text} {a : ℕ} (h : Stretch T st a) where
+  decomp-text-inside : (P p : ℕ) (w : Text) → P ≡ a + p → p < length st → decomp-text D T P w ≡ decomp-text D st p w
+  unfolding decomp-text
+  decomp-text-inside P p w i l = rw (
+    h .look P p i (omega arith),
+    h .back P p i (omega arith),
+    h .look (P + 1) (p + 1) (omega arith) (omega arith),
+  )
+
+  pub decomp-inside : (P p : ℕ) → P ≡ a + p → p < length st
+      → decomp-edge D ds T P ≡ Option·map (shift a) (decomp-edge D ds st p)
+  unfolding decomp-edge
+  decomp-inside P p i l = rw (h .look P p i (omega arith)) (go (stands-for ds (at st p)))
+    where
+      go : (o : Option Text) → maybe o none (λ w. some (single P note-decomp (decomp-text D T P w)))
+          ≡ Option·map (shift a) (maybe o none (λ w. some (single p note-decomp (decomp-text D st p w))))
+      go none = unfold maybe in refl
+      go (some w) = unfold maybe in
+          ap some (rw (decomp-text-inside P p w i l, i) (single-moved a p note-decomp (decomp-text D st p w)))
+
+  pub decomp-held : (p : ℕ) → p < length st → Opt (Inside 0 (length st)) (decomp-edge D ds st p)
+  unfolding decomp-edge
+  decomp-held p l = go (stands-for ds (at st p))
+    where
+      go : (o : Option Text)
+          → Opt (Inside 0 (length st)) (maybe o none (λ w. some (single p note-decomp (decomp-text D st p w))))
+      go none = unfold maybe in tt
+      go (some w) = unfold maybe in single-held (length st) p note-decomp (decomp-text D st p w) l

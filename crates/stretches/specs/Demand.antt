@@ -2,7 +2,8 @@
 -- "Take an accepted text, and rules with no space (U+0020) in any source or target text. Each space has its own single
 -- edge, and no other reaches over it. For each stretch between spaces or text ends in which U+0E2D stands, if at all,
 -- only as the first character, the edges, path and alternatives inside it are exactly those the definition gives that
--- stretch as a whole text, same tables and language code, moved by its start."
+-- stretch as a whole text, same tables and language code, moved by its start." (The tables are four: rules, classes,
+-- vowels, and the characters that stand for others.)
 use mathlib.Core.Bool.{Bool, true, not, _&&_}
 use mathlib.Core.Path.{_≡_}
 use mathlib.Core.List.{List, [], _∷_, _++_, map}
@@ -14,14 +15,14 @@ use Rattle.base.specs.Pick.{pick}
 use Rattle.base.specs.Lists.{keep, any, all}
 use Rattle.definition.specs.Notes.{note-Zs, note-orig}
 use Rattle.definition.specs.Texts.{Text, the-space, o-ang, at}
-use Rattle.definition.specs.Tables.{Rule, Class, Tables}
+use Rattle.definition.specs.Tables.{Rule, Class, Decomposition, Tables}
 use Rattle.definition.specs.Edges.{Edge}
 use Rattle.definition.specs.Building.{single}
-use Rattle.definition.specs.Paths.{edges, path, with-alternatives, alternatives, all-edges}
-use Rattle.definition.specs.Call.{Inputs, tables, characters, refusal}
+use Rattle.definition.specs.Decomposing.{edges, path, with-alternatives, alternatives, all-edges}
+use Rattle.definition.specs.Call.{Inputs, tables, decompositions, characters, refusal}
 use Rattle.definition.specs.Parts.{Accepts}
 
--- Take an accepted text (mode, choices, tables, code and text are bytes, and none of refusals 1 to 8 and 12 is given),
+-- Take an accepted text (mode, choices, tables, code and text are bytes, and none of refusals 1 to 8, 12 and 13 is given),
 -- and rules with no space in any source or target text (a rule's alternatives may have some)
 unfoldable pub spaceless : Text → Bool
 spaceless w = all (λ c. not (eqb c the-space)) w
@@ -52,7 +53,7 @@ space-edge ks q = single q (pick (has-row ks the-space) note-Zs note-orig) (the-
 -- Each space has its own single edge, and no other reaches over it
 abbrev pub Spaces : Inputs → Type 0
 Spaces i = (q : ℕ) → q < length (characters i) → at (characters i) q ≡ the-space
-    → keep (over q) (edges (tables i) (characters i)) ≡ space-edge (tables i .classes) q ∷ []
+    → keep (over q) (edges (tables i) (decompositions i) (characters i)) ≡ space-edge (tables i .classes) q ∷ []
 
 -- between spaces or text ends: what is before a stretch is nothing or ends in a space,
 -- what is after it is nothing or starts with one
@@ -77,18 +78,19 @@ shift a x = record { from = a + x .from; to = a + x .to; note = x .note; core = 
 
 -- In the text `T`, the stretch `st` from `a` on: the edges in adding order, mode 1's list, mode 2's (the path, then
 -- the alternatives), the alternatives alone, and mode 3's list
-pub record Alone (D : Tables) (T st : Text) (a : ℕ) : Type 0 where
-  pub edges : keep (within a (length st)) (edges D T) ≡ map (shift a) (edges D st)
-  pub path : keep (within a (length st)) (path D T) ≡ map (shift a) (path D st)
-  pub with-alternatives : keep (within a (length st)) (with-alternatives D T) ≡ map (shift a) (with-alternatives D st)
-  pub alternatives : keep (within a (length st)) (alternatives D T) ≡ map (shift a) (alternatives D st)
-  pub all-edges : keep (within a (length st)) (all-edges D T) ≡ map (shift a) (all-edges D st)
+pub record Alone (D : Tables) (ds : List Decomposition) (T st : Text) (a : ℕ) : Type 0 where
+  pub edges : keep (within a (length st)) (edges D ds T) ≡ map (shift a) (edges D ds st)
+  pub path : keep (within a (length st)) (path D ds T) ≡ map (shift a) (path D ds st)
+  pub with-alternatives : keep (within a (length st)) (with-alternatives D ds T)
+      ≡ map (shift a) (with-alternatives D ds st)
+  pub alternatives : keep (within a (length st)) (alternatives D ds T) ≡ map (shift a) (alternatives D ds st)
+  pub all-edges : keep (within a (length st)) (all-edges D ds T) ≡ map (shift a) (all-edges D ds st)
 
 -- For each stretch (one with spaces of its own is covered too); and the stretch is an accepted text, with the same
 -- choices, tables and code
 abbrev pub Stretches : Inputs → Type 0
 Stretches i = (x st y : Text) → characters i ≡ x ++ (st ++ y) → Before x → After y → First st
-    → Alone (tables i) (characters i) st (length x) × Accepts i st
+    → Alone (tables i) (decompositions i) (characters i) st (length x) × Accepts i st
 
 pub record Demand (i : Inputs) : Type 0 where
   pub spaces : Spaces i

@@ -11,12 +11,11 @@ use Rattle.base.specs.Alls.{All, All-map, All-both, All-to, All-of, map-cong}
 use Rattle.definition.specs.Limits.{slot-bytes}
 use Rattle.definition.specs.Texts.{Text, the-space}
 use Rattle.definition.specs.Utf8.{bad-sequence, decoded, encode, encoded}
-use Rattle.definition.specs.Building.{lattice}
-use Rattle.definition.specs.Paths.{edges, path}
+use Rattle.definition.specs.Decomposing.{edges, path}
 use Rattle.definition.specs.Listing.{shown}
-use Rattle.definition.specs.Capacity.{misfit}
-use Rattle.definition.specs.Call.{Inputs, tables, characters, refusal, called}
+use Rattle.definition.specs.Call.{Inputs, tables, decompositions, characters, refusal, called}
 use Rattle.definition.specs.Accepted.{accepted-of}
+use Rattle.definition.specs.Promises.{Held}
 use Rattle.definition.specs.Roundtrip.{encoded-append}
 use Rattle.definition.specs.Rewritten.{encoded-decoded}
 use Rattle.definition.specs.Parts.{with-text}
@@ -61,7 +60,7 @@ wrote-is i h = rw (h .shows, h .written) (take-append-seam (romanization i) (rep
 
 -- the bytes of a text's string, under the tables of a call; in mode 0 they are the romanization
 abbrev answer : Inputs → Text → List ℕ
-answer i w = encoded (string (tables i) w)
+answer i w = encoded (string (tables i) (decompositions i) w)
 
 mode-zero : (i : Inputs) → i .mode ≡ 0 → romanization i ≡ answer i (characters i)
 unfolding shown string path
@@ -69,9 +68,10 @@ mode-zero i e = rw e
 
 -- Calls with one mode, choices, tables, code and text are refused alike, but for what they are lent
 same-refusal : (j k : Inputs) → j .mode ≡ k .mode → j .choices ≡ k .choices → j .rules ≡ k .rules → j .classes ≡ k .classes
-    → j .vowels ≡ k .vowels → j .code ≡ k .code → j .text ≡ k .text → refusal j ≡ refusal k
+    → j .vowels ≡ k .vowels → j .decompositions ≡ k .decompositions → j .code ≡ k .code → j .text ≡ k .text
+    → refusal j ≡ refusal k
 unfolding refusal characters
-same-refusal j k a o b c d e f = rw (a, o, b, c, d, e, f)
+same-refusal j k a o b c d g e f = rw (a, o, b, c, d, g, e, f)
 
 -- A word's call
 module _ (i j : Inputs) (c : WordCall i j) where
@@ -79,32 +79,40 @@ module _ (i j : Inputs) (c : WordCall i j) where
   unfolding tables
   same-tables = rw (c .choices, c .rules, c .classes, c .vowels, c .code)
 
+  same-decompositions : decompositions j ≡ decompositions i
+  unfolding decompositions
+  same-decompositions = rw (c .decompositions)
+
   word-accepted : bad-sequence (j .text) ≡ none → Reading i (characters j) → refusal j ≡ none
   unfolding with-text characters
   word-accepted e r =
-      same-refusal j (with-text i (characters j)) (c .mode) (c .choices) (c .rules) (c .classes) (c .vowels) (c .code)
-      (sym (encoded-decoded (j .text) e))
+      same-refusal j (with-text i (characters j)) (c .mode) (c .choices) (c .rules) (c .classes) (c .vowels)
+      (c .decompositions) (c .code) (sym (encoded-decoded (j .text) e))
       ∙ r .accepts .accepted
 
-  word-held : misfit (i .slots / slot-bytes) (i .room) (lattice (tables i) (characters i) .0) ≡ none
-      → Reading i (characters j)
-      → misfit (j .slots / slot-bytes) (j .room) (lattice (tables j) (characters j) .0) ≡ none
-  unfolding edges
+  word-held : Held i → Reading i (characters j) → Held j
   word-held h r =
+      let D = tables i in
+      let ds = decompositions i in
+      let T = characters i in
+      let w = characters j in
+      let a = r .start in
       let s = c .slots in
-      rw same-tables
-      (held-part (within (r .start) (length (characters j))) (r .start) (edges (tables i) (characters i))
-      (edges (tables i) (characters j)) (r .alone .edges) (i .slots / slot-bytes) (i .room) (j .slots / slot-bytes)
-      (j .room) h (omega arith) (c .room))
+      rw (same-tables, same-decompositions)
+      (held-part D ds T w (within a (length w)) a (edges D ds T) (edges D ds w) (r .alone .edges)
+      (All-map (λ x y. r .place .look (a + x .from) (x .from) refl (omega arith)) (edges D ds w) (r .full))
+      (i .slots / slot-bytes) (i .room) (j .slots / slot-bytes) (j .room) h (omega arith) (c .room))
 
   -- a word's romanization is the bytes of its string under the line's tables
   word-string : i .mode ≡ 0 → romanization j ≡ answer i (characters j)
-  word-string e = mode-zero j (c .mode ∙ e) ∙ ap (λ D. encoded (string D (characters j))) same-tables
+  word-string e = mode-zero j (c .mode ∙ e) ∙ ap (λ D. encoded (string D (decompositions j) (characters j))) same-tables
+      ∙ ap (λ ds. encoded (string (tables i) ds (characters j))) same-decompositions
 
   -- a word's call ends with number 0, and writes those bytes
   word-done : i .mode ≡ 0 → Romanized i (called i) → bad-sequence (j .text) ≡ none → Reading i (characters j)
       → length (answer i (characters j)) ≤ length (romanization i)
       → (called j .number ≡ 0) × (wrote (called j) ≡ answer i (characters j))
+  unfolding edges
   word-done e h b r l =
       let f = h .fits in
       let o = c .out in
@@ -138,8 +146,8 @@ module _ (i : Inputs) (words : List Inputs) (h : Line i words) (no-space : Space
 
   line-bytes : romanization i ≡ line-of (map (λ j. answer i (characters j)) words)
   line-bytes = mode-zero i (h .mode) ∙ ap encoded (strings i taken (map characters words) texts first)
-      ∙ encoded-line (map (string (tables i)) (map characters words))
-      ∙ ap line-of (map-map encoded (string (tables i)) (map characters words)
+      ∙ encoded-line (map (string (tables i) (decompositions i)) (map characters words))
+      ∙ ap line-of (map-map encoded (string (tables i) (decompositions i)) (map characters words)
       ∙ map-map (answer i) characters words)
 
   -- A word's bytes are no more than the line's

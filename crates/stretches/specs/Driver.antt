@@ -8,9 +8,10 @@ use lib.ListN.{take}
 use Rattle.base.specs.Lists.{all}
 use Rattle.base.specs.Alls.{All}
 use Rattle.definition.specs.Texts.{Text, the-space}
-use Rattle.definition.specs.Tables.{Tables}
-use Rattle.definition.specs.Paths.{joined, path}
-use Rattle.definition.specs.Call.{Inputs, tables, characters, Called, called}
+use Rattle.definition.specs.Tables.{Decomposition, Tables}
+use Rattle.definition.specs.Paths.{joined}
+use Rattle.definition.specs.Decomposing.{path}
+use Rattle.definition.specs.Call.{Inputs, tables, decompositions, characters, Called, called}
 use Rattle.stretches.specs.Demand.{spaceless-rule, Taken, First}
 
 -- Words joined by single spaces, as characters or as bytes: U+0020 is the byte 0x20. A word may be empty. That it has
@@ -24,14 +25,14 @@ line-of [] = []
 line-of (w ∷ ws) = w ++ spaced ws
 
 -- A text's string: the path's texts, one behind the other
-unfoldable pub string : Tables → Text → Text
-string D t = joined (path D t)
+unfoldable pub string : Tables → List Decomposition → Text → Text
+string D ds t = joined (path D ds t)
 
 -- In characters: take an accepted line, rules with no space, and U+0E2D in no word past its first character. The line's
 -- string is its words' own strings, joined by single spaces
 abbrev pub Strings : Type 0
 Strings = (i : Inputs) → Taken i → (ws : List Text) → characters i ≡ line-of ws → All First ws
-    → string (tables i) (characters i) ≡ line-of (map (string (tables i)) ws)
+    → string (tables i) (decompositions i) (characters i) ≡ line-of (map (string (tables i) (decompositions i)) ws)
 
 -- A word's call: the line's mode, choices, tables and code; slots, room and output at least as large
 pub record WordCall (i j : Inputs) : Type 0 where
@@ -40,6 +41,7 @@ pub record WordCall (i j : Inputs) : Type 0 where
   pub rules : j .rules ≡ i .rules
   pub classes : j .classes ≡ i .classes
   pub vowels : j .vowels ≡ i .vowels
+  pub decompositions : j .decompositions ≡ i .decompositions
   pub code : j .code ≡ i .code
   pub slots : i .slots ≤ j .slots
   pub room : i .room ≤ j .room

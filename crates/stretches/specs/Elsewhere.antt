@@ -13,11 +13,12 @@ use Rattle.base.specs.Alls.{Opt}
 use Rattle.definition.specs.Limits.{most-source}
 use Rattle.definition.specs.Notes.{note-Zs, note-orig}
 use Rattle.definition.specs.Texts.{Text, the-space, at}
-use Rattle.definition.specs.Tables.{category-other, category-Zs, Tables, lexicon}
+use Rattle.definition.specs.Tables.{Decomposition, category-other, category-Zs, Tables, lexicon}
 use Rattle.definition.specs.Classes.{class}
 use Rattle.definition.specs.Edges.{Edge, covered, alike, add, View, view, M, ret, _>>=_, State}
 use Rattle.definition.specs.Rules.{is-prefix}
 use Rattle.definition.specs.Building.{single, fallback-by, put-in, fallback-edge, span-edge, rise, build, fall}
+use Rattle.definition.specs.Decomposing.{decomp-edge, start}
 use Rattle.definition.specs.Growth.{Added, added-not, added-twice, added-new}
 use Rattle.definition.specs.Within.{prefix-bound}
 use Rattle.stretches.specs.Demand.{has-row, space-edge, shift}
@@ -25,7 +26,7 @@ use Rattle.stretches.specs.Given.{FairTables, Stretch, Span}
 use Rattle.stretches.specs.Windows.{window, Apart}
 use Rattle.stretches.specs.Boundaries.{see-moved}
 use Rattle.stretches.specs.Rules.{prefix-inside, simple-space, no-prefix}
-use Rattle.stretches.specs.Building.{Inside, shift-inside, Finds, span-edge-inside, fallback-inside}
+use Rattle.stretches.specs.Building.{Inside, shift-inside, Finds, span-edge-inside, fallback-inside, decomp-inside, decomp-held}
 
 -- From `S` to `R` only edges inside the stretch of length `k` from `b` on are added, and only there more is remembered
 pub record Near (b k : ℕ) (S R : State) : Type 0 where
@@ -40,22 +41,24 @@ module _ {b k : ℕ} where
   near-twice x y =
       record { added = added-twice (x .added) (y .added); frame = λ a n d. y .frame a n d ∙ x .frame a n d }
 
+  added-moved : (es : List Edge) (o : Option Edge) → Opt (Inside 0 k) o
+      → Added (Inside b k) es (add es (Option·map (shift b) o))
+  unfolding add
+  added-moved es none p = added-not es
+  added-moved es (some x) p = added-new alike es (shift b x) (shift-inside b k x p)
+
   near-put-in : (F : List Edge → M (Option Edge)) {g : M (Option Edge)} (S : State) → Finds b k (F (S .0)) g
       → Near b k S (put-in F S)
-  unfolding put-in add
+  unfolding put-in
   near-put-in F {g} S f = record {
     added = subst (λ o. Added (Inside b k) (S .0) (add (S .0) o)) (sym (f .value (S .1)))
-        (go ((g (window b k (S .1))) .0) (f .post (S .1)));
+        (added-moved (S .0) ((g (window b k (S .1))) .0) (f .post (S .1)));
     frame = λ a n d. f .frame (S .1) a n d;
   }
-    where
-      go : (o : Option Edge) → Opt (Inside 0 k) o → Added (Inside b k) (S .0) (add (S .0) (Option·map (shift b) o))
-      go none p = added-not (S .0)
-      go (some x) p = added-new alike (S .0) (shift b x) (shift-inside b k x p)
 
 -- Steps at a position of the stretch `u`. What it would find on `u` alone, seeing what the whole text's edges show
 -- there, it finds on the whole text
-module _ {D : Tables} (fair : FairTables D) {T u : Text} {b : ℕ} (h : Stretch T u b) where
+module _ {D : Tables} {ds : List Decomposition} (fair : FairTables D ds) {T u : Text} {b : ℕ} (h : Stretch T u b) where
   -- a span that is a prefix of a source ends inside
   prefix-ends : {P E p e : ℕ} → Span b (length u) P E p e → is-prefix (D .rules) T P E ≡ true → e ≤ length u
   prefix-ends {p = p} {e = e} z q = prefix-bound (D .rules) u p e (z .begins) (z .forward)
@@ -79,6 +82,16 @@ module _ {D : Tables} (fair : FairTables D) {T u : Text} {b : ℕ} (h : Stretch 
       let z : Span b (length u) P (P + 1) p (p + 1) = omega arith in
       rise-near most-source (is-prefix (D .rules) T P (P + 1)) S z (prefix-ends z)
 
+  start-near : (P p : ℕ) (S : State) → P ≡ b + p → p < length u → Near b (length u) S (start D ds T P S)
+  unfolding start
+  start-near P p S i l =
+      let R = build D T P S in
+      near-twice (build-near P p S i l) (record {
+        added = subst (λ o. Added (Inside b (length u)) (R .0) (add (R .0) o)) (sym (decomp-inside D ds h P p i l))
+            (added-moved (R .0) (decomp-edge D ds u p) (decomp-held D ds h p l));
+        frame = λ a n d. refl;
+      })
+
   fall-near : (P p : ℕ) (S : State) → P ≡ b + p → p < length u → Near b (length u) S (fall D T P S)
   unfolding fall
   fall-near P p S i l =
@@ -91,17 +104,27 @@ abbrev pub Stays : Text → (ℕ → State → State) → Type 0
 Stays T F = (u : Text) (b : ℕ) → Stretch T u b → (P p : ℕ) (S : State) → P ≡ b + p → p < length u
     → Near b (length u) S (F P S)
 
-pub build-stays : {D : Tables} → FairTables D → (T : Text) → Stays T (build D T)
-build-stays fair T u b h = build-near fair h
+pub start-stays : {D : Tables} {ds : List Decomposition} → FairTables D ds → (T : Text) → Stays T (start D ds T)
+start-stays fair T u b h = start-near fair h
 
-pub fall-stays : {D : Tables} → FairTables D → (T : Text) → Stays T (fall D T)
+pub fall-stays : {D : Tables} {ds : List Decomposition} → FairTables D ds → (T : Text) → Stays T (fall D T)
 fall-stays fair T u b h = fall-near fair h
 
--- Steps at a space: no span starts there, and the fallback is the space itself, remembering nothing
-module _ {D : Tables} (fair : FairTables D) (T : Text) (P : ℕ) (sp : at T P ≡ the-space) where
-  pub build-space : (S : State) → build D T P S ≡ S
+-- Steps at a space: no span starts there, it stands for nothing else, and the fallback is the space itself, remembering
+-- nothing
+module _ {D : Tables} {ds : List Decomposition} (fair : FairTables D ds) (T : Text) (P : ℕ)
+    (sp : at T P ≡ the-space) where
+  build-space : (S : State) → build D T P S ≡ S
   unfolding build rise
   build-space S = rw (no-prefix (fair .lexicon) T P sp)
+
+  decomp-space : decomp-edge D ds T P ≡ none
+  unfolding decomp-edge maybe
+  decomp-space = rw (sp, fair .itself)
+
+  pub start-space : (S : State) → start D ds T P S ≡ S
+  unfolding start add
+  start-space S = rw decomp-space (build-space S)
 
   pub fallback-space : (v : View) → fallback-edge (lexicon D) T v P ≡ ret (some (space-edge (D .classes) P))
   unfolding fallback-edge fallback-by space-edge pick _>>=_ ret maybe

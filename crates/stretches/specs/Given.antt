@@ -15,15 +15,17 @@ use Rattle.base.specs.Bools.{and-left, and-right}
 use Rattle.base.specs.Lists.{keep, any}
 use Rattle.base.specs.Alls.{All, All-map, any-cong, keep-cong, Opt, all-all}
 use Rattle.definition.specs.Texts.{Text, the-space, at, prev, latin}
-use Rattle.definition.specs.Tables.{Rule, Class, Lexicon, Tables, lexicon, category-other, category-Zs}
+use Rattle.definition.specs.Tables.{Rule, Class, Decomposition, Lexicon, Tables, lexicon, category-other, category-Zs}
 use Rattle.definition.specs.Blocks.{small}
 use Rattle.definition.specs.VowelRows.{vowel-letters, vowel-of, vowel-right}
 use Rattle.definition.specs.ClassRows.{class-right, class-by, class-of, classes-of}
 use Rattle.definition.specs.Classes.{plain, class}
-use Rattle.definition.specs.Call.{Inputs, tables-of, tables}
+use Rattle.definition.specs.Decomposing.{stands-for}
+use Rattle.definition.specs.Call.{Inputs, tables-of, tables, decompositions}
 use Rattle.definition.specs.Checked.{class-checked, vowel-checked}
 use Rattle.definition.specs.Accepted.{classes-all, vowels-all, accepted-of}
 use Rattle.definition.specs.Blank.{Blank, blank}
+use Rattle.definition.specs.DecompositionLaws.{space-stands}
 use Rattle.stretches.specs.Demand.{spaceless, spaceless-if, spaceless-rule, Taken, has-row, Before, start, After, end}
 
 -- No space in a text; in a rule's source and targets
@@ -44,10 +46,11 @@ pub record Fair (L : Lexicon) : Type 0 where
   pub row : class (L .classes) the-space .category ≡ pick (has-row (L .classes) the-space) category-Zs category-other
   pub rules : All SolidRule (L .rules)
 
--- and of all tables: no vowel has one
-pub record FairTables (D : Tables) : Type 0 where
+-- and of all tables: no vowel has one, and it stands for nothing else
+pub record FairTables (D : Tables) (ds : List Decomposition) : Type 0 where
   pub lexicon : Fair (lexicon D)
   pub vowels : All (λ y. Solid (y .letters)) (D .vowels)
+  pub itself : stands-for ds the-space ≡ none
 
 pub sources : {L : Lexicon} → Fair L → All (λ r. Solid (r .source)) (L .rules)
 sources {L} fair = All-map (λ r s. s .source) (L .rules) (fair .rules)
@@ -116,8 +119,8 @@ unfolding vowel-of small
 solid-vowel low s e = all-all Ink small (λ c q z. let l = leb-true 97 c (and-left _ _ q) in omega arith)
     (vowel-letters s) (vowel-checked low s e .letters)
 
-pub fair-tables : (i : Inputs) → Taken i → FairTables (tables i)
-unfolding tables tables-of
+pub fair-tables : (i : Inputs) → Taken i → FairTables (tables i) (decompositions i)
+unfolding tables tables-of decompositions
 fair-tables i t =
     let a = accepted-of i (t .accepted) in
     record {
@@ -127,6 +130,7 @@ fair-tables i t =
         rules = all-all SolidRule spaceless-rule solid-rule (tables i .rules) (t .no-space);
       };
       vowels = vowels-all (λ y. Solid (y .letters)) solid-vowel (i .vowels) (a .vowels);
+      itself = space-stands (i .decompositions) (a .decompositions);
     }
 
 -- From here on capital letters are positions of the whole text `T`, small ones of the stretch `st`: `P ≡ a + p`.

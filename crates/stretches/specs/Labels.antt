@@ -1,5 +1,5 @@
--- What a driver sees, applied: a label of four words, one of them empty; and two lines that show that both premises are
--- needed, where all else that the theorem asks is given.
+-- What a driver sees, applied: a label of four words, one of them empty; one with a character that stands for others; and
+-- two lines that show that both premises are needed, where all else that the theorem asks is given.
 use mathlib.Core.Path.{_≡_, refl, sym, _∙_, ap}
 use mathlib.Core.List.{List, [], _∷_, map}
 use Prim.Native.Nat.{ℕ}
@@ -15,7 +15,7 @@ use Rattle.definition.specs.Sample.{sample}
 use Rattle.stretches.specs.Demand.{spaceless, spaceless-if, spaceless-rule}
 use Rattle.stretches.specs.Driver.{spaced, line-of, WordCall, Line, Spaceless, Firsts, wrote, Reads}
 use Rattle.stretches.specs.Driven.{driven}
-use Rattle.stretches.specs.Applied.{first-by}
+use Rattle.stretches.specs.Applied.{first-by, halves}
 
 -- A call with other bytes as its text, lent as much
 word-call : (i : Inputs) (b : List ℕ) → WordCall i (record {
@@ -24,6 +24,7 @@ word-call : (i : Inputs) (b : List ℕ) → WordCall i (record {
   rules = i .rules;
   classes = i .classes;
   vowels = i .vowels;
+  decompositions = i .decompositions;
   code = i .code;
   text = b;
   slots = i .slots;
@@ -36,6 +37,7 @@ word-call i b = record {
   rules = refl;
   classes = refl;
   vowels = refl;
+  decompositions = refl;
   code = refl;
   slots = omega arith;
   room = omega arith;
@@ -87,6 +89,36 @@ pub label-output : wrote (called label) ≡
 unfolding line-of spaced
 label-output = label-reads .output ∙ ap line-of word-outputs
 
+-- ½ for 1, the fraction slash and 2: in each word it is parted from the numbers beside it
+abbrev half-label : Inputs
+half-label = halves 0 "1½ 1 ½"
+
+abbrev half-words : List Inputs
+half-words = halves 0 "1½" ∷ halves 0 "1" ∷ halves 0 "½" ∷ []
+
+pub half-label-line : Line half-label half-words
+unfolding compute spaced line-of
+half-label-line =
+    let c : (w : String) → WordCall half-label (halves 0 w) = λ w. word-call half-label (encoded (chars w)) in
+    record { mode = refl; done = refl; text = refl; calls = (c "1½", (c "1", (c "½", tt))) }
+
+half-label-spaceless : Spaceless half-label
+unfolding compute spaceless spaceless-if spaceless-rule
+half-label-spaceless = refl
+
+half-label-firsts : Firsts half-words
+unfolding compute
+half-label-firsts = (first-by (chars "1½") refl, (first-by (chars "1") refl, (first-by (chars "½") refl, tt)))
+
+half-outputs : map (λ j. wrote (called j)) half-words ≡ chars "1 1/2" ∷ chars "1" ∷ chars "1/2" ∷ []
+unfolding compute wrote
+half-outputs = refl
+
+pub half-label-output : wrote (called half-label) ≡ chars "1 1/2 1 1/2"
+unfolding line-of spaced
+half-label-output = driven half-label half-words half-label-line half-label-spaceless half-label-firsts .output
+    ∙ ap line-of half-outputs
+
 -- With U+0E2D past its word's first character: what document 01 has run. In the line the second word gives "ok",
 -- alone "k"
 abbrev thai : Inputs
@@ -120,7 +152,7 @@ firsts-needed every =
     omega arith
 
 -- With a space in a rule's source: "a b" reads "x", while its words read "a" and "b". The rule table has that one row,
--- of 17 bytes; class and vowel table have none
+-- of 17 bytes; the other tables have none
 abbrev knit : String → Inputs
 knit w = record {
   mode = 0;
@@ -128,6 +160,7 @@ knit w = record {
   rules = block (0 ∷ 17 ∷ 32 ∷ 0 ∷ 0 ∷ 3 ∷ 0 ∷ 0 ∷ 0x61 ∷ 0 ∷ 0 ∷ 0x20 ∷ 0 ∷ 0 ∷ 0x62 ∷ 0 ∷ 1 ∷ 0x78 ∷ 0 ∷ []);
   classes = block [];
   vowels = block [];
+  decompositions = block [];
   code = [];
   text = chars w;
   slots = 120;

@@ -12,10 +12,11 @@ use Rattle.base.specs.Pick.{pick-all}
 use Rattle.base.specs.Lists.{keep}
 use Rattle.definition.specs.Limits.{most-source}
 use Rattle.definition.specs.Texts.{Text, the-space, at}
-use Rattle.definition.specs.Tables.{Tables, lexicon}
+use Rattle.definition.specs.Tables.{Decomposition, Tables, lexicon}
 use Rattle.definition.specs.Edges.{Edge, covered, alike, add, view, M, ret, State}
 use Rattle.definition.specs.Rules.{is-prefix}
-use Rattle.definition.specs.Building.{single, put-in, fallback-edge, span-edge, rise, build, fall, lattice}
+use Rattle.definition.specs.Building.{single, put-in, fallback-edge, span-edge, rise, build, fall, lattice-by}
+use Rattle.definition.specs.Decomposing.{decomp-edge, start, lattice}
 use Rattle.definition.specs.Blank.{blank-alpha}
 use Rattle.definition.specs.Growth.{Added, added-new, added-map}
 use Rattle.definition.specs.Within.{prefix-bound}
@@ -25,13 +26,14 @@ use Rattle.stretches.specs.Windows.{window, window-zero}
 use Rattle.stretches.specs.Texts.{space-at-end, space-before-start, left-part, right-part}
 use Rattle.stretches.specs.Boundaries.{See}
 use Rattle.stretches.specs.Rules.{prefix-inside}
-use Rattle.stretches.specs.Building.{Inside, span-edge-inside, fallback-inside}
-use Rattle.stretches.specs.Edges.{Outside, left, right, covered-inside, see-edges}
+use Rattle.stretches.specs.Building.{Inside, span-edge-inside, fallback-inside, decomp-inside, decomp-held}
+use Rattle.stretches.specs.Edges.{Outside, left, right, covered-inside, see-edges, Same, add-inside}
 use Rattle.stretches.specs.States.{Rel, rel-pick, put-in-inside, rel-outside, pass}
-use Rattle.stretches.specs.Elsewhere.{Near, Stays, build-stays, fall-stays, build-space, fallback-space}
+use Rattle.stretches.specs.Elsewhere.{Near, Stays, start-stays, fall-stays, start-space, fallback-space}
 
 -- Steps inside the stretch
-module _ {D : Tables} (fair : FairTables D) {T st : Text} {a : ℕ} (h : Stretch T st a) (first : First st) where
+module _ {D : Tables} {ds : List Decomposition} (fair : FairTables D ds) {T st : Text} {a : ℕ}
+    (h : Stretch T st a) (first : First st) where
   see-states : {S s : State} → Rel a (length st) S s → See st a (view (D .classes) (S .0)) (view (D .classes) (s .0))
   see-states r = see-edges (r .edges) first (D .classes) (blank-alpha (D .classes) (fair .lexicon .blank))
 
@@ -57,6 +59,18 @@ module _ {D : Tables} (fair : FairTables D) {T st : Text} {a : ℕ} (h : Stretch
       (rise-inside most-source (is-prefix (D .rules) st p (p + 1)) S s z
       (prefix-bound (D .rules) st p (p + 1) (z .begins) (z .forward)) r)
 
+  start-inside : (P p : ℕ) (S s : State) → P ≡ a + p → p < length st → Rel a (length st) S s
+      → Rel a (length st) (start D ds T P S) (start D ds st p s)
+  unfolding start
+  start-inside P p S s i l r =
+      let b = build-inside P p S s i l r in
+      let o = decomp-edge D ds st p in
+      record {
+        edges = subst (λ O. Same a (length st) (add (build D T P S .0) O) (add (build D st p s .0) o))
+            (sym (decomp-inside D ds h P p i l)) (add-inside o (b .edges) (decomp-held D ds h p l));
+        memory = b .memory;
+      }
+
   fall-inside : (P p : ℕ) (S s : State) → P ≡ a + p → p < length st → Rel a (length st) S s
       → Rel a (length st) (fall D T P S) (fall D st p s)
   unfolding fall
@@ -67,7 +81,8 @@ module _ {D : Tables} (fair : FairTables D) {T st : Text} {a : ℕ} (h : Stretch
       (fallback-inside (fair .lexicon) h (see-states r) P p i l) r))
 
 -- Steps outside it
-module _ {D : Tables} (fair : FairTables D) {T st : Text} {a : ℕ} (h : Stretch T st a) where
+module _ {D : Tables} {ds : List Decomposition} (fair : FairTables D ds) {T st : Text} {a : ℕ}
+    (h : Stretch T st a) where
   -- in another stretch, behind the space that ends this one or before the one that starts it
   near-outside : {b k : ℕ} {S R s : State} → (b + k < a) ⊎ (a + length st ≤ b) → Near b k S R
       → Rel a (length st) S s → Rel a (length st) R s
@@ -128,21 +143,21 @@ module _ {D : Tables} (fair : FairTables D) {T st : Text} {a : ℕ} (h : Stretch
             (right-part T (a + length st) (omega arith) (space-at-end h))
             P (P - (a + length st + 1)) S (omega arith) (omega arith)) r
 
-  build-outside : (P : ℕ) (S s : State) → (P < a) ⊎ (a + length st ≤ P) → Rel a (length st) S s
-      → Rel a (length st) (build D T P S) s
-  build-outside = outside-step (build D T)
-      (λ P S s sp d r. subst (λ X. Rel a (length st) X s) (sym (build-space fair T P sp S)) r) (build-stays fair T)
+  start-outside : (P : ℕ) (S s : State) → (P < a) ⊎ (a + length st ≤ P) → Rel a (length st) S s
+      → Rel a (length st) (start D ds T P S) s
+  start-outside = outside-step (start D ds T)
+      (λ P S s sp d r. subst (λ X. Rel a (length st) X s) (sym (start-space fair T P sp S)) r) (start-stays fair T)
 
   fall-outside : (P : ℕ) (S s : State) → (P < a) ⊎ (a + length st ≤ P) → Rel a (length st) S s
       → Rel a (length st) (fall D T P S) s
   fall-outside = outside-step (fall D T) fall-space (fall-stays fair T)
 
   -- Both passes
-  pub lattice-inside : First st → Rel a (length st) (lattice D T) (lattice D st)
-  unfolding lattice
+  pub lattice-inside : First st → Rel a (length st) (lattice D ds T) (lattice D ds st)
+  unfolding lattice lattice-by
   lattice-inside first =
       pass (fall D T) (fall D st) (fall-inside fair h first) fall-outside (length T) (h .room) _ _
-      (pass (build D T) (build D st) (build-inside fair h first) build-outside (length T) (h .room) _ _ none-yet)
+      (pass (start D ds T) (start D ds st) (start-inside fair h first) start-outside (length T) (h .room) _ _ none-yet)
     where
       none-yet : Rel a (length st) ([], replicate (length T) 0) ([], replicate (length st) 0)
       none-yet = record {

@@ -12,10 +12,10 @@ use Rattle.base.specs.ListLaws.{keep-append, keep-none, keep-map, keep-swap}
 use Rattle.base.specs.Alls.{All, All-keep, All-each}
 use Rattle.base.specs.Bools.{eqb-alike}
 use Rattle.definition.specs.Texts.{Text}
-use Rattle.definition.specs.Tables.{Tables}
+use Rattle.definition.specs.Tables.{Decomposition, Tables}
 use Rattle.definition.specs.Edges.{Edge, starting}
-use Rattle.definition.specs.Building.{lattice}
-use Rattle.definition.specs.Paths.{longer, sorted, all-edges-of, all-edges}
+use Rattle.definition.specs.Paths.{longer, sorted, all-edges-of}
+use Rattle.definition.specs.Decomposing.{lattice, all-edges}
 use Rattle.stretches.specs.Demand.{First, within, shift}
 use Rattle.stretches.specs.Given.{FairTables, Stretch}
 use Rattle.stretches.specs.Building.{Inside}
@@ -123,14 +123,15 @@ module _ (a n : ℕ) (es : List Edge) (full : All (Inside 0 n) es) where
       (longer-none (moved a es) P (suc (d + (j + n))) (starting-early P (omega arith)))
       ∙ sorted-toward d j (P + 1) (omega arith))
 
-pub all-edges-inside : {D : Tables} → FairTables D → {T st : Text} {a : ℕ} → Stretch T st a → First st
-    → keep (within a (length st)) (all-edges D T) ≡ map (shift a) (all-edges D st)
+pub all-edges-inside : {D : Tables} {ds : List Decomposition} → FairTables D ds → {T st : Text} {a : ℕ}
+    → Stretch T st a → First st
+    → keep (within a (length st)) (all-edges D ds T) ≡ map (shift a) (all-edges D ds st)
 unfolding all-edges all-edges-of
-all-edges-inside {D} fair {T} {st} {a} h first =
+all-edges-inside {D} {ds} fair {T} {st} {a} h first =
     let r = lattice-inside fair h first .edges in
     let j = length T - (a + length st) in
     let e : length T ≡ a + (j + length st) = omega arith in
-    sorted-keep (within a (length st)) (lattice D T .0) (length T) 0
+    sorted-keep (within a (length st)) (lattice D ds T .0) (length T) 0
     ∙ ap (λ es. sorted es (length T) 0) (r .cut)
-    ∙ ap (λ k. sorted (map (shift a) (lattice D st .0)) k 0) e
-    ∙ sorted-toward a (length st) (lattice D st .0) (r .full) a j 0 (omega arith)
+    ∙ ap (λ k. sorted (map (shift a) (lattice D ds st .0)) k 0) e
+    ∙ sorted-toward a (length st) (lattice D ds st .0) (r .full) a j 0 (omega arith)

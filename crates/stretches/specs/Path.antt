@@ -12,10 +12,10 @@ use borrow.Author.Tests.{eqb-true}
 use Rattle.base.specs.Lists.{keep}
 use Rattle.base.specs.Alls.{All, All-map, Opt, All-best, All-kept}
 use Rattle.definition.specs.Texts.{Text}
-use Rattle.definition.specs.Tables.{Tables}
+use Rattle.definition.specs.Tables.{Decomposition, Tables}
 use Rattle.definition.specs.Edges.{Edge, starting, right-best}
-use Rattle.definition.specs.Building.{lattice}
-use Rattle.definition.specs.Paths.{join, next, path-from, path-of, path}
+use Rattle.definition.specs.Paths.{join, next, path-from, path-of}
+use Rattle.definition.specs.Decomposing.{lattice, path}
 use Rattle.definition.specs.Alternatives.{path-sound}
 use Rattle.stretches.specs.Demand.{First, within, shift}
 use Rattle.stretches.specs.Given.{FairTables, Stretch}
@@ -104,13 +104,14 @@ module _ {a n : ℕ} {ES es : List Edge} (h : Same a n ES es) where
       go (no e) f = step (right-best ES P) (right-best-is (Clear a n) ES P (h .clear)) f (omega arith)
 
 -- As edges of both
-pub path-inside : {D : Tables} → FairTables D → {T st : Text} {a : ℕ} → Stretch T st a → First st
-    → Same a (length st) (path D T) (path D st)
+pub path-inside : {D : Tables} {ds : List Decomposition} → FairTables D ds → {T st : Text} {a : ℕ} → Stretch T st a
+    → First st
+    → Same a (length st) (path D ds T) (path D ds st)
 unfolding path path-of
-path-inside {D} fair {T} {st} {a} h first =
+path-inside {D} {ds} fair {T} {st} {a} h first =
     let r = lattice-inside fair h first .edges in
     record {
       cut = toward r (length T) 0 (omega arith) (omega arith);
-      clear = path-sound (Clear a (length st)) (length T) 0 (lattice D T .0) (r .clear);
-      full = path-sound (Inside 0 (length st)) (length st) 0 (lattice D st .0) (r .full);
+      clear = path-sound (Clear a (length st)) (length T) 0 (lattice D ds T .0) (r .clear);
+      full = path-sound (Inside 0 (length st)) (length st) 0 (lattice D ds st .0) (r .full);
     }

@@ -6,10 +6,10 @@ use lib.ListN.{length}
 use Rattle.base.specs.Lists.{keep}
 use Rattle.base.specs.ListLaws.{keep-append}
 use Rattle.definition.specs.Texts.{Text}
-use Rattle.definition.specs.Tables.{Tables}
+use Rattle.definition.specs.Tables.{Decomposition, Tables}
 use Rattle.definition.specs.Edges.{Edge}
-use Rattle.definition.specs.Paths.{edges, path, with-alternatives, alternatives}
-use Rattle.definition.specs.Call.{Inputs, tables, characters}
+use Rattle.definition.specs.Decomposing.{edges, path, with-alternatives, alternatives}
+use Rattle.definition.specs.Call.{Inputs, tables, decompositions, characters}
 use Rattle.definition.specs.Alternatives.{listed}
 use Rattle.definition.specs.Parts.{with-text, Accepts, part-accepted}
 use Rattle.stretches.specs.Demand.{Taken, Before, After, First, within, shift, Alone, Demand}
@@ -29,19 +29,26 @@ second-part q s P A p a E e h k = append-cancel-left (map s p) (keep q A) (map s
 
 module _ (i : Inputs) (taken : Taken i) where
   -- mode 2 lists the path, then the alternatives: for the stretch too, as it is accepted
-  listed-alone : (st : Text) → Accepts i st
-      → with-alternatives (tables i) st ≡ path (tables i) st ++ alternatives (tables i) st
-  listed-alone st a = subst (λ D. with-alternatives D st ≡ path D st ++ alternatives D st) (a .tables)
-      (subst (λ t. with-alternatives D t ≡ path D t ++ alternatives D t) (a .characters)
-      (listed (with-text i st) (a .accepted) .whole))
+  abbrev Whole : Tables → List Decomposition → Text → Type 0
+  Whole D ds t = with-alternatives D ds t ≡ path D ds t ++ alternatives D ds t
+
+  listed-alone : (st : Text) → Accepts i st → Whole (tables i) (decompositions i) st
+  listed-alone st a = subst (λ E. Whole E (decompositions i) st) (a .tables)
+      (subst (λ es. Whole D es st) (a .decompositions)
+      (subst (Whole D ds) (a .characters) (listed (with-text i st) (a .accepted) .whole)))
     where
       D : Tables
       D = tables (with-text i st)
 
+      ds : List Decomposition
+      ds = decompositions (with-text i st)
+
   alone : (x st y : Text) → characters i ≡ x ++ (st ++ y) → Before x → After y → First st → Accepts i st
-      → Alone (tables i) (characters i) st (length x)
+      → Alone (tables i) (decompositions i) (characters i) st (length x)
   unfolding edges
   alone x st y e b c first accepts =
+      let D = tables i in
+      let ds = decompositions i in
       let f = fair-tables i taken in
       let h = subst (λ T. Stretch T st (length x)) (sym e) (stretch x st y b c) in
       let p = path-inside f h first .cut in
@@ -51,8 +58,7 @@ module _ (i : Inputs) (taken : Taken i) where
         path = p;
         with-alternatives = l;
         alternatives = second-part (within (length x) (length st)) (shift (length x))
-            (path (tables i) (characters i)) (alternatives (tables i) (characters i))
-            (path (tables i) st) (alternatives (tables i) st)
+            (path D ds (characters i)) (alternatives D ds (characters i)) (path D ds st) (alternatives D ds st)
             (listed i (taken .accepted) .whole) (listed-alone st accepts) l p;
         all-edges = all-edges-inside f h first;
       }

@@ -15,15 +15,16 @@ use Rattle.base.specs.Lists.{keep, any}
 use Rattle.base.specs.ListLaws.{keep-append, any-none, keep-none, keep-nothing}
 use Rattle.base.specs.Alls.{All-kept}
 use Rattle.definition.specs.Texts.{Text, the-space, at}
-use Rattle.definition.specs.Tables.{Tables, lexicon}
+use Rattle.definition.specs.Tables.{Decomposition, Tables, lexicon}
 use Rattle.definition.specs.Edges.{Edge, starting, covered, new-in, alike, add, view, M, ret, State}
-use Rattle.definition.specs.Building.{single, put-in, each, fallback-edge, build, fall, lattice}
+use Rattle.definition.specs.Building.{single, put-in, each, fallback-edge, fall, lattice-by}
+use Rattle.definition.specs.Decomposing.{start, lattice}
 use Rattle.stretches.specs.Demand.{over, space-edge}
 use Rattle.stretches.specs.Given.{FairTables}
 use Rattle.stretches.specs.Texts.{left-part, right-part}
 use Rattle.stretches.specs.Building.{Inside}
 use Rattle.stretches.specs.States.{each-split}
-use Rattle.stretches.specs.Elsewhere.{Near, Stays, build-stays, fall-stays, build-space, fallback-space}
+use Rattle.stretches.specs.Elsewhere.{Near, Stays, start-stays, fall-stays, start-space, fallback-space}
 
 over-left : (q : ℕ) (x : Edge) → x .to ≤ q → over q x ≡ false
 unfolding over
@@ -51,7 +52,8 @@ near-over {b} {k} {S} {R} q d x =
     far (inl e) y l = over-left q y (omega arith)
     far (inr e) y l = over-right q y (omega arith)
 
-module _ {D : Tables} (fair : FairTables D) (T : Text) (q : ℕ) (l : q < length T) (sp : at T q ≡ the-space) where
+module _ {D : Tables} {ds : List Decomposition} (fair : FairTables D ds) (T : Text) (q : ℕ) (l : q < length T)
+    (sp : at T q ≡ the-space) where
   -- so no step but the one at the space does, in either pass
   module _ (F : ℕ → State → State) (stays : Stays T F) where
     step-over : (P : ℕ) (S : State) → P < length T → (P < q) ⊎ (q < P)
@@ -129,8 +131,8 @@ module _ {D : Tables} (fair : FairTables D) (T : Text) (q : ℕ) (l : q < length
           ∙ rw (e, over-own q x (here .0) (here .1))
 
   -- Both passes: after the first no edge reaches over the space, and the second comes to its step so
-  pub own-edge : keep (over q) (lattice D T .0) ≡ space-edge (D .classes) q ∷ []
-  unfolding lattice keep
+  pub own-edge : keep (over q) (lattice D ds T .0) ≡ space-edge (D .classes) q ∷ []
+  unfolding lattice lattice-by keep
   own-edge = over-all (fall D T) (fall-stays fair T) built
       ∙ own (each (fall D T) q 0 built) (over-before (fall D T) (fall-stays fair T) built ∙ none-built)
     where
@@ -138,9 +140,9 @@ module _ {D : Tables} (fair : FairTables D) (T : Text) (q : ℕ) (l : q < length
       unbuilt = ([], replicate (length T) 0)
 
       built : State
-      built = each (build D T) (length T) 0 unbuilt
+      built = each (start D ds T) (length T) 0 unbuilt
 
       none-built : keep (over q) (built .0) ≡ []
-      none-built = over-all (build D T) (build-stays fair T) unbuilt
-          ∙ ap (λ R. keep (over q) (R .0)) (build-space fair T q sp (each (build D T) q 0 unbuilt))
-          ∙ over-before (build D T) (build-stays fair T) unbuilt
+      none-built = over-all (start D ds T) (start-stays fair T) unbuilt
+          ∙ ap (λ R. keep (over q) (R .0)) (start-space fair T q sp (each (start D ds T) q 0 unbuilt))
+          ∙ over-before (start D ds T) (start-stays fair T) unbuilt

@@ -13,15 +13,19 @@ use Rattle.base.specs.Lists.{keep}
 use Rattle.base.specs.ListLaws.{keep-only}
 use Rattle.base.specs.Alls.{All, All-map, All-left, All-right}
 use Rattle.definition.specs.Texts.{Text, the-space, at}
-use Rattle.definition.specs.Tables.{Tables}
+use Rattle.definition.specs.Tables.{Decomposition, Tables}
 use Rattle.definition.specs.Edges.{Edge}
-use Rattle.definition.specs.Building.{single, lattice}
-use Rattle.definition.specs.Paths.{joined, path-from, path-of, path, edges}
-use Rattle.definition.specs.Call.{Inputs, tables, characters}
+use Rattle.definition.specs.Building.{single}
+use Rattle.definition.specs.Paths.{joined, path-from, path-of}
+use Rattle.definition.specs.Decomposing.{lattice, path, edges}
+use Rattle.definition.specs.Call.{Inputs, tables, decompositions, characters}
 use Rattle.definition.specs.Cover.{Abut, path-whole}
 use Rattle.definition.specs.Alternatives.{path-sound}
 use Rattle.definition.specs.Parts.{Accepts}
 use Rattle.stretches.specs.Demand.{Taken, space-edge, over, Before, start, After, end, First, within, shift, Alone}
+use Rattle.stretches.specs.Given.{fair-tables, Stretch, stretch}
+use Rattle.stretches.specs.Building.{Inside}
+use Rattle.stretches.specs.Lattice.{lattice-inside}
 use Rattle.stretches.specs.Driver.{spaced, line-of, string, Strings}
 use Rattle.stretches.specs.Proved.{demand}
 use Rattle.stretches.specs.Abutting.{abut-goes, abut-append, abut-none, Parted, Split, split, middle}
@@ -49,20 +53,34 @@ past x w r = sym (append-assoc x w (the-space ∷ r)) ∙ sym (append-assoc (x +
 -- A word of the line: it reads there as alone, and alone it is accepted
 pub record Reading (i : Inputs) (w : Text) : Type 0 where
   pub start : ℕ
-  pub alone : Alone (tables i) (characters i) w start
+  pub alone : Alone (tables i) (decompositions i) (characters i) w start
   pub accepts : Accepts i w
+  -- where it stands, and its own edges
+  pub place : Stretch (characters i) w start
+  pub full : All (Inside 0 (length w)) (edges (tables i) (decompositions i) w)
 
 module _ (i : Inputs) (taken : Taken i) where
   abbrev D : Tables
   D = tables i
 
+  abbrev ds : List Decomposition
+  ds = decompositions i
+
   abbrev T : Text
   T = characters i
 
   word : (x w : Text) (ws : List Text) → T ≡ x ++ (w ++ spaced ws) → Before x → First w → Reading i w
+  unfolding edges
   word x w ws e b f =
       let r = demand i taken .stretches x w (spaced ws) e b (after-spaced ws) f in
-      record { start = length x; alone = r .0; accepts = r .1 }
+      let h = subst (λ t. Stretch t w (length x)) (sym e) (stretch x w (spaced ws) b (after-spaced ws)) in
+      record {
+        start = length x;
+        alone = r .0;
+        accepts = r .1;
+        place = h;
+        full = lattice-inside (fair-tables i taken) h f .edges .full;
+      }
 
   words : (x w : Text) (ws : List Text) → T ≡ x ++ (w ++ spaced ws) → Before x → All First (w ∷ ws)
       → All (Reading i) (w ∷ ws)
@@ -83,10 +101,10 @@ module _ (i : Inputs) (taken : Taken i) where
     abbrev Own : Edge → Type 0
     Own y = over m y ≡ true → y ≡ space-edge (D .classes) m
 
-    own : All Own (path D T)
+    own : All Own (path D ds T)
     unfolding path path-of edges
-    own = path-sound Own (length T) 0 (lattice D T .0)
-        (keep-only (over m) (space-edge (D .classes) m) (lattice D T .0) (demand i taken .spaces m l sp))
+    own = path-sound Own (length T) 0 (lattice D ds T .0)
+        (keep-only (over m) (space-edge (D .classes) m) (lattice D ds T .0) (demand i taken .spaces m l sp))
 
     own-place : (y : Edge) → Own y → y .from ≤ m → m < y .to → (y .from ≡ m) × (y .to ≡ m + 1)
     unfolding over space-edge single
@@ -119,19 +137,19 @@ module _ (i : Inputs) (taken : Taken i) where
   -- The path's edges from `a` on are `l`
   record Onward (a : ℕ) (l : List Edge) : Type 0 where
     pub before : List Edge
-    pub whole : path D T ≡ before ++ l
+    pub whole : path D ds T ≡ before ++ l
     pub fore : Abut 0 a before
     pub aft : Abut a (length T) l
 
   -- the edges of the path along a word are the word's own path, moved
   along : (x w y : Text) (l r : List Edge) → T ≡ x ++ (w ++ y) → Before x → After y → First w
       → Onward (length x) (l ++ r) → Abut (length x) (length x + length w) l → Abut (length x + length w) (length T) r
-      → joined l ≡ string D w
+      → joined l ≡ string D ds w
   unfolding string
   along x w y l r e b c f o h j =
       ap joined (sym (middle (length x) (length w) (length T) (o .before) l r (o .fore) h j)
       ∙ ap (keep (within (length x) (length w))) (sym (o .whole)) ∙ demand i taken .stretches x w y e b c f .0 .path)
-      ∙ joined-shift (length x) (path D w)
+      ∙ joined-shift (length x) (path D ds w)
 
   -- Along a word and over the space after it
   module _ (x w y : Text) (l : List Edge) (e : T ≡ x ++ (w ++ the-space ∷ y)) (o : Onward (length x) l) where
@@ -183,17 +201,17 @@ module _ (i : Inputs) (taken : Taken i) where
     gap-string : joined gap ≡ the-space ∷ []
     gap-string = over-space m long sp gap (All-left Mine gap rest (subst (All Mine) (two .is) mine-next)) (two .fore)
 
-    here-string : Before x → First w → joined here ≡ string D w
+    here-string : Before x → First w → joined here ≡ string D ds w
     here-string b f =
         along x w (the-space ∷ y) here (one .right) e b (After.space y) f own-onward (one .fore) (one .aft)
       where
         own-onward : Onward (length x) (here ++ one .right)
         own-onward = subst (Onward (length x)) (one .is) o
 
-    word-string : Before x → First w → joined l ≡ string D w ++ the-space ∷ joined rest
+    word-string : Before x → First w → joined l ≡ string D ds w ++ the-space ∷ joined rest
     word-string b f = ap joined is ∙ joined-append here (gap ++ rest)
         ∙ ap (λ t. t ++ joined (gap ++ rest)) (here-string b f)
-        ∙ ap (λ t. string D w ++ t) (joined-append gap rest ∙ ap (λ t. t ++ joined rest) gap-string)
+        ∙ ap (λ t. string D ds w ++ t) (joined-append gap rest ∙ ap (λ t. t ++ joined rest) gap-string)
 
     onward : Onward (length ((x ++ w) ++ the-space ∷ [])) rest
     onward =
@@ -211,25 +229,25 @@ module _ (i : Inputs) (taken : Taken i) where
 
   -- From a word's start on, word by word
   from-word : (x w : Text) (ws : List Text) (l : List Edge) → T ≡ x ++ (w ++ spaced ws) → Before x → All First (w ∷ ws)
-      → Onward (length x) l → joined l ≡ line-of (map (string D) (w ∷ ws))
+      → Onward (length x) l → joined l ≡ line-of (map (string D ds) (w ∷ ws))
   unfolding spaced line-of
   from-word x w [] l e b f o =
       let n : length T ≡ length x + length w =
       omega (arith, ap length e, length-append x (w ++ []), length-append w []) in
       along x w [] l [] e b end (f .0) (subst (Onward (length x)) (sym (append-nil l)) o)
       (subst (λ z. Abut (length x) z l) n (o .aft)) (sym n)
-      ∙ sym (append-nil (string D w))
+      ∙ sym (append-nil (string D ds w))
   from-word x w (v ∷ vs) l e b f o =
       let y = v ++ spaced vs in
       word-string x w y l e o b (f .0)
-      ∙ ap (λ t. string D w ++ the-space ∷ t)
+      ∙ ap (λ t. string D ds w ++ the-space ∷ t)
       (from-word ((x ++ w) ++ the-space ∷ []) v vs (rest x w y l e o) (e ∙ past x w y) (Before.space (x ++ w)) (f .1)
       (onward x w y l e o))
 
-  line-string : (ws : List Text) → T ≡ line-of ws → All First ws → string D T ≡ line-of (map (string D) ws)
+  line-string : (ws : List Text) → T ≡ line-of ws → All First ws → string D ds T ≡ line-of (map (string D ds) ws)
   unfolding line-of string path path-of path-from joined
   line-string [] e f = rw e
-  line-string (w ∷ ws) e f = from-word [] w ws (path D T) e start f
+  line-string (w ∷ ws) e f = from-word [] w ws (path D ds T) e start f
       (record { before = []; whole = refl; fore = refl; aft = path-whole i (taken .accepted) })
 
 -- The statement in characters, proved

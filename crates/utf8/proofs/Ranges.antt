@@ -5,7 +5,7 @@ use Prim.Native.Nat.{ℕ, _<_, _≤_}
 use native.Mathlib.Omega.{arith}
 use lib.Dec.{leb}
 use borrow.Author.Tests.{le-leb, lt-leb}
-use Rattle.definition.specs.Call.{left-out}
+use Rattle.definition.specs.Texts.{left-out}
 
 module _ (a e c : ℕ) where
   below : c < a → (leb a c && leb c e) ≡ false

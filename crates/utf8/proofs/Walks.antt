@@ -12,7 +12,8 @@ use Rattle.base.specs.Pick.{pick}
 use Rattle.definition.specs.Utf8.{char, bad, read, bad-sequence, decoded}
 use Rattle.definition.specs.Utf8Turns.{bad-at, bad-sequence-is, bad-none, bad-here, bad-next}
 use Rattle.definition.specs.Utf8Turns.{decoded-none, decoded-here, decoded-next, char-bytes}
-use Rattle.definition.specs.Call.{left-out, first-left-out}
+use Rattle.definition.specs.Texts.{left-out}
+use Rattle.definition.specs.Call.{first-left-out}
 use Rattle.utf8.specs.Read.{answer, answered}
 use Rattle.utf8.specs.Puts.{puts}
 use Rattle.utf8.specs.declared.Decoded.{Decoded}

@@ -2,17 +2,21 @@
 use Prim.Native.Nat.{ℕ}
 use mathlib.Core.List.{List, [], _∷_}
 use mathlib.Core.Option.{Option}
-use mathlib.Core.Path.{ap, _∙_, sym}
+use mathlib.Core.Path.{_≡_, ap, _∙_, sym}
 use native.Mathlib.Omega.{arith}
 use lib.Dec.{ltb}
 use denote.Ref.{now}
 use Rattle.definition.specs.Limits.{most-mode, most-choice}
-use Rattle.base.specs.ListLaws.{first-only}
-use Rattle.definition.specs.Refusals.{Refusal, when, placed, refused-mode, refused-capitals, refused-classes, refused-vowels}
+use Rattle.base.specs.Lists.{first-of}
+use Rattle.base.specs.ListLaws.{first-only, first-past}
+use Rattle.definition.specs.Refusals.{Refusal, when, placed, refused-mode, refused-capitals, refused-classes, refused-vowels, refused-decompositions}
 use Rattle.definition.specs.RuleFaults.{rule-fault}
 use Rattle.definition.specs.ClassRows.{class-fault}
 use Rattle.definition.specs.VowelRows.{vowel-fault}
+use Rattle.definition.specs.DecompositionRows.{decomposition-fault}
 use Rattle.definition.specs.Call.{before-text}
+use Rattle.definition.specs.Sample.{no-decompositions}
+use Rattle.definition.specs.FormsOff.{empty-right}
 use Rattle.jettyfig.specs.Verdicts.{by-code, goes-on, ends-here, above, not-above}
 use borrow.Author.Needs.{needs}
 use Rattle.jettyfig.proofs.check.Statement.{statement}
@@ -20,7 +24,13 @@ use Rattle.jettyfig.proofs.check.Tie as tie
 
 -- the tests from the code on, and from each table on
 abbrev from-code : List ℕ → List (Option Refusal)
-from-code code = by-code code ∷ []
+from-code code = placed refused-decompositions (decomposition-fault no-decompositions) ∷ by-code code ∷ []
+
+-- a table without rows is right
+past-forms : (code : List ℕ) → first-of (by-code code ∷ []) ≡ first-of (from-code code)
+unfolding placed
+past-forms code =
+    sym (first-past (placed refused-decompositions (decomposition-fault no-decompositions)) (by-code code ∷ []) (ap (placed refused-decompositions) empty-right))
 
 abbrev from-vowels : List ℕ → List ℕ → List (Option Refusal)
 from-vowels vowels code = placed refused-vowels (vowel-fault vowels) ∷ from-code code
@@ -145,7 +155,7 @@ returns-6 c =
     let ruled = t .of-rule-table .ensures ∙ t .before .check-rules .ensures in
     let classed = u .of-table .ensures ∙ ap (placed refused-classes) (u .before .check-classes .ensures) in
     let voiced = v .of-table2 .ensures ∙ ap (placed refused-vowels) (v .before .check-vowels .ensures) in
-    c .check-code .ensures ∙ sym (first-only (by-code (now (a .code))))
+    c .check-code .ensures ∙ sym (first-only (by-code (now (a .code)))) ∙ past-forms (now (a .code))
     ∙ goes-on (v .of-table2 .result) _ (from-code (now (a .code))) voiced (c .before .enum-told5 .given .1)
     ∙ goes-on (u .of-table .result) _ (from-vowels (now (a .vowels)) (now (a .code))) classed (v .before .before .enum-told3 .given .1)
     ∙ goes-on (t .of-rule-table .result) _ (from-classes (now (a .classes)) (now (a .vowels)) (now (a .code))) ruled (u .before .before .enum-told .given .1)

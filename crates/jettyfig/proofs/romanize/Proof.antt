@@ -7,7 +7,9 @@ use lib.ListN.{length, take, drop, replicate}
 use lib.Seq.{length-take-le}
 use denote.Ref.{now}
 use Rattle.definition.specs.Limits.{slot-bytes, most-edges, most-characters, most-bytes}
-use Rattle.definition.specs.Building.{lattice}
+use Rattle.definition.specs.Building.{rule-lattice}
+use Rattle.definition.specs.Bounds.{Bounded}
+use Rattle.definition.specs.Promises.{tables-bounded}
 use Rattle.definition.specs.Listing.{shown}
 use Rattle.definition.specs.Refusals.{refuse, refused-slots, refused-room}
 use Rattle.definition.specs.Capacity.{misfit}
@@ -68,13 +70,13 @@ module _ (b : tie.After-build-lattice) (u : World) (told : Told u (now (start (s
   answered : (r : Added) → b .build-lattice .result ≡ r
       → Reached (kinds u) (size-of u) (now (start (sized b) .args .slots)) (now (start (sized b) .args .room)) (b .build-lattice .last .1 .1 .1 .1 .1 .1 .0)
       (b .build-lattice .last .1 .1 .1 .1 .1 .1 .1 .0) (b .build-lattice .last .1 .1 .1 .1 .1 .1 .1 .1 .0) (most-edges * most-characters * most-bytes)
-      (lattice (tables-of (u .choices) (now (start (sized b) .args .rules)) (u .classes) (now (start (sized b) .args .vowels)) (now (start (sized b) .args .code))) (u .text)) r
+      (rule-lattice (tables-of (u .choices) (now (start (sized b) .args .rules)) (u .classes) (now (start (sized b) .args .vowels)) (now (start (sized b) .args .code))) (u .text)) r
   answered r e =
       let a = start (sized b) .args in
       let x = b .build-lattice in
       let D = tables-of (u .choices) (now (a .rules)) (u .classes) (now (a .vowels)) (now (a .code)) in
       subst (Reached (kinds u) (size-of u) (now (a .slots)) (now (a .room)) (x .last .1 .1 .1 .1 .1 .1 .0) (x .last .1 .1 .1 .1 .1 .1 .1 .0)
-      (x .last .1 .1 .1 .1 .1 .1 .1 .1 .0) (most-edges * most-characters * most-bytes) (lattice D (u .text))) e (x .ensures .0 (with-edges u []) empty)
+      (x .last .1 .1 .1 .1 .1 .1 .1 .1 .0) (most-edges * most-characters * most-bytes) (rule-lattice D (u .text))) e (x .ensures .0 (with-edges u []) empty)
 
   -- what the call was asked, and with which tables
   abbrev asked : Inputs
@@ -86,10 +88,16 @@ module _ (b : tie.After-build-lattice) (u : World) (told : Told u (now (start (s
   abbrev D : Tables
   D = let a = start (sized b) .args in tables-of (u .choices) (now (a .rules)) (u .classes) (now (a .vowels)) (now (a .code))
 
+  bounds : Bounded D
+  bounds =
+      let a = start (sized b) .args in
+      let p = start (sized b) .pre in
+      tables-bounded (u .choices) (now (a .rules)) (u .classes) (now (a .vowels)) (now (a .code)) (p .0 .table .accepted) (lined .fine) (p .1)
+
   -- an edge that did not fit is what the call refuses
-  stops : (n p : ℕ) → misfit (asked .slots / slot-bytes) (asked .room) (lattice D (u .text) .0) ≡ some (refuse n p)
+  stops : (n p : ℕ) → misfit (asked .slots / slot-bytes) (asked .room) (rule-lattice D (u .text) .0) ≡ some (refuse n p)
       → returned (refusing n p) (now (start (sized b) .args .out)) ≡ accepted asked D (u .text)
-  stops n p e = as-refused asked (now (start (sized b) .args .out)) (start (sized b) .pre .5) n p ∙ built-refused asked D (u .text) (refuse n p) e
+  stops n p e = as-refused asked (now (start (sized b) .args .out)) (start (sized b) .pre .5) n p ∙ built-refused asked D (u .text) bounds refl (refuse n p) e
 
 text-len-requires : tie.Need-text-len-requires
 text-len-requires c κs = search needs
@@ -257,11 +265,11 @@ returns c =
     let D = tables-of (w .choices) (now (a .rules)) (w .classes) (now (a .vowels)) (now (a .code)) in
     let r = answered b u told lined _ (d .1) in
     let i = asked b u told lined in
-    let e = y′ .ensures i refl (now (a .vowels)) (with-edges w (lattice D (w .text) .0)) (told-with told (lattice D (w .text) .0))
-    (subst (Lent (with-edges w (lattice D (w .text) .0)) (now (a .line))) (sym P-back)
+    let e = y′ .ensures i refl (now (a .vowels)) (with-edges w (rule-lattice D (w .text) .0)) (told-with told (rule-lattice D (w .text) .0))
+    (subst (Lent (with-edges w (rule-lattice D (w .text) .0)) (now (a .line))) (sym P-back)
     (built-lent (now (a .rules)) (now (a .vowels)) (now (a .code)) o (p .0) (p .1) r)) (r .came .0 .edges) in
     built-written (now (a .rules)) (now (a .vowels)) (now (a .code)) o (p .0) (p .1) r (a .mode) (length (now (a .out))) (now (a .text)) _
-    (e ∙ ap (λ (l : List ℕ). written i (d .0 .0) (shown D (w .text) (a .mode) (lattice D (w .text) .0, memory (size-of w) l))) P-back)
+    (e ∙ ap (λ (l : List ℕ). written i (d .0 .0) (shown D (w .text) (a .mode) (rule-lattice D (w .text) .0, memory (size-of w) l))) P-back)
 
 same-length-4 : tie.Need-same-length-4
 same-length-4 c = search needs

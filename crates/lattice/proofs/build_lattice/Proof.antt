@@ -6,7 +6,7 @@ use denote.Ref.{now}
 use Rattle.definition.specs.Limits.{most-source, most-bytes, most-edges, most-characters}
 use Rattle.definition.specs.Tables.{Tables}
 use Rattle.definition.specs.Edges.{Mem, State}
-use Rattle.definition.specs.Building.{each, build, fall, lattice}
+use Rattle.definition.specs.Building.{each, build, fall, rule-lattice}
 use Rattle.definition.specs.Growth.{each-grown, fall-grown}
 use Rattle.definition.specs.Call.{tables-of}
 use Rattle.edge.specs.declared.Added.the-variants.{Fits}
@@ -44,7 +44,7 @@ abbrev built : tie.After-add-romanization → World → State
 built b w = each (build (D b w) (w .text)) (size w) 0 (state-of w (now (start b .args .places)))
 
 -- its second pass from there makes the lattice
-whole : (b : tie.After-add-romanization) (w : World) → Lent-in b w → each (fall (D b w) (w .text)) (size w) 0 (built b w) ≡ lattice (D b w) (w .text)
+whole : (b : tie.After-add-romanization) (w : World) → Lent-in b w → each (fall (D b w) (w .text)) (size w) 0 (built b w) ≡ rule-lattice (D b w) (w .text)
 whole b w o = whole-lattice (D b w) o (size-in (now (start b .args .line)) + 1) (start b .pre .4) (omega (arith, line-size (o .lent .text)))
 
 -- An edge of the first pass that doesn't fit is the whole lattice's refusal.
