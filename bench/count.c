@@ -2,7 +2,7 @@
  *
  *     count FOLDER LENGTH ROOMS MODE CAPITALS TIMES
  *
- * FOLDER holds rules.bin, classes.bin, vowels.bin and labels.txt. The texts are so many labels, or with another LENGTH than 0 so
+ * FOLDER holds rules.bin, classes.bin, vowels.bin, decompositions.bin and labels.txt. The texts are so many labels, or with another LENGTH than 0 so
  * many texts of LENGTH characters, which are labels joined by spaces; `empty` in its place makes them empty. Rooms are ROOMS bytes
  * for slots, as many for texts, and four times as many for the output. All is read and laid out before the first call, for the
  * most texts that may be asked for: so two runs differ in their calls alone. */
@@ -24,7 +24,7 @@ typedef struct {
     size_t length;
 } slice;
 
-static file rules, classes, vowels, labels;
+static file rules, classes, vowels, decompositions, labels;
 static slice text[MOST_TEXTS];
 
 static void quit(const char *why) {
@@ -83,6 +83,7 @@ int main(int argc, char **argv) {
     read_file(argv[1], "rules.bin", &rules);
     read_file(argv[1], "classes.bin", &classes);
     read_file(argv[1], "vowels.bin", &vowels);
+    read_file(argv[1], "decompositions.bin", &decompositions);
     read_file(argv[1], "labels.txt", &labels);
     empty = !strcmp(argv[2], "empty");
     lay_out(strtoul(argv[2], NULL, 10));
@@ -94,9 +95,9 @@ int main(int argc, char **argv) {
     slots = lend(room_length), room = lend(room_length), out = lend(4 * room_length);
     for (k = 0; k < times; k++) {
         jettyfig_answer a = jettyfig_romanize(mode, capitals, rules.bytes, rules.length, classes.bytes, classes.length,
-                                              vowels.bytes, vowels.length, (const uint8_t *)"", 0, text[k].bytes,
-                                              empty ? 0 : text[k].length, slots, room_length, room, room_length, out,
-                                              4 * room_length);
+                                              vowels.bytes, vowels.length, decompositions.bytes, decompositions.length,
+                                              (const uint8_t *)"", 0, text[k].bytes, empty ? 0 : text[k].length, slots,
+                                              room_length, room, room_length, out, 4 * room_length);
         if (a.number != JETTYFIG_DONE) quit("a call was refused");
     }
     return 0;

@@ -1,4 +1,4 @@
-/* The stack that a call takes: stack FOLDER, which holds rules.bin, classes.bin, vowels.bin and labels.txt.
+/* The stack that a call takes: stack FOLDER, which holds rules.bin, classes.bin, vowels.bin, decompositions.bin and labels.txt.
  *
  * The calls run on a stack of their own, which is painted before; the deepest byte that has changed tells how far they went. */
 #include <stdio.h>
@@ -21,9 +21,12 @@ typedef struct {
     size_t length;
 } file;
 
-static file rules, classes, vowels, text;
+static file rules, classes, vowels, decompositions, text;
 static uint8_t mode;
 static jettyfig_answer answer;
+static size_t most, calls;
+/* a call works deeper on a decomposition */
+static uint8_t forms[] = "①ＡＢＣ②";
 
 static file read_file(const char *folder, const char *name) {
     char path[4096];
@@ -41,8 +44,8 @@ static file read_file(const char *folder, const char *name) {
 
 static void call(void) {
     answer = jettyfig_romanize(mode, JETTYFIG_CAPITALS_OFF, rules.bytes, rules.length, classes.bytes, classes.length, vowels.bytes,
-                               vowels.length, (const uint8_t *)"", 0, text.bytes, text.length, slots, sizeof slots, room,
-                               sizeof room, out, sizeof out);
+                               vowels.length, decompositions.bytes, decompositions.length, (const uint8_t *)"", 0, text.bytes,
+                               text.length, slots, sizeof slots, room, sizeof room, out, sizeof out);
 }
 
 /* Bytes of the stack that one call on its own touches. */
@@ -59,6 +62,19 @@ static size_t used(void) {
     return STACK - k;
 }
 
+/* A text in each mode. */
+static void run(uint8_t *bytes, size_t length) {
+    text = (file){bytes, length};
+    for (mode = 0; mode < 4; mode++, calls++) {
+        size_t n = used();
+        if (answer.number != JETTYFIG_DONE) {
+            fprintf(stderr, "refused with %llu\n", (unsigned long long)answer.number);
+            exit(1);
+        }
+        if (n > most) most = n;
+    }
+}
+
 int main(int argc, char **argv) {
     if (argc != 2) {
         fprintf(stderr, "usage: stack FOLDER\n");
@@ -67,20 +83,13 @@ int main(int argc, char **argv) {
     rules = read_file(argv[1], "rules.bin");
     classes = read_file(argv[1], "classes.bin");
     vowels = read_file(argv[1], "vowels.bin");
+    decompositions = read_file(argv[1], "decompositions.bin");
     file labels = read_file(argv[1], "labels.txt");
-    size_t most = 0, calls = 0;
+    run(forms, sizeof forms - 1);
     for (size_t at = 0; at < labels.length && calls < 800;) {
         uint8_t *end = memchr(labels.bytes + at, '\n', labels.length - at);
         size_t length = end ? (size_t)(end - labels.bytes) - at : labels.length - at;
-        text = (file){labels.bytes + at, length};
-        for (mode = 0; mode < 4; mode++, calls++) {
-            size_t n = used();
-            if (answer.number != JETTYFIG_DONE) {
-                fprintf(stderr, "refused with %llu\n", (unsigned long long)answer.number);
-                return 1;
-            }
-            if (n > most) most = n;
-        }
+        run(labels.bytes + at, length);
         at += length + 1;
     }
     printf("stack: %zu bytes at most in %zu calls\n", most, calls);

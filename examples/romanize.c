@@ -1,10 +1,11 @@
-/* Romanizes standard input by the tables of three files, and prints the string, or the refusal.
+/* Romanizes standard input by the tables of four files, and prints the string, or the refusal.
  *
  *     rt staticlib jettyfig
  *     cc -Iinclude examples/romanize.c target/staticlib/libjettyfig.a -o romanize
- *     printf 'कत' | ./romanize crates/romanize/data/rules.bin crates/romanize/data/classes.bin crates/romanize/data/vowels.bin
+ *     cd crates/romanize/data
+ *     printf 'कत ①' | ../../../romanize rules.bin classes.bin vowels.bin decompositions.bin
  *
- * prints kat. */
+ * prints kat 1. */
 #include <stdio.h>
 #include <stdlib.h>
 
@@ -15,7 +16,7 @@ typedef struct {
     size_t length;
 } file;
 
-static file rules, classes, vowels, text;
+static file rules, classes, vowels, decompositions, text;
 
 /* rooms for any text */
 static uint8_t slots[JETTYFIG_SLOTS_FOR(JETTYFIG_MOST_CHARACTERS)];
@@ -37,17 +38,18 @@ static void read_all(FILE *f, const char *name, file *t) {
 
 int main(int argc, char **argv) {
     jettyfig_answer a;
-    if (argc != 4) {
-        fprintf(stderr, "usage: romanize RULES CLASSES VOWELS < TEXT\n");
+    if (argc != 5) {
+        fprintf(stderr, "usage: romanize RULES CLASSES VOWELS DECOMPOSITIONS < TEXT\n");
         return 2;
     }
     read_all(fopen(argv[1], "rb"), argv[1], &rules);
     read_all(fopen(argv[2], "rb"), argv[2], &classes);
     read_all(fopen(argv[3], "rb"), argv[3], &vowels);
+    read_all(fopen(argv[4], "rb"), argv[4], &decompositions);
     read_all(stdin, "standard input", &text);
     a = jettyfig_romanize(JETTYFIG_SHOW_STRING, JETTYFIG_CAPITALS_OFF, rules.bytes, rules.length, classes.bytes, classes.length,
-                          vowels.bytes, vowels.length, (const uint8_t *)"", 0, text.bytes, text.length, slots, sizeof slots,
-                          room, sizeof room, out, sizeof out);
+                          vowels.bytes, vowels.length, decompositions.bytes, decompositions.length, (const uint8_t *)"", 0,
+                          text.bytes, text.length, slots, sizeof slots, room, sizeof room, out, sizeof out);
     if (a.number != JETTYFIG_DONE) {
         fprintf(stderr, "refused with %llu at %llu\n", (unsigned long long)a.number, (unsigned long long)a.place);
         return 1;

@@ -1,8 +1,8 @@
-//! Romanizes standard input by document 01's sample tables, and prints the string, or the refusal.
+//! Romanizes standard input by document 01's sample tables and a decomposition table, and prints the string, or the refusal.
 //!
 //!     rt staticlib jettyfig
 //!     rustc -O examples/romanize.rs -L target/staticlib -o romanize
-//!     printf 'कत' | ./romanize        prints kat
+//!     printf 'कत ①' | ./romanize      prints kat 1
 
 #[path = "../include/jettyfig.rs"]
 mod jettyfig;
@@ -15,6 +15,7 @@ const SAMPLE: Tables = Tables {
     rules: include_bytes!("../crates/romanize/data/rules.bin"),
     classes: include_bytes!("../crates/romanize/data/classes.bin"),
     vowels: include_bytes!("../crates/romanize/data/vowels.bin"),
+    decompositions: include_bytes!("../crates/romanize/data/decompositions.bin"),
 };
 
 /// The path's string; or the refusal, and its place.

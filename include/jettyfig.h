@@ -19,8 +19,8 @@ extern "C" {
 #endif
 
 /* The version of this header and its library: as text, and as a number that rises. */
-#define JETTYFIG_VERSION "3.0.0"
-#define JETTYFIG_VERSION_NUMBER 30000 /* 10000 for the first part, 100 for the second, 1 for the third */
+#define JETTYFIG_VERSION "4.0.0"
+#define JETTYFIG_VERSION_NUMBER 40000 /* 10000 for the first part, 100 for the second, 1 for the third */
 
 /* What a call shows: its argument `mode`. */
 enum jettyfig_show {
@@ -58,7 +58,8 @@ enum jettyfig_edge {
     JETTYFIG_EDGE_ZS = 10,      /* a fallback: a space */
     JETTYFIG_EDGE_ORIG = 11,    /* a fallback: the character itself */
     JETTYFIG_EDGE_ALT = 12,     /* an alternative: one of a rule, with the edge's vowel where it has one; 13 does not occur */
-    JETTYFIG_EDGE_ALT3 = 14     /* an alternative: a rule's target where its end-of-syllable target was taken */
+    JETTYFIG_EDGE_ALT3 = 14,    /* an alternative: a rule's target where its end-of-syllable target was taken */
+    JETTYFIG_EDGE_DECOMP = 15   /* the string of the characters that a row of the decomposition table holds */
 };
 
 /* The answer's number: done, or a refusal. Refusals in the order in which they are looked for, with what `place` says. 20 to 25
@@ -78,12 +79,17 @@ enum jettyfig_number {
     JETTYFIG_REFUSED_ROWS = 25,     /* over 8,192 rules; the offset of the first that is too many */
     JETTYFIG_REFUSED_CLASSES = 3,   /* the class table is faulty; the offset of its first faulty row, 0 for the header */
     JETTYFIG_REFUSED_VOWELS = 4,    /* the vowel table is faulty; likewise */
+    JETTYFIG_REFUSED_DECOMPOSITIONS = 13, /* the decomposition table is faulty; likewise. A row is, too, that holds a character with
+                                     * a row of its own */
     JETTYFIG_REFUSED_CODE = 5,      /* the language code is neither empty nor three letters a to z; 0 */
     JETTYFIG_REFUSED_UTF8 = 6,      /* the text is not UTF-8 (RFC 3629); the offset of the first bad sequence */
     JETTYFIG_REFUSED_TOO_LONG = 7,  /* the text has over 512 characters; 512 */
     JETTYFIG_REFUSED_LEFT_OUT = 8,  /* a Tibetan, Braille or Hangul character; its position in characters */
-    JETTYFIG_REFUSED_SLOTS = 9,     /* an edge finds no slot; the edge's start */
-    JETTYFIG_REFUSED_ROOM = 10,     /* an edge finds a slot, but too little text room; the edge's start */
+    JETTYFIG_REFUSED_SLOTS = 9,     /* an edge finds no slot; the edge's start. The edges of a decomposition's string take slots and
+                                     * room for a while: of these it is the decomposed character */
+    JETTYFIG_REFUSED_ROOM = 10,     /* an edge finds a slot, but too little text room; likewise */
+    JETTYFIG_REFUSED_EDGE_TEXT = 14, /* a decomposition's text would pass 198 bytes; its character's position. This is looked for
+                                     * with 9 and 10, after those of the string's edges and before the edge's own */
     JETTYFIG_REFUSED_OUTPUT = 11    /* the output is too short; the bytes that it needs */
 };
 
@@ -100,12 +106,13 @@ typedef struct {
 
 /* How many bytes are always enough for a text of n characters, whatever the tables: with slots and room of these sizes 9 and
  * 10 never come, and with an output of its mode's size 11 never comes. A lattice has at most 17 edges for each character, each
- * of a slot of 12 bytes and a text of at most 198; a path has at most one edge for each character; a listing has 5 bytes before
- * its rows, and a row 8 before its text. A text of b bytes has at most b characters, and one of more than
+ * of a slot of 12 bytes and a text of at most 198; while a decomposition's string is made, the edges of its 18 characters at most
+ * stand behind those of the text; a path has at most one edge for each character; a listing has 5 bytes before its rows, and a row
+ * 8 before its text. A text of b bytes has at most b characters, and one of more than
  * JETTYFIG_MOST_CHARACTERS is refused before it needs any room: so the smaller of the two may stand for n. These are constants
  * where n is one. */
-#define JETTYFIG_SLOTS_FOR(n) ((size_t)17 * 12 * (n))
-#define JETTYFIG_ROOM_FOR(n) ((size_t)17 * 198 * (n))
+#define JETTYFIG_SLOTS_FOR(n) ((size_t)17 * 12 * ((n) + 18))
+#define JETTYFIG_ROOM_FOR(n) ((size_t)17 * 198 * ((n) + 18))
 /* and the output of JETTYFIG_SHOW_STRING, JETTYFIG_SHOW_PATH and JETTYFIG_SHOW_ALL_EDGES */
 #define JETTYFIG_STRING_FOR(n) ((size_t)198 * (n))
 #define JETTYFIG_PATH_FOR(n) ((size_t)5 + (size_t)(8 + 198) * (n))
@@ -118,18 +125,20 @@ typedef struct {
  * recursive. It has room for the dynamic linker, which may run at the first call of memcpy, memmove or memset. */
 #define JETTYFIG_STACK 24576
 
-/* The call. Each slice is a pointer and a length in bytes. Rules, classes, vowels, code and text are read only. Slots and room
- * are working rooms: what stands in them before is of no matter, and both are all zeros afterwards, whatever happened. All of
- * the output is written: `length` bytes, and zeros behind them; after a refusal it is all zeros.
+/* The call. Each slice is a pointer and a length in bytes. Rules, classes, vowels, decompositions, code and text are read only.
+ * Slots and room are working rooms: what stands in them before is of no matter, and both are all zeros afterwards, whatever
+ * happened. All of the output is written: `length` bytes, and zeros behind them; after a refusal it is all zeros. A caller without
+ * decompositions lends a table with no row, the five bytes 1, 0, 0, 0, 0: a slice of no bytes is a faulty table.
  *
  * This is asked of the caller, and can't be checked: no pointer is null, also where its length is 0; so many bytes as the
  * length says can be read there, and in slots, room and output written; these three overlap no other slice, nor each other;
- * no other thread writes any of the eight, or reads these three, before the call returns; and there are JETTYFIG_STACK bytes of
+ * no other thread writes any of the nine, or reads these three, before the call returns; and there are JETTYFIG_STACK bytes of
  * stack. */
 jettyfig_answer jettyfig_romanize(uint8_t mode, uint8_t capitals,
                                   const uint8_t *rules, size_t rules_length,
                                   const uint8_t *classes, size_t classes_length,
                                   const uint8_t *vowels, size_t vowels_length,
+                                  const uint8_t *decompositions, size_t decompositions_length,
                                   const uint8_t *code, size_t code_length,
                                   const uint8_t *text, size_t text_length,
                                   uint8_t *slots, size_t slots_length,

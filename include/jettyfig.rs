@@ -5,8 +5,8 @@
 #![allow(dead_code)]
 
 /// The version of this file and its library: as text, and as a number that rises.
-pub const VERSION: &str = "3.0.0";
-pub const VERSION_NUMBER: u32 = 30000;
+pub const VERSION: &str = "4.0.0";
+pub const VERSION_NUMBER: u32 = 40000;
 
 /// What a call shows: its mode. The string, the path, the path and its alternatives, all edges.
 pub const SHOW_STRING: u8 = 0;
@@ -32,6 +32,7 @@ pub const EDGE_ZS: u8 = 10;
 pub const EDGE_ORIG: u8 = 11;
 pub const EDGE_ALT: u8 = 12;
 pub const EDGE_ALT3: u8 = 14;
+pub const EDGE_DECOMP: u8 = 15;
 
 /// The number of an answer that is no refusal.
 pub const DONE: u64 = 0;
@@ -49,12 +50,14 @@ pub enum Refusal {
     Rows = 25,
     Classes = 3,
     Vowels = 4,
+    Decompositions = 13,
     Code = 5,
     Utf8 = 6,
     TooLong = 7,
     LeftOut = 8,
     Slots = 9,
     Room = 10,
+    EdgeText = 14,
     Output = 11,
 }
 
@@ -72,12 +75,14 @@ impl Refusal {
             25 => Refusal::Rows,
             3 => Refusal::Classes,
             4 => Refusal::Vowels,
+            13 => Refusal::Decompositions,
             5 => Refusal::Code,
             6 => Refusal::Utf8,
             7 => Refusal::TooLong,
             8 => Refusal::LeftOut,
             9 => Refusal::Slots,
             10 => Refusal::Room,
+            14 => Refusal::EdgeText,
             11 => Refusal::Output,
             _ => return None,
         })
@@ -108,11 +113,11 @@ pub const MOST_CHARACTERS: usize = 512;
 /// mode but alternatives, which have no such size (where they are refused with `Refusal::Output`, the place is what they need).
 /// A text of `b` bytes has at most `b` characters, and at most `MOST_CHARACTERS` where it is not refused.
 pub const fn slots_for(n: usize) -> usize {
-    17 * 12 * n
+    17 * 12 * (n + 18)
 }
 
 pub const fn room_for(n: usize) -> usize {
-    17 * 198 * n
+    17 * 198 * (n + 18)
 }
 
 pub const fn string_for(n: usize) -> usize {
@@ -136,12 +141,13 @@ pub struct Choices {
     pub capitals: u8,
 }
 
-/// Tables that are lent to calls. They need not be right: a call checks them.
+/// Tables that are lent to calls. They need not be right: a call checks them. One without rows is `&[1, 0, 0, 0, 0]`.
 #[derive(Clone, Copy)]
 pub struct Tables<'a> {
     pub rules: &'a [u8],
     pub classes: &'a [u8],
     pub vowels: &'a [u8],
+    pub decompositions: &'a [u8],
 }
 
 /// Rooms that a call works in and writes to.
@@ -162,6 +168,8 @@ unsafe extern "C" {
         classes_length: usize,
         vowels: *const u8,
         vowels_length: usize,
+        decompositions: *const u8,
+        decompositions_length: usize,
         code: *const u8,
         code_length: usize,
         text: *const u8,
@@ -188,6 +196,8 @@ pub fn romanize(mode: u8, choices: Choices, tables: Tables, code: &[u8], text: &
             tables.classes.len(),
             tables.vowels.as_ptr(),
             tables.vowels.len(),
+            tables.decompositions.as_ptr(),
+            tables.decompositions.len(),
             code.as_ptr(),
             code.len(),
             text.as_ptr(),

@@ -5,6 +5,7 @@ Writers take rows in any order and answer the bytes of a table:
     rules(("क", "k"), Rule("ж", "zh", flags=START, count=1, others=["j"]))
     classes({"क": (LETTER, DEVANAGARI), " ": (ZS,)})
     vowels((DEVANAGARI, A, "a"))
+    decompositions({"①": "1", "½": "1\u20442", "²": ("2", SUPER)})
     listing(Edge(0, 1, CORE, 1, "ka"))
 
 A row that breaks a rule of the format raises ValueError, which names the row and the rule. Readers are the way back, so that
@@ -13,22 +14,25 @@ rules(*read_rules(table)) == table:
     read_rules(table)      a list of Rule
     read_classes(table)    a dict from characters to Kind
     read_vowels(table)     a list of Vowel
+    read_decompositions(table)  a dict from characters to Held
     read_listing(output)   a list of Edge
 
 A table that a call would refuse raises Faulty there, whose `number` and `place` are those of the refusal: of a rule table what is
-wrong (FAULTS) and the offset of the faulty field or row; of a class table 3 and of a vowel table 4 with the offset of the first faulty
-row. Its `row` is counted from 1; place and row are 0 for the header.
+wrong (FAULTS) and the offset of the faulty field or row; of a class table 3, of a vowel table 4 and of a decomposition table 13 with
+the offset of the first faulty row. Its `row` is counted from 1; place and row are 0 for the header.
 
-rule_row, class_row, vowel_row, edge_row and block only lay bytes out and check nothing: faulty tables are made with them."""
+rule_row, class_row, vowel_row, decomposition_row, edge_row and block only lay bytes out and check nothing: faulty tables are made
+with them."""
 from typing import NamedTuple, Optional
 
 VERSION = 1
 HEADER = 5          # bytes before the first row
-MOST_RULES = MOST_CLASSES = 8192
+MOST_RULES = MOST_CLASSES = MOST_DECOMPOSITIONS = 8192
 MOST_VOWELS = 127
 MOST_CHARACTERS = 512
 MOST_SOURCE, MOST_CODES, MOST_OTHERS, MOST_TARGET = 16, 8, 8, 64
 MOST_LETTERS = 4
+MOST_HELD = 18      # characters of a decomposition
 MOST_EDGE_TEXT = 198
 
 # bits of a rule's flags; has target and has end-of-syllable target follow from the texts
@@ -42,14 +46,18 @@ THAI, COPTIC, HIRAGANA, KATAKANA, DEVANAGARI = range(1, 6)
 SIGN, MEDIAL, SUBJOINED, VIRAMA, VOCALIC, TONE, PRE, LOWER = (1 << bit for bit in range(8))
 # types of inherent vowels
 A, AO = 0, 1
+# tags of decompositions; only the last gives an edge
+UNTAGGED, SUPER, SUB, NO_BREAK, COMPAT, FORM = range(6)
+# characters that no text may have, from and to: Tibetan, Braille and Hangul
+LEFT_OUT = (0x0F00, 0x0FFF), (0x2800, 0x28FF), (0xAC00, 0xD7A3)
 # the numbers that a faulty table is refused by
 BAD_LENGTH, BAD_COUNT, BAD_SOURCE, BAD_TARGET, BAD_ORDER, TOO_MANY = range(20, 26)
-BAD_CLASSES, BAD_VOWELS = 3, 4
+BAD_CLASSES, BAD_VOWELS, BAD_DECOMPOSITIONS = 3, 4, 13
 FAULTS = {BAD_LENGTH: "header or length", BAD_COUNT: "flag or count out of its range", BAD_SOURCE: "source or language code",
          BAD_TARGET: "target byte", BAD_ORDER: "row order", TOO_MANY: "too many rows"}
 # annotations of a listing's edges
 (ROM, CORE, TAIL, EXPANDED, DELETED, SINGLE, FALLBACK_MN, FALLBACK_CF, FALLBACK_CO, FALLBACK_ZS, ORIG, ALT, ALT2,
- ALT3) = range(1, 15)
+ ALT3, DECOMP) = range(1, 16)
 
 
 class Rule(NamedTuple):
@@ -77,6 +85,12 @@ class Vowel(NamedTuple):
     letters: str
 
 
+class Held(NamedTuple):
+    """what a row of the decomposition table holds of its character"""
+    characters: str
+    tag: int = FORM
+
+
 class Edge(NamedTuple):
     """a row of a listing"""
     start: int
@@ -100,6 +114,8 @@ class Faulty(ValueError):
 # how many a rule row may have, from the least to the most
 OF_SOURCE, OF_CODES, OF_OTHERS = (("source characters", 1, MOST_SOURCE), ("language codes", 0, MOST_CODES),
                                   ("alternatives", 0, MOST_OTHERS))
+# and a decomposition
+OF_HELD = "characters", 1, MOST_HELD
 
 
 def first_wrong(found):
@@ -110,6 +126,11 @@ def first_wrong(found):
 def scalar(number):
     """whether this is the number of a character: a Unicode scalar value"""
     return 0 <= number < 0xD800 or 0xDFFF < number < 0x110000
+
+
+def left_out(number):
+    """whether number 8 refuses this character"""
+    return any(first <= number <= last for first, last in LEFT_OUT)
 
 
 def small(letters):
@@ -185,12 +206,31 @@ def wrong_vowel(row):
         return "%r is not letters a to z" % (row.letters,)
 
 
+def wrong_held(char, held):
+    if len(char) != 1 or not scalar(ord(char)):
+        return "%r is not one character, a Unicode scalar value" % (char,)
+    if char == " ":
+        return "U+0020 must have no row"
+    if not UNTAGGED <= held.tag <= FORM:
+        return "tag %d is not in 0 to 5" % held.tag
+    return wrong_amount(OF_HELD, len(held.characters)) or first_wrong(map(wrong_inside, map(ord, held.characters)))
+
+
+def wrong_inside(number):
+    return wrong_character(number) or left_out(number) and "it holds U+%04X, which no text may have" % number
+
+
+def wrong_nesting(held, has_row):
+    """what is wrong where a row holds characters that have rows themselves"""
+    return first_wrong(c in has_row and "it holds U+%04X, which has a row" % ord(c) for c in held.characters)
+
+
 def wrong_edge(edge):
     length = len(edge.text.encode("utf-8", "surrogatepass"))
     if not 0 <= edge.start < edge.end <= MOST_CHARACTERS:
         return "an edge from %d to %d, within 0 to %d it must go forward" % (edge.start, edge.end, MOST_CHARACTERS)
-    if not ROM <= edge.annotation <= ALT3:
-        return "annotation %d is not in 1 to 14" % edge.annotation
+    if not ROM <= edge.annotation <= DECOMP:
+        return "annotation %d is not in 1 to 15" % edge.annotation
     if length > MOST_EDGE_TEXT:
         return "a text of %d bytes, at most %d" % (length, MOST_EDGE_TEXT)
     if not 0 <= edge.core <= (length if edge.annotation == CORE else 0):
@@ -222,6 +262,16 @@ def class_row(char, category, script=0, flags=0):
 
 def vowel_row(script, kind, letters):
     return bytes([script, kind, len(letters)]) + letters.encode("latin-1")
+
+
+def three(char):
+    """three bytes of a character, or of a number that need not be one"""
+    return (char if isinstance(char, int) else ord(char)).to_bytes(3, "big")
+
+
+def decomposition_row(char, characters, tag=FORM, count=None):
+    """with another count than it has characters where one is given"""
+    return three(char) + bytes([tag, len(characters) if count is None else count]) + b"".join(map(three, characters))
 
 
 def edge_row(start, end, annotation, core, text):
@@ -273,6 +323,15 @@ def vowels(*given):
         refuse(wrong_vowel(row), row)
         refuse(before and before.script == row.script and "script %d has a row already" % row.script, row)
     return block(vowel_row(*row) for row in made)
+
+
+def decompositions(given):
+    """a decomposition table; from characters to their characters, or to these and a tag, which is FORM where left out"""
+    made = [(char, Held(given[char]) if isinstance(given[char], str) else Held(*given[char])) for char in sorted(given)]
+    for char, held in made:
+        refuse(wrong_held(char, held) or wrong_nesting(held, given), (char, *held))
+    few(made, MOST_DECOMPOSITIONS)
+    return block(decomposition_row(char, *held) for char, held in made)
 
 
 def listing(*given):
@@ -401,6 +460,16 @@ def read_vowel(table, before):
     return row
 
 
+def read_decomposition(table, before):
+    number, tag = table.number(3), table.number(1)
+    inside = [table.number(3) for _ in range(table.number(1))]
+    right(wrong_character(number) or first_wrong(map(wrong_character, inside)))
+    char, held = chr(number), Held("".join(map(chr, inside)), tag)
+    right(wrong_held(char, held))
+    right(before and char <= before[0] and "U+%04X is not above the one before" % number)
+    return char, held
+
+
 def read_edge(table, _):
     row = Bytes(table.take(table.number(2)))
     edge = Edge(row.number(2), row.number(2), row.number(1), row.number(1), row.data[6:].decode("utf-8"))
@@ -438,6 +507,29 @@ def read_classes(table):
 
 def read_vowels(table):
     return read_block("vowel table", table, read_vowel, MOST_VOWELS, BAD_VOWELS)
+
+
+def read_decompositions(table):
+    """a row that holds a character with a row is faulty only by the rows before the first that is wrong by itself"""
+    name, found, own = "decomposition table", [], None
+
+    def read_row(data, before):
+        place = data.at
+        found.append((place, *read_decomposition(data, before)))
+        return found[-1][1:]
+
+    try:
+        read_block(name, table, read_row, MOST_DECOMPOSITIONS, BAD_DECOMPOSITIONS)
+    except Faulty as error:
+        own = error
+    has_row = {char for _, char, _ in found}
+    for row, (place, _, held) in enumerate(found, 1):
+        why = wrong_nesting(held, has_row)
+        if why:
+            raise Faulty(name, BAD_DECOMPOSITIONS, place, row, why)
+    if own:
+        raise own
+    return {char: held for _, char, held in found}
 
 
 def read_listing(output):

@@ -13,6 +13,7 @@ import tables
 PROGRAM = ROOT / "target" / "bin" / "romanize"
 RUN = ROOT / "tests" / "x86_64", "run"
 PACKAGES = "unicode-data", "python3-unidecode"
+TABLES = "rules", "classes", "vowels", "decompositions"
 # words, and what the tables of tools/make_tables make of them
 READ = {
     "เชียงใหม่": "chiangmai", "ภูเก็ต": "phuket", "ขอนแก่น": "khonkaen", "หมู่บ้าน": "muban", "เกาะ": "ko", "โครงการ": "khrongkan",
@@ -20,7 +21,8 @@ READ = {
     "សៀមរាប": "siemreap", "កម្ពុជា": "kampuchea", "កំពង់ចាម": "kampongcham", "ព្រះ": "preah", "ក្រុងតាខ្មៅ": "krongtakhmau", "១២": "12",
     "चंडीगढ़": "chandigarh", "मुंबई": "mumbai", "कृष्ण": "krishna", "ज्ञान": "gyan", "राष्ट्रपति": "rashtrapati", "मार्ग": "marg", "१२": "12",
     "ばっちり": "batchiri", "ラッシャー": "rasshaa", "ティーカップ": "tiikappu", "しゃちょう": "shachou", "きょうと": "kyouto",
-    "横浜市": "yokohamashi", "大阪府": "osakafu", "Жукова": "Zhukova", "Łódź": "Lodz", "Việt": "Viet", "Αθήνα": "Athena", "12b": "12b"}
+    "横浜市": "yokohamashi", "大阪府": "osakafu", "Жукова": "Zhukova", "Łódź": "Lodz", "Việt": "Viet", "Αθήνα": "Athena", "12b": "12b",
+    "第①倉庫": "dai1souko", "ＡＢＣビル": "ABCbiru", "①2": "1 2", "2½": "2 1/2", "２０１": "201", "５０㎏": "50kg", "㎕": "ml", "㈱": "㈱"}
 
 
 def installed(package):
@@ -44,20 +46,23 @@ class Runs(unittest.TestCase):
         commands = commands.replace("target/bin/romanize", "tests/x86_64 run target/bin/romanize")
         done = subprocess.run(["bash", "-ec", commands], cwd=ROOT, capture_output=True, text=True, check=True)
         # make_tables says how many rows there are, which depends on Debian's release
-        self.assertRegex(done.stdout, r"^\d+ rules, \d+ classes, 2 vowels: target/tables\n")
+        self.assertRegex(done.stdout, r"^\d+ rules, \d+ classes, 2 vowels, \d+ decompositions: target/tables\n")
         self.assertEqual(done.stdout.split("\n", 1)[1], shown)
 
     @HAVE_PACKAGES
     def test_the_tables_that_are_made(self):
         with tempfile.TemporaryDirectory() as folder:
             subprocess.run([ROOT / "tools" / "make_tables", folder], capture_output=True, check=True)
-            names = [pathlib.Path(folder, name + ".bin") for name in ("rules", "classes", "vowels")]
+            names = [pathlib.Path(folder, name + ".bin") for name in TABLES]
             rules, kinds = tables.read_rules(names[0].read_bytes()), tables.read_classes(names[1].read_bytes())
             # a word reads the same in its line as alone where no rule has a space
             self.assertFalse([rule for rule in rules if " " in rule.source + (rule.target or "") + (rule.end or "")])
             for char, flag in (("เ", tables.PRE), ("\u0e48", tables.TONE), ("ि", tables.SIGN), ("\u094d", tables.VIRAMA),
                                ("\u17d2", tables.VIRAMA), ("ж", tables.LOWER), ("ª", tables.LOWER), ("Ж", 0)):
                 self.assertEqual(kinds[char].flags, flag, char)
+            # numbers of any kind and script, 0 to 9 too
+            for char in "0９①½ⅷ๒\U0001f100":
+                self.assertEqual(kinds[char].category, tables.NUMBER, char)
             text = "\n".join(READ).encode()
             done = subprocess.run([*RUN, PROGRAM, *names, "-", "0"], input=text, capture_output=True, check=True)
             self.assertEqual(dict(zip(READ, done.stdout.decode().split("\n"))), READ)
@@ -67,12 +72,15 @@ class Runs(unittest.TestCase):
         made = [eval(code, vars(tables)) for code in re.findall(r"```python\n(.*?)\n```", page, re.S)]
         self.assertIn("Its string is `kat`, and with the code san `kata`.", page)
         with tempfile.TemporaryDirectory() as folder:
-            names = [pathlib.Path(folder, name) for name in ("rules", "classes", "vowels")]
+            names = [pathlib.Path(folder, name) for name in TABLES]
             for name, table in zip(names, made):
                 name.write_bytes(table)
             for code, mode, shown in (("-", "0", "kat\n"), ("san", "0", "kata\n"), ("-", "1", "0 1 core     1 ka\n1 2 rom      0 t\n")):
                 done = subprocess.run([*RUN, PROGRAM, *names, code, mode], input="कत".encode(), capture_output=True, check=True)
                 self.assertEqual(done.stdout.decode(), shown)
+            self.assertIn("The text कत ①² is read `kat 1²`", page)
+            done = subprocess.run([*RUN, PROGRAM, *names, "-", "0"], input="कत ①²".encode(), capture_output=True, check=True)
+            self.assertEqual(done.stdout.decode(), "kat 1²\n")
             # the page's faults: the rows of क and त exchanged; in the row of ж another code, target's length and length
             rules = made[0]
             exchanged = tables.block([rules[5:27], rules[40:], rules[27:40]])

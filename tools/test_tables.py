@@ -10,7 +10,8 @@ import smallest
 import tables
 from tables import *
 
-SAMPLE = {"rules": (read_rules, lambda rows: rules(*rows)), "classes": (read_classes, classes), "vowels": (read_vowels, lambda rows: vowels(*rows))}
+SAMPLE = {"rules": (read_rules, lambda rows: rules(*rows)), "classes": (read_classes, classes), "vowels": (read_vowels, lambda rows: vowels(*rows)),
+          "decompositions": (read_decompositions, decompositions)}
 FULL = Rule("cd", "t", WHOLE | START, 258, ("abc", "xyz"), "e", ("v", ""))
 
 
@@ -23,8 +24,8 @@ class RoundTrips(unittest.TestCase):
 
     def test_empty_tables(self):
         empty = bytes.fromhex("0100000000")
-        self.assertEqual([rules(), classes({}), vowels(), listing()], [empty] * 4)
-        for read in (read_rules, read_classes, read_vowels, read_listing):
+        self.assertEqual([rules(), classes({}), vowels(), decompositions({}), listing()], [empty] * 5)
+        for read in (read_rules, read_classes, read_vowels, read_decompositions, read_listing):
             self.assertEqual(len(read(empty)), 0)
 
     def test_rows_come_back_as_they_were(self):
@@ -34,7 +35,11 @@ class RoundTrips(unittest.TestCase):
         self.assertEqual(read_classes(classes(kinds)), kinds)
         every = [Vowel(n, n % 2, "aeio"[:1 + n % 4]) for n in range(1, 128)]
         self.assertEqual(read_vowels(vowels(*every)), every)
-        edges = [Edge(0, 512, CORE, 2, "kha"), Edge(3, 4, ORIG, 0, "€"), Edge(0, 1, FALLBACK_MN, 0, ""), Edge(0, 1, EXPANDED, 0, "k" * 198)]
+        held = {"\0": Held("\x01", UNTAGGED), "A": Held(" ", COMPAT), "\u0f00": Held("\u0eff\u1000", SUPER), "①": Held("1", FORM),
+                "\ue000": Held("\ud7ff" * 18, NO_BREAK), "\U0010ffff": Held("\U0010fffe\uffff", SUB)}
+        self.assertEqual(read_decompositions(decompositions(held)), held)
+        self.assertEqual(read_decompositions(decompositions({"½": "1\u20442", "²": ("2", SUPER)})), {"½": ("1\u20442", FORM), "²": ("2", SUPER)})
+        edges = [Edge(0, 512, CORE, 2, "kha"), Edge(3, 4, ORIG, 0, "€"), Edge(0, 1, FALLBACK_MN, 0, ""), Edge(0, 1, EXPANDED, 0, "k" * 198), Edge(1, 2, DECOMP, 0, " 1/2")]
         self.assertEqual(read_listing(listing(*edges)), edges)
 
     def test_writers_put_rows_in_order(self):
@@ -42,10 +47,12 @@ class RoundTrips(unittest.TestCase):
         self.assertEqual("".join(rule.target for rule in read_rules(table)), "341265")
         self.assertEqual(list(read_classes(classes({"b": (LETTER,), "a": (LETTER,)}))), ["a", "b"])
         self.assertEqual([row.script for row in read_vowels(vowels((9, A, "a"), (5, AO, "o")))], [5, 9])
+        self.assertEqual(list(read_decompositions(decompositions({"②": "2", "①": "1"}))), ["①", "②"])
 
     def test_the_largest_tables(self):
         most = "c" * 16, "x" * 64, 31, 65535, ["abc"] * 8, "y" * 64, ["z" * 64] * 8
         sizes = len(rules(*[most] * MOST_RULES)), 5 + 6 * MOST_CLASSES, len(vowels(*((n, A, "aaaa") for n in range(1, 128))))
+        sizes += len(decompositions({chr(0x3400 + k): "1" * 18 for k in range(MOST_DECOMPOSITIONS)})),
         page = (ROOT / "docs" / "FORMAT.md").read_text(encoding="utf-8")
         for size in sizes:
             self.assertIn(format(size, ","), page)
@@ -84,9 +91,18 @@ class WrittenFaults(unittest.TestCase):
                            ("5 letters", (6, A, "aaaaa")), ("'A'", (6, A, "A")), ("already", (5, AO, "o"))]:
             self.refused(words, vowels, (5, A, "a"), row)
 
+    def test_decompositions(self):
+        for words, char, held in [
+                ("one character", "ab", "1"), ("scalar", "\ud800", "1"), ("U+0020", " ", "1"), ("U+0020", " ", ("1", UNTAGGED)), ("tag 6", "②", ("2", 6)),
+                ("tag -1", "②", ("2", -1)), ("0 characters", "②", ""), ("19 characters", "②", "2" * 19), ("0xdfff", "②", "2\udfff"),
+                ("U+0F00", "②", "\u0f00"), ("U+28FF", "②", "2\u28ff"), ("U+AC00", "②", ("\uac00", SUPER)), ("U+2460, which has a row", "②", "2①"),
+                ("U+2461, which has a row", "②", ("②", COMPAT))]:
+            self.refused((words, repr(char)), decompositions, {"①": "1", char: held})
+        self.refused("8193 rows", decompositions, {chr(0x4E00 + k): "1" for k in range(8193)})
+
     def test_listings(self):
         for words, edge in [("from 1 to 1", (1, 1, ROM, 0, "a")), ("from 0 to 513", (0, 513, ROM, 0, "a")), ("annotation 0", (0, 1, 0, 0, "a")),
-                            ("annotation 15", (0, 1, 15, 0, "a")), ("core length 1", (0, 1, ROM, 1, "a")), ("core length 2", (0, 1, CORE, 2, "a")),
+                            ("annotation 16", (0, 1, 16, 0, "a")), ("core length 1", (0, 1, DECOMP, 1, "a")), ("core length 1", (0, 1, ROM, 1, "a")), ("core length 2", (0, 1, CORE, 2, "a")),
                             ("199 bytes", (0, 1, ROM, 0, "a" * 199)), ("surrogate", (0, 1, ROM, 0, "\ud800"))]:
             self.refused(words, listing, (0, 1, ROM, 0, "k"), edge)
 
@@ -104,7 +120,7 @@ class ReadFaults(unittest.TestCase):
             self.assertIn(words, str(found))
 
     def test_headers(self):
-        for read, number in ((read_rules, 20), (read_classes, 3), (read_vowels, 4), (read_listing, None)):
+        for read, number in ((read_rules, 20), (read_classes, 3), (read_vowels, 4), (read_decompositions, 13), (read_listing, None)):
             for table in (b"", b"\1\0\0\0", b"\0\0\0\0\0", b"\2\0\0\0\0", b"\1\0\0\0\1", b"\1\0\0\0\0\0", b"\1\1\0\0\1\0"):
                 self.assertEqual(fault(read, table), (number, 0))
 
@@ -163,16 +179,45 @@ class ReadFaults(unittest.TestCase):
         for script in (4, 5):
             self.assertEqual(fault(read_vowels, block([good, vowel_row(script, A, "a")])), (4, 9))
 
+    def test_decomposition_rows(self):
+        good = decomposition_row("①", "1")
+        for bad, words in [(decomposition_row(" ", "1"), "U+0020"), (decomposition_row("②", "2", 6), "tag 6"), (decomposition_row("②", ""), "0 characters"),
+                           (decomposition_row("②", "2" * 19), "19 characters"), (decomposition_row("②", [0xD800]), "0xd800"),
+                           (decomposition_row(0x110000, "2"), "0x110000"), (decomposition_row("②", ["2", 0x0FFF]), "U+0FFF"),
+                           (decomposition_row("②", "2", count=9), "cut short")]:
+            if words != "cut short":
+                self.faulty(read_decompositions, good, bad, 13, words=words)
+            self.assertEqual(fault(read_decompositions, block([good, bad])), (13, 13))
+        for n in range(1, 8):
+            self.assertEqual(fault(read_decompositions, block([good, decomposition_row("②", "2")[:n]])), (13, 13))
+        for char in "⑨①":
+            self.assertEqual(fault(read_decompositions, block([decomposition_row("⑨", "9"), decomposition_row(char, "1")])), (13, 13))
+        rows = [decomposition_row(chr(0x4E00 + k), "1") for k in range(MOST_DECOMPOSITIONS + 1)]
+        self.assertIsNone(fault(read_decompositions, block(rows[:-1])))
+        self.assertEqual(fault(read_decompositions, block(rows)), (13, 5 + 8 * MOST_DECOMPOSITIONS))
+
+    def test_a_decomposition_that_holds_a_character_with_a_row(self):
+        """rows a to b, b to something; the rows after the first that is wrong by itself are not there"""
+        first = decomposition_row("①", "②")
+        for rows, place in [
+                ([decomposition_row("①", "①")], 5), ([first, decomposition_row("②", "2", UNTAGGED)], 5), ([decomposition_row("①", "1"), decomposition_row("②", "①")], 13),
+                ([first, decomposition_row("②", "2"), decomposition_row("③", "3", 6)], 5), ([first, decomposition_row("②", "2", 6)], 13),
+                ([first, decomposition_row("②", [0x0F00])], 13), ([first, decomposition_row("①", "1"), decomposition_row("②", "2")], 13),
+                ([decomposition_row("①", "12③"), decomposition_row("②", "2"), decomposition_row("③", "3")], 5)]:
+            self.assertEqual(fault(read_decompositions, block(rows)), (13, place), rows)
+        self.assertIsNone(fault(read_decompositions, block([first])))
+        self.assertEqual(fault(read_decompositions, block([decomposition_row("A", "a"), first, decomposition_row("②", "2")])), (13, 13))
+
     def test_listing_rows(self):
         good = edge_row(0, 1, ROM, 0, "k")
-        for bad, words in [(edge_row(2, 1, ROM, 0, "k"), "from 2 to 1"), (edge_row(0, 1, 15, 0, "k"), "annotation 15"),
+        for bad, words in [(edge_row(2, 1, ROM, 0, "k"), "from 2 to 1"), (edge_row(0, 1, 16, 0, "k"), "annotation 16"),
                            (edge_row(0, 1, ROM, 1, "k"), "core length"), (b"\0\7\0\0\0\1\1\0\xff", "utf-8"), (b"\0\5\0\0\0\1\1", "cut short")]:
             self.faulty(read_listing, good, bad, None, words=words)
 
 
 class Examples(unittest.TestCase):
     """docs/FORMAT.md: each expression in Python makes the bytes of the hex below it, and these are read back to the same"""
-    READERS = {"rules": read_rules, "classes": read_classes, "vowels": read_vowels, "listing": read_listing}
+    READERS = {"rules": read_rules, "classes": read_classes, "vowels": read_vowels, "decompositions": read_decompositions, "listing": read_listing}
 
     @classmethod
     def setUpClass(cls):
@@ -195,7 +240,7 @@ class Examples(unittest.TestCase):
             self.assertEqual(b"".join(data for data, _ in self.lines(text)), made, code)
             name = code.split("(")[0]
             back = self.READERS[name](made)
-            self.assertEqual(getattr(tables, name)(*([back] if name == "classes" else back)), made)
+            self.assertEqual(getattr(tables, name)(*([back] if isinstance(back, dict) else back)), made)
 
     def test_offsets_lengths_and_characters(self):
         for _, text in self.found:
@@ -215,9 +260,11 @@ class Examples(unittest.TestCase):
         table = eval(self.found[0][0], vars(tables))
         self.assertEqual(fault(read_rules, block([table[5:27], table[40:], table[27:40]])), (24, 40))
         self.assertEqual(fault(read_classes, block([class_row(" ", OTHER)])), (3, 5))
+        held = eval(self.found[3][0], vars(tables))
+        self.assertEqual(fault(read_decompositions, block([held[5:-3], three("½")])), (13, 27))
 
     def test_the_listing_is_the_sample_programs(self):
-        self.assertEqual(eval(self.found[3][0], vars(tables)).hex(), (ROOT / "crates" / "sample" / "stdout").read_text().strip())
+        self.assertEqual(eval(self.found[4][0], vars(tables)).hex(), (ROOT / "crates" / "sample" / "stdout").read_text().strip())
 
 
 if __name__ == "__main__":

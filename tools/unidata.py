@@ -4,6 +4,7 @@ import bz2
 import functools
 import importlib
 import pathlib
+import re
 import subprocess
 import sys
 
@@ -13,6 +14,9 @@ CATEGORIES = {"L": LETTER, "Mn": NONSPACING, "Mc": MARK, "Me": MARK, "N": NUMBER
 # the five scripts that the format names, and numbers of our own
 SCRIPTS = {"Thai": THAI, "Coptic": COPTIC, "Hiragana": HIRAGANA, "Katakana": KATAKANA, "Devanagari": DEVANAGARI, "Khmer": 6,
            "Cyrillic": 7, "Han": 8, "Gurmukhi": 9}
+# tags of decompositions that give no edge; every other is a form: circle, wide, square and so on
+TAGS = {"super": SUPER, "sub": SUB, "noBreak": NO_BREAK, "compat": COMPAT}
+BASIC = 0xFFFF      # the last character of Unicode's first plane
 
 
 def run(*command):
@@ -70,14 +74,44 @@ def lower_case():
     return {number for number, name in told("DerivedCoreProperties.txt") if name == "Lowercase"}
 
 
-def characters():
-    """each character below U+10000 that has a line in UnicodeData.txt, with name, general category and script's name"""
-    script_of = scripts()
+def lines():
+    """the fields of each line of UnicodeData.txt whose number is a character's, with that one in place of the number"""
     for line in unicode_data("UnicodeData.txt").open(encoding="utf-8"):
-        number, name, category = line.split(";")[:3]
-        c = int(number, 16)
-        if scalar(c) and c <= 0xFFFF:
-            yield chr(c), name, category, script_of.get(c)
+        number, *fields = line.split(";")
+        if scalar(int(number, 16)):
+            yield chr(int(number, 16)), *fields
+
+
+def characters(last=BASIC):
+    """each character that has a line in UnicodeData.txt, up to the last, with name, general category and script's name"""
+    script_of = scripts()
+    for c, name, category, *_ in lines():
+        if ord(c) <= last:
+            yield c, name, category, script_of.get(ord(c))
+
+
+def decomposed():
+    """from each character with a decomposition to that one, Held"""
+    found = {}
+    for c, _, _, _, _, field, *_ in lines():
+        if field:
+            *tag, numbers = re.fullmatch(r"(?:<(\w+)> )?([0-9A-F ]+)", field).groups()
+            found[c] = Held("".join(chr(int(number, 16)) for number in numbers.split()), TAGS.get(tag[0], FORM) if tag[0] else UNTAGGED)
+    return found
+
+
+def spelled(c, rows):
+    """a character as those of its row, each of them likewise"""
+    return "".join(spelled(x, rows) for x in rows[c]) if c in rows else c
+
+
+def forms():
+    """rows of a decomposition table, and the characters that get none: those whose row would hold too many characters, or one that
+    no text may have"""
+    rows = {c: held.characters for c, held in decomposed().items() if held.tag == FORM}
+    made = {c: spelled(c, rows) for c in rows}
+    unfit = [c for c, text in made.items() if len(text) > MOST_HELD or any(left_out(ord(x)) for x in text)]
+    return {c: text for c, text in made.items() if c not in unfit}, unfit
 
 
 def unihan(file, field):

@@ -1,5 +1,5 @@
 //! The same texts through the published Rust and the proved library, in one run. FOLDER holds rules.bin, classes.bin,
-//! vowels.bin and labels.txt.
+//! vowels.bin, decompositions.bin and labels.txt.
 //!
 //!   bench FOLDER                                 times: labels, and texts of 64 to 512 characters, which are labels joined
 //!                                                by spaces, in all four modes
@@ -115,9 +115,10 @@ fn main() {
     let text = |name: &str| String::from_utf8(read(name)).expect("UTF-8");
     let number = |at: usize| words[at].parse::<usize>().expect("a number");
     let (rules, classes, vowels) = (read("rules.bin"), read("classes.bin"), read("vowels.bin"));
-    let tables = Tables { rules: &rules, classes: &classes, vowels: &vowels };
+    let decompositions = read("decompositions.bin");
+    let tables = Tables { rules: &rules, classes: &classes, vowels: &vowels, decompositions: &decompositions };
     let mut library = Lent { tables, slots: vec![0; SLOTS], room: vec![0; ROOM], out: vec![0; OUT] };
-    let published = || oracle::Tables::read(&rules, &classes, &vowels).expect("the tables are right");
+    let published = || oracle::Tables::read([&rules, &classes, &vowels, &decompositions]).expect("the tables are right");
     match words.get(1).map(String::as_str) {
         None => {
             compare(&published(), &mut library, &text("labels.txt"));
@@ -137,8 +138,9 @@ fn main() {
         }
         _ => {
             let (text, mode) = (text("text.txt"), number(2) as u8);
-            library.slots = vec![0; 12 * 17 * 512];
-            library.room = vec![0; 198 * 17 * 512];
+            // as many edges as the text can have, and behind them those of a decomposition of 18 characters
+            library.slots = vec![0; 12 * 17 * (512 + 18)];
+            library.room = vec![0; 198 * 17 * (512 + 18)];
             library.out = vec![0; 1 << 26];
             // the first call touches memory that was never used
             let answered = library.romanize(mode, &text).to_vec();

@@ -1,7 +1,7 @@
 """Call files: calls and their answers, one after another, all numbers big-endian.
 
-A call is its mode (1 byte), capitals (1), the bytes of slots, room and output (4 each), then rules, classes, vowels, code and text (each a
-4-byte length and its bytes). Its answer follows: number (1), place, length and edges (4 each), and `length` output bytes; past
+A call is its mode (1 byte), capitals (1), the bytes of slots, room and output (4 each), then rules, classes, vowels, decompositions, code
+and text (each a 4-byte length and its bytes). Its answer follows: number (1), place, length and edges (4 each), and `length` output bytes; past
 these the output must be zero to its end. A file whose name ends in .xz is compressed."""
 import lzma
 import pathlib
@@ -19,6 +19,7 @@ class Given(NamedTuple):
     rules: bytes
     classes: bytes
     vowels: bytes
+    decompositions: bytes
     code: bytes
     text: bytes
 
@@ -67,7 +68,7 @@ def encode(call):
 def decode(b):
     mode, capitals = b.number(1), b.number(1)
     lent = Lent(b.number(4), b.number(4), b.number(4))
-    given = Given(mode, capitals, *(b.take(b.number(4)) for _ in range(5)))
+    given = Given(mode, capitals, *(b.take(b.number(4)) for _ in range(6)))
     number, place, length, edges = b.number(1), b.number(4), b.number(4), b.number(4)
     return Call(given, lent, Answer(number, place, length, edges, b.take(length)))
 

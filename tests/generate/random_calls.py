@@ -7,6 +7,7 @@ import random
 import string
 import sys
 
+from forms import MOST_FORM, SLASH, FORM, forms
 from lower import lowered
 from oracle import Call, Given, Lent, ask, call, callfile, refused
 from tables import *
@@ -62,6 +63,15 @@ TARGETS = """k t n ng ch y w m b d z c h ka ki ku ta na cha chi ya yu kya tya by
 CAPITALS = "K ZH Zh A Ka Ya KI KKI KA KYO SHCH A1B 1ZH Z-H 1 N7 +N +NG +A zH".split()
 CODES = ["san", "asm", "ben", "guj", "kas", "pan", "hin", "abc"]
 
+# characters that have decompositions, their usual classes, and what stands together with them
+FORMS = {"①": (NUMBER,), "②": (NUMBER,), "½": (NUMBER,), "Ａ": (LETTER,), "ⓩ": (OTHER,), "㌔": (LETTER, KATAKANA), "\u2075": (NUMBER,)}
+FORM_PHRASES = ["①②", "1①", "①1", "1½", "½①1", "Ａⓩ", "①x", "½ ", " ①"]
+# with its rule three of these are 192 bytes; the other has none
+LONG, FILLER = "\u3007", "="
+# what a row may hold besides the characters of its world
+HELD = "1122xkZq" + SLASH * 3 + "  é€\u0301"
+USUAL_FORMS = {"①": "1", "②": "2", "½": "1" + SLASH + "2", "Ａ": "A", "ⓩ": "z", "㌔": "キロ", "\u2075": "5"}
+
 
 # far more than any of these calls needs; a long output would only make the definition slow
 MANY_SLOTS, MUCH_ROOM = 17 * 512 * 12, 512 * 198
@@ -77,6 +87,11 @@ class World:
             part = list(ALPHABETS[name].items())
             self.kinds.update(rng.sample(part, rng.randint(min(3, len(part)), len(part))))
         self.phrases = [phrase for name in names for phrase in rng.sample(PHRASES[name], 2)]
+        self.formed = self.chance(0.6)
+        if self.formed:
+            self.kinds.update(rng.sample(list(FORMS.items()), rng.randint(1, 4)))
+            self.kinds.update({"1": (NUMBER,)} if self.chance(0.5) else {})       # numbers beside numbers
+            self.phrases += rng.sample(FORM_PHRASES, 2)
         self.vowels = self.vowel_rows(names)
         self.code = rng.choice(["", "", "", *CODES])
         self.text = self.some_text()
@@ -85,7 +100,8 @@ class World:
         self.bend()
         self.cased = self.chance(0.4)
         self.lower = [c for c in self.kinds if c != " " and self.chance(0.7 if self.cased else 0.03)]
-        self.rules = self.some_rules()
+        self.forms = self.some_forms() if self.formed else {}
+        self.rules = self.some_rules() + self.long_rules()
 
     def chance(self, p):
         return self.rng.random() < p
@@ -148,10 +164,38 @@ class World:
             chosen = chosen[:at] + self.rng.choice(string.ascii_lowercase) + chosen[at + 1:]
         return chosen
 
+    def some_forms(self):
+        """rows for most of the characters that usually have one, and for some others; none holds a character with a row"""
+        has = [c for c in dict.fromkeys([*FORMS, *self.text]) if c != " " and self.chance(0.8 if c in FORMS else 0.06)]
+        free = [c for c in [*self.kinds, *self.text, *HELD] if c not in has]
+        return {c: (self.held(c, free), self.rng.choice((FORM, FORM, FORM, FORM, FORM, FORM, self.rng.randrange(5)))) for c in has}
+
+    def held(self, char, free):
+        """what a row holds: the usual, a phrase, a few characters, many, or about as many bytes as a text may have"""
+        rng = self.rng
+        usual = USUAL_FORMS.get(char, "")
+        if usual and self.chance(0.4) and set(usual) <= set(free):
+            return usual
+        if self.chance(0.1):
+            return LONG * 3 + rng.choice((FILLER, FILLER, rng.choice(free))) * rng.randint(4, 8)
+        if self.chance(0.2):
+            phrase = [c for c in rng.choice(self.phrases) if c in free]
+            if phrase:
+                return "".join(phrase)
+        return "".join(rng.choice(free) for _ in range(rng.choice((1, 1, 1, 2, 2, 3, 3, 4, 6, MOST_FORM))))
+
+    def long_rules(self):
+        return [Rule(LONG, "ka" * 32)] if any(LONG in held for held, _ in self.forms.values()) else []
+
     def sources(self):
-        """characters of the text, stretches of it, patterns around a character, and strangers"""
+        """characters of the text, stretches of it, patterns around a character, and strangers; and the same of what rows hold"""
         rng, text = self.rng, self.text
-        sources = [c for c in dict.fromkeys(text) if self.chance(0.85)]
+        sources = [c for c in dict.fromkeys(text) if self.chance(0.25 if c in self.forms else 0.85)]
+        for held in (held for held, _ in self.forms.values() if LONG not in held):
+            sources += [c for c in dict.fromkeys(held) if c not in text and self.chance(0.5)]
+            if len(held) > 1 and self.chance(0.3):
+                at = rng.randrange(len(held) - 1)
+                sources.append(held[at:at + rng.choice((2, 2, 3))])
         for _ in range(rng.choice((0, 0, 1, 2, 4))):
             if len(text) > 1:
                 at = rng.randrange(len(text) - 1)
@@ -187,7 +231,7 @@ class World:
     def given(self):
         capitals = self.rng.randint(2, 255) if self.chance(0.01) else self.rng.choice((0, 1))
         return Given(self.rng.choice((0, 1, 2, 2, 3, 3)), capitals, rules(*self.rules), lowered(classes(self.kinds), self.lower),
-                     vowels(*self.vowels), self.code.encode(), self.text.encode())
+                     vowels(*self.vowels), forms(self.forms), self.code.encode(), self.text.encode())
 
 
 def lent(rng, built):

@@ -6,6 +6,7 @@ usage: reading.py ORACLE FILE.calls.xz"""
 import sys
 
 import sample
+from forms import *
 from lower import lowered
 from oracle import Given, Lent, ask, call, callfile, string_of
 from tables import *
@@ -13,6 +14,7 @@ from tables import *
 L = (LETTER, 0)          # a letter of no script
 DEVA = (LETTER, DEVANAGARI)
 SIX = (LETTER, 6)        # a letter of a script that the Rust does not name
+N = (NUMBER,)
 T = (LETTER, THAI)
 COPT = (LETTER, COPTIC)
 HIRA = (LETTER, HIRAGANA)
@@ -23,12 +25,12 @@ A6, A5 = (6, A, "a"), (5, A, "a")
 
 class Corner:
     """a case in all four modes; `want` is the path's string, `begins` how it begins, `edges` the lattice's count, where stated;
-    `lower` are the characters of lower case"""
-    def __init__(self, text, rows, kinds, vowel_rows=(), code="", want=None, edges=None, begins="", capitals=0, lower=""):
+    `lower` are the characters of lower case, `made` the decompositions"""
+    def __init__(self, text, rows, kinds, vowel_rows=(), code="", want=None, edges=None, begins="", capitals=0, lower="", made={}):
         self.text, self.code, self.want, self.edges, self.begins, self.capitals = text, code, want, edges, begins, capitals
         self.tables = rows if isinstance(rows, bytes) else rules(*rows), \
             lowered(kinds if isinstance(kinds, bytes) else classes(kinds), lower), \
-            vowel_rows if isinstance(vowel_rows, bytes) else vowels(*vowel_rows)
+            vowel_rows if isinstance(vowel_rows, bytes) else vowels(*vowel_rows), forms(made)
 
     def given(self, mode):
         return Given(mode, self.capitals, *self.tables, self.code.encode(), self.text.encode())
@@ -349,6 +351,165 @@ def capitals():
     yield chosen("ขกา", [("ข", "AK"), Rule("ก", "k", end="t"), ("า", "a")], thai, lower="า")
 
 
+def made(text, rows, want=None, table=(), kinds=(), **more):
+    """a case with decompositions"""
+    return Corner(text, table, dict(kinds), want=want, made=rows, **more)
+
+
+ONE, RING = {"①": "1"}, {"①": "1", "②": "2", "½": "1\u20442"}
+
+
+def decompositions():
+    """which characters have an edge of their row, with spaces and slashes"""
+    yield made("①", ONE, "1", edges=1)
+    yield made("①", {}, "①", edges=1)
+    yield made("②", ONE, "②", edges=1)
+    yield made("ＡＢＣ", {"Ａ": "A", "Ｂ": "B", "Ｃ": "C"}, "ABC", edges=3)
+    yield made("①" * 40, ONE, "1" * 40, edges=40)
+    yield made("a", {"\u0f00": "1", "\u28ff": "2", "\uac00": "3"}, "a", edges=1)     # what the text may not have may have a row
+    # tags 0 to 4 give no edge, and no spaces
+    for tag in (UNTAGGED, SUPER, SUB, NO_BREAK, COMPAT):
+        yield made("①", {"①": ("1", tag)}, "①", edges=1)
+        yield made("2①2", {"①": ("1", tag)}, "2①2", kinds={"①": N, "2": N})
+        yield made("\u00a0", {"\u00a0": (" ", tag)}, " ", kinds={"\u00a0": (ZS,)})
+        yield made("①", {"①": ("1", tag)}, "one", [("①", "one")], edges=1)
+    yield made("\u00a0", {"\u00a0": "_"}, "_", kinds={"\u00a0": (ZS,)}, edges=1)
+    # beside numbers: it must be one itself, and the neighbour too
+    for kinds, want in (({}, "12"), ({"①": N}, "12"), ({"2": N}, "12"), ({"①": N, "2": N}, "1 2"), ({"①": L, "2": N}, "12"), ({"①": N, "2": L}, "12")):
+        yield made("①2", ONE, want, kinds=kinds)
+        yield made("2①", ONE, want[::-1], kinds=kinds)
+        yield made("2①2", ONE, want[::-1] + want[1:], kinds=kinds)
+        yield made("2 ①", ONE, "2 1", kinds={**kinds, " ": (ZS,)})
+    for category in range(8):
+        yield made("é①é", ONE, kinds={"①": N, "é": (category,)})
+        yield made("2①2", ONE, kinds={"①": (category,), "2": N})
+        yield made("①", ONE, "1", kinds={"①": (category,)}, edges=1)
+    yield made("①①①", ONE, "1  1  1", kinds={"①": N}, edges=3)
+    yield made("①②½①", RING, "1  2  1/2  1", kinds={c: N for c in RING})
+    # the class of what stands in the row is nothing to it, nor are a neighbour's text and its row's characters
+    yield made("a①a", ONE, "a1a", kinds={"①": N, "1": N})
+    yield made("x①", ONE, "21", [("x", "2")], {"①": N, "2": N})
+    yield made("②①", {**ONE, "②": "2"}, "21", kinds={"①": N, "2": N})
+    # a string that is empty, or ends in blanks, takes its spaces
+    yield made("2①2", {"①": "\u0301"}, "2  2", kinds={"①": N, "2": N, "\u0301": (NONSPACING,)}, edges=3)
+    yield made("①", {"①": "\u0301"}, "", kinds={"①": N, "\u0301": (NONSPACING,)}, edges=1)
+    yield made("2①2", {"①": "1"}, "2  2", [("1", "")], {"①": N, "2": N})
+    yield made("2①2", {"①": " "}, "2   2", kinds={"①": N, "2": N, " ": (ZS,)})
+    # the slash is put into the string of a number, and not into the row's characters
+    half = {"½": "1\u20442"}
+    yield made("½", half, "1\u20442", edges=1)
+    yield made("½", half, "1/2", kinds={"½": N}, edges=1)
+    yield made("2½", half, "2 1/2", kinds={"½": N, "2": N})
+    yield made("½", half, "1/2", [("1/2", "half"), ("/", "over")], {"½": N})
+    yield made("½", half, "half", [("1\u20442", "half")], {"½": N})
+    yield made("½", half, "1:2", [("\u2044", ":")], {"½": N})
+    yield made("½", {"½": "\u2044\u20442\u2044"}, "//2/", kinds={"½": N})
+    yield made("\u2044½", half, "\u20441/2", kinds={"½": N})
+    yield made("\u2044", {"\u2044": "/"}, "/", kinds={"½": N})
+
+
+def decompositions_and_rules():
+    """rules of the same character, and what of a call reaches into the string"""
+    # a rule of the same character: its edge is before, and is the better one
+    for kinds in ({}, {"①": N}, {"①": (NONSPACING,)}):
+        yield made("①", ONE, "one", [("①", "one")], kinds, edges=2)
+        yield made("①", ONE, "", [("①", "")], kinds, edges=2)
+        yield made("①", ONE, "1", [("①", None)], kinds, edges=1)
+        yield made("①", ONE, "1", [("①", "one", NOT_START)], kinds, edges=1)
+        yield made("①", ONE, "1", [Rule("①", "one", codes=["abc"])], kinds, edges=1)
+        yield made("①", ONE, "one", [Rule("①", "one", codes=["abc"])], kinds, code="abc", edges=2)
+    yield made("①", ONE, "1", [("①", "1")], edges=2)
+    yield made("①", ONE, "ng", [("①", "+ng")], edges=2)
+    yield made("①②", RING, "twelve", [("①②", "twelve")], edges=3)
+    yield made("①②", RING, "a2", [("①", "a"), ("①②x", "b")], edges=3)
+    yield made("①-", ONE, "k", [("①", "k")], {"-": DEAD}, edges=3)
+    yield made("-①", {"①": "a"}, "-ka", [("①", "k", START)], {"-": (OTHER, 0, VIRAMA), "①": SIX}, vowel_rows=[A6])
+    # no language code inside
+    yield made("①1", ONE, "1uno", [Rule("1", "uno", codes=["abc"])], code="abc")
+    yield made("① कत", {"①": "कत"}, "kat kata", sample.RULES, {"क": DEVA, "त": DEVA, " ": (ZS,)}, vowel_rows=[A5], code="san")
+    yield made("① กก", {"①": "กก"}, table=[("ก", "k"), Rule("ก", "g", codes=["abc"])], kinds={"ก": SIX, " ": (ZS,)}, vowel_rows=[A6], code="asm")
+    # the same choice inside, and none outside
+    letters = [("Ж", "ZH"), ("ж", "zh")]
+    for capitals in (0, 1):
+        cased = dict(table=letters, kinds={"Ж": L, "ж": L, "Ⓩ": L}, lower="ж", capitals=capitals)
+        yield made("Ⓩ", {"Ⓩ": "Жж"}, ("ZHzh", "Zhzh")[capitals], **cased)
+        yield made("Ⓩж", {"Ⓩ": "Ж"}, "ZHzh", **cased)
+        yield made("ЖⓏ", {"Ⓩ": "Ж"}, "ZHZH", **cased)
+        yield made("ЖⓏ", {"Ⓩ": "ж"}, ("ZHzh", "Zhzh")[capitals], **{**cased, "lower": "Ⓩ"})
+    # a text of its own: its words begin and end there
+    words = [("x", "s", START, 1), ("x", "e", END, 2), ("x", "m")]
+    for text in ("①", "a①", "①a", "a①a"):
+        for row in ("x", "xx", "xxx", "1x", "x1", "x x"):
+            yield made(text, {"①": row}, table=words, kinds={"①": L, " ": (ZS,)})
+    yield made("a①", {"①": "x"}, "aw", [("x", "w", WHOLE)])
+    yield made("k①", {"①": "อk"}, "kk", [("อ", "o")], {"อ": T, "k": T})
+    yield made("っ①", {"①": "か"}, "っka", [("か", "ka")], {"っ": HIRA, "①": HIRA, "か": HIRA})
+    yield made("き①", {"①": "ゃ"}, "kiya", [("き", "ki"), ("ゃ", "ya")], {"き": HIRA, "ゃ": HIRA, "①": HIRA})
+    yield made("①ー", {"①": "か"}, "kaー", [("か", "ka")], {"か": HIRA, "①": HIRA, "ー": L})
+    yield made("①\u094d", {"①": "か"}, "ka", [("か", "ka")], {"①": HIRA, "\u094d": DEAD})
+    # all steps are taken in it
+    for row, want in (("きゃ", "kya"), ("っち", "tchi"), ("かー", "kaa"), ("เกา", "kao"), ("កយ", "kaya"), ("क\u094dत", "kta"), ("жж", "jzh"),
+                      ("р", "ng"), ("с", "+ar"), ("ก \u0e48อก", "k ok"), ("\u0e48อก", "k"), ("é€𐍈", "é€𐍈"), (" a ", " a ")):
+        yield Corner("①", sample.RULES, sample.CLASSES, sample.VOWELS, want=want, made={"①": row}, edges=1)
+        yield Corner("ж①ж", sample.RULES, sample.CLASSES, sample.VOWELS, made={"①": row})
+    yield made("①", {"①": "x"}, "k ", [("x", " k ")])
+    yield made("①", {"①": "x "}, "k ", [("x", " k ")], {" ": (ZS,)})
+    yield made("① ", {"①": "x"}, "k  ", [("x", " k ")], {" ": (ZS,)})
+
+
+def decompositions_and_words():
+    """what the edge's text is for the characters around it"""
+    # its last character is a letter for the word behind it, or none, as its class row says
+    behind = [("x", "s", START, 1), ("x", "m")]
+    for category in range(8):
+        yield made("①x", {"①": "é"}, table=behind, kinds={"é": (category,)})
+        yield made("①x", {"①": "𐍈é"}, table=[*behind, ("𐍈", "")], kinds={"𐍈": L, "é": (category,)})
+    for row, kinds, want in (("a", {}, "am"), ("1", {}, "1s"), ("a1", {}, "a1s"), ("1a", {}, "1am"), ("1", {"1": L}, "1m"), ("aé", {}, "aés"),
+                             ("é", {"é": L}, "ém"), ("𐍈", {"𐍈": (MARK,)}, "𐍈m"), ("é", {"é": (NONSPACING,)}, "s"), ("1", {"①": L}, "1m"),
+                             ("1", {"①": N}, "1s"), ("a", {"①": N}, "am")):
+        yield made("①x", {"①": row}, want, behind, kinds)
+    yield made("①2", {"①": "a"}, "a t", [("2", "t", START)], {"①": N, "2": N})
+    yield made("①2", {"①": "a"}, "a2", [("2", "t", START)], {"2": N})
+    # asked before the edge is there, and remembered
+    asked = [Rule("①", "1", end="2"), *behind]
+    yield made("p①x", {"①": "a"}, "p2s", asked, {"p": L, "x": L})
+    yield made("p①x", {"①": "a"}, "pam", behind, {"p": L, "x": L})
+    # an end of word looks at the character and its rules, not at its row
+    ends = [("x", "q", END, 1), ("x", "p")]
+    yield made("x①", {"①": "a"}, "qa", ends)
+    yield made("x①", {"①": "a"}, "pa", ends, {"①": L})
+    yield made("x①", {"①": "a"}, "pb", [*ends, ("①", "b")])
+    # what stands to the left: O ang, an end of syllable
+    thai = {c: T for c in "①กอาข"}
+    left = [("อ", "o"), ("ก", "k"), ("า", "a")]
+    yield made("①อก", {"①": "ก"}, "kok", left, thai)
+    yield made("①อก", {"①": "า"}, "ak", left, thai)
+    yield made("①อก", {"①": "า"}, "tok", [*left, ("①", "t")], thai)
+    yield made("①อก", {"①": "\u0301"}, "k", left, {**thai, "\u0301": (NONSPACING,)})
+    yield made("ก①อก", {"①": "\u0301"}, "kok", left, {**thai, "\u0301": (NONSPACING,)})
+    syllable = [Rule("ข", "k", end="t"), ("า", "a"), ("ก", "k")]
+    for row in ("ก", "า", "1", "\u0301"):
+        yield made("x①ขา", {"①": row}, table=syllable, kinds={**thai, "x": L, "\u0301": (NONSPACING,)})
+        yield made("ข①า", {"①": row}, table=syllable, kinds=thai)
+        yield made("xข①", {"①": row}, table=syllable, kinds={**thai, "x": L})
+    # alternatives of a path's edge ask its text, not how it came
+    kana = {c: HIRA for c in "っ①か"}
+    yield made("xっ①", {"①": "か"}, "ska", [("xっ", "s"), Rule("①", "ka", others=["ga", "ka"]), ("か", "ka")], kana)
+    yield made("xっ①", {"①": "か"}, "ska", [("xっ", "s"), Rule("①", "ta", end="ka", others=["ga"]), ("か", "ka")], kana)
+    yield made("①", {"①": "か"}, "ka", [Rule("か", "ka", others=["ga"])], kana)
+    yield made("①", {"①": "か"}, "ko", [Rule("①", "ko", others=["ka", "go"]), ("か", "ka")], kana)
+    # 18 characters; the longest text
+    yield made("①", {"①": "abcdefghijklmnopqr"}, "abcdefghijklmnopqr", edges=1)
+    yield made("①", {"①": "x" * 18}, "k" * 198, [("x", "k" * 11)])
+    yield made("2①2", {"①": "x" * 17 + "y"}, "2 " + "k" * 196 + " 2", [("x", "k" * 11), ("y", "k" * 9)], {"①": N, "2": N})
+    yield made("①", {"①": "𐍈" * 18}, "𐍈" * 18)
+    yield made("①", {"①": "x" * 15 + "\u2044" * 3}, "k" * 195 + "///", [("x", "k" * 13)], {"①": N})
+    yield made("①", {"①": "か" * 18}, table=[("か" * n, "k" * n) for n in range(1, 17)])
+    # several rows, some of them of tags without an edge
+    several = {"Ⅷ": "VIII", "㍿": "か か", "㎞": ("km", COMPAT), "①": "1", "\U0010ffff": "x", "\0": "y"}
+    yield made("Ⅷ㍿㎞①\U0010ffff\0", several, "VIIIka ka㎞1xy", [("か", "ka")], {"か": HIRA, " ": (ZS,)})
+
+
 def fallbacks():
     for category in range(8):
         kinds = {"é": (category,)}
@@ -418,7 +579,9 @@ def letters():
 TURNS = lambda k: (k % 3, 3)
 GROUPS = {
     sample_results: lambda k: range(4), longest_and_most: lambda k: range(4), vowel_step: TURNS, word_boundaries: TURNS, rule_choice: TURNS,
-    syllables: TURNS, expansion: TURNS, thai: TURNS, capitals: TURNS, fallbacks: TURNS, alternatives: lambda k: (k % 2, 2), letters: lambda k: (3,),
+    syllables: TURNS, expansion: TURNS, thai: TURNS, capitals: TURNS, decompositions: TURNS,
+    decompositions_and_rules: TURNS, decompositions_and_words: TURNS, fallbacks: TURNS,
+    alternatives: lambda k: (k % 2, 2), letters: lambda k: (3,),
 }
 
 

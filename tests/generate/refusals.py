@@ -1,21 +1,24 @@
 #!/usr/bin/env python3
-"""Refusals made by hand from document 01's table 'Numbers a call returns' and from docs/FORMAT.md's 12 and 20 to 25: each number with its
-place, and both sides of each border. Number and place are written here; the oracle only confirms that it refuses too (1, 3 to 8,
-12 and 20 to 25), or that its edges in their adding order give the same (9 to 11). The accepted side of a border is answered by it.
+"""Refusals made by hand from document 01's table 'Numbers a call returns' and from docs/FORMAT.md's 12 to 14 and 20 to 25: each number
+with its place, and both sides of each border. Number and place are written here; the oracle only confirms that it refuses too (1, 3 to
+8, 12, 13 and 20 to 25), or that its edges in their adding order give the same (9 to 11 and 14). The accepted side of a border is
+answered by it.
 
-usage: refusals.py ORACLE FILE.calls.xz MOST_RULES.calls.xz"""
+usage: refusals.py ORACLE FILE.calls.xz MOST_RULES.calls.xz MOST_DECOMPOSITIONS.calls.xz"""
 import sys
 
 import smallest
+from forms import *
 from lower import lowered
 from oracle import Call, Given, Lent, answered, ask, call, callfile, refused
 from tables import *
 
-PLAIN = Given(0, 0, rules(("b", "B"), ("d", "D")), classes({"b": (LETTER, 6), "d": (LETTER,)}), vowels((5, A, "a"), (9, AO, "o")), b"", b"bad")
+PLAIN = Given(0, 0, rules(("b", "B"), ("d", "D")), classes({"b": (LETTER, 6), "d": (LETTER,)}), vowels((5, A, "a"), (9, AO, "o")),
+              forms({"①": "1", "½": "1\u20442"}), b"", b"bad")
 PLENTY = Lent(1200, 400, 8)
 NONE = block([])
 # refused for mode, capitals, tables, code or text, so that there is no lattice
-WITHOUT_LATTICE = {1, 12, *FAULTS, *range(3, 9)}
+WITHOUT_LATTICE = {1, 12, 13, *FAULTS, *range(3, 9)}
 
 
 class Border:
@@ -64,7 +67,7 @@ def choices():
 
 
 def headers():
-    for number, table in ((20, "rules"), (3, "classes"), (4, "vowels")):
+    for number, table in ((20, "rules"), (3, "classes"), (4, "vowels"), (13, "decompositions")):
         good = getattr(PLAIN, table)
         body = good[5:]
 
@@ -206,6 +209,107 @@ def vowel_rows():
     yield accepted(vowels=block(vowel_row(s, s % 2, "a") for s in range(1, 128)), mode=1)
 
 
+# characters that rows may be about, rising
+C1, C2, C3 = "①②③"
+# both sides of each border of what number 8 leaves out
+LEFT_OUT = (0x0F00, 0x0F01, 0x0FFE, 0x0FFF, 0x2800, 0x28FF, 0xAC00, 0xD7A3)
+BESIDE_LEFT_OUT = (0x0EFF, 0x1000, 0x27FF, 0x2900, 0xABFF, 0xD7A4)
+NO_SCALARS = (0xD800, 0xDBFF, 0xDFFF, 0x110000, 0xFFFFFF)
+
+
+def in_decompositions(row, before=form_row(C1, "1"), after=form_row("\U0010ffff", "3")):
+    return in_table(13, "decompositions", before, row, after)
+
+
+def decomposition_rows():
+    one, two = form_row(C1, "1"), form_row(C2, "2")
+    for tag in (6, 7, 127, 128, 255):
+        yield from in_decompositions(form_row(C2, "2", tag))
+    for count in (0, 19, 20, 32, 128, 255):
+        yield from in_decompositions(form_row(C2, "2" * count))
+    yield from in_decompositions(form_row(C2, "2" * 18, 6, 19))
+    for value in NO_SCALARS:
+        yield from in_table(13, "decompositions", one, form_row(value, "2"), form_row(0xFFFFFF, "3"))
+        yield from in_decompositions(form_row(C2, [value]))
+        yield from in_decompositions(form_row(C2, ["2", value]))
+        yield from in_decompositions(form_row(C2, [value, *"2" * 17]))
+        yield from in_decompositions(form_row(C2, [*"2" * 17, value]))
+    # what number 8 leaves out stands in no row, but a row may be about it
+    for value in LEFT_OUT:
+        yield from in_decompositions(form_row(C2, [value]))
+        yield from in_decompositions(form_row(C2, ["1", "2", value], UNTAGGED))
+        yield accepted(decompositions=block([form_row(value, "1")]), text="bad".encode(), mode=1)
+        yield Border((8, 1), decompositions=block([form_row(value, "1")]), text="b".encode() + chr(value).encode())
+    for value in BESIDE_LEFT_OUT:
+        yield accepted(decompositions=block([form_row(C2, [value, "2", value])]), text="②".encode(), mode=1)
+    # U+0020 has no row, and may stand in one
+    for tag in range(6):
+        yield from in_decompositions(form_row(" ", "_", tag), form_row("\n", "1"))
+        yield accepted(decompositions=block([form_row(C2, " 2 ", tag)]), text="②".encode(), mode=1)
+    for char in "\x1f!\u00a0":
+        yield accepted(decompositions=block([form_row(char, "_ ")]), text=("b d" + char).encode(), mode=1)
+    # strictly rising
+    for first, second in ((C1, C1), (C2, C1), ("\U00010000", "\uffff"), ("\u0100", "\xff"), ("\U00010000", "\0")):
+        low, high = form_row(first, "x"), form_row(second, "y")
+        yield Border((13, 13), decompositions=block([low, high]))
+        yield Border((13, 13), decompositions=block([low, high, form_row("\U0010ffff", "z")]))
+        yield Border((13, 24), decompositions=block([form_row("\0", "ab"), low, high]))
+    # the block ends within a row, or goes on behind the last
+    for before in (b"", one):
+        yield from cut_rows(13, "decompositions", before, form_row(C2, "abc"))
+        yield from cut_rows(13, "decompositions", before, form_row(C2, "a" * 18))
+    yield Border((13, 21), decompositions=block([one, two, b"\0"]))
+    yield Border((13, 5), decompositions=block([form_row(C1, "1", count=2)]))
+    yield Border((13, 16), decompositions=block([form_row(C1, "11"), form_row(C2, "2", count=2)]))
+    # a count that takes in bytes of the row behind it: its number is no scalar value
+    yield Border((13, 5), decompositions=block([form_row(C1, "1", count=3), form_row(0xFFFFFF, "2")]))
+    # what is still allowed
+    for row in (form_row(C2, "2" * 18), form_row("\0", "\x01"), form_row("\U0010ffff", "\U0010fffe"), form_row("\ud7ff", "\ue000"),
+                form_row("\ue000", "\ud7ff"), form_row("A", "b"), form_row("b", "d"), form_row("\u2044", "/"), form_row(C2, "22", NO_BREAK)):
+        yield accepted(decompositions=block([row]), text="bA②\u2044".encode(), mode=3)
+    yield accepted(decompositions=block([form_row(chr(0x2460 + k), "1", k % 6) for k in range(60)]), text="①⑥".encode(), mode=3)
+    yield Border((13, 0), decompositions=b"")
+    yield accepted(decompositions=bytes.fromhex("0100000000"), text="①".encode())
+
+
+def nested_decompositions():
+    """a row that holds a character with a row: the first such row is the place, unless a row before or behind it that is wrong by itself
+    comes first, or ends what is there"""
+    def at(place, *rows):
+        """rows by themselves, and behind one that is right"""
+        yield Border((13, 5 + place), decompositions=block(rows))
+        front = form_row("!", "?*")
+        yield Border((13, 5 + len(front) + place), decompositions=block([front, *rows]))
+
+    # the three examples
+    yield from at(0, form_row(C1, C2), form_row(C2, "1"), form_row(C3, "3", 6))
+    yield from at(8, form_row(C1, C2), form_row(C2, "1", 6))
+    yield from at(8, form_row(C1, C2), form_row(C2, [0x0F00]))
+    for tag in range(6):
+        for other in range(6):
+            yield Border((13, 5), decompositions=block([form_row(C1, C2, tag), form_row(C2, "1", other)]))
+            yield Border((13, 13), decompositions=block([form_row(C1, "1", tag), form_row(C2, C1, other)]))
+    yield from at(0, form_row(C1, C1))
+    yield from at(0, form_row(C1, C2), form_row(C2, C1))
+    yield from at(0, form_row(C1, C3), form_row(C2, C3), form_row(C3, "3"))
+    yield from at(8, form_row(C1, "1"), form_row(C2, C3), form_row(C3, "3"))
+    yield from at(16, form_row(C1, "1"), form_row(C2, "2"), form_row(C3, C1))
+    yield from at(16, form_row(C1, "1"), form_row(C2, "2"), form_row(C3, C3))
+    for place in range(18):
+        yield Border((13, 5), decompositions=block([form_row(C1, "1" * place + C2 + "1" * (17 - place)), form_row(C2, "2")]))
+    # what ends the rows, whatever it is, before the one that is asked for
+    for bad in (form_row(C2, "2", 6), form_row(C2, ""), form_row(C2, "2" * 19), form_row(C2, [0xD800]), form_row(C2, [0xAC00]), form_row(C1, "2"),
+                form_row(C2, "2", count=4), form_row(0xD800, "2"), form_row(C2, [C3, 0x28FF])):
+        yield from at(8, form_row(C1, C3), bad, form_row(C3, "3"))
+        yield from at(0, form_row(C1, C1), bad, form_row(C3, "3"))
+        yield from at(8, form_row("@", C2), bad) if bad[:3] == three(C2) else ()
+    yield from at(8, form_row(C1, C2), form_row(C2, "1")[:-1])
+    yield from at(8, form_row(C1, C2), b"\0")
+    yield Border((13, 13), decompositions=block([form_row("\n", " "), form_row(" ", "1")]))
+    # no row is asked of what only stands in rows
+    yield accepted(decompositions=block([form_row(C1, "③1"), form_row(C2, "③2")]), text="①②③".encode(), mode=3)
+
+
 def codes():
     for code in (b"a", b"ab", b"abcd", b"abcabc", b"ABC", b"Abc", b"abC", b"ab1", b"`bc", b"ab{", b"a c", b"\0\0\0", b"ab\0", b"\xc3\xa9a", b"a-b"):
         yield Border((5, 0), code=code)
@@ -259,24 +363,26 @@ def left_out():
     yield Border((8, 1), text="a\ud7a3\u0f00".encode())
 
 
+def lent(slots, room, output=200):
+    return Lent(slots, room, output)
+
+
+def case(slots_places, room_places, needs, **changes):
+    """places by count of slots and by bytes of room, and what is exactly enough"""
+    full = 12 * len(slots_places)
+    for k, place in enumerate(slots_places):
+        yield Border((9, place), lent(12 * k, needs), **changes)
+        yield Border((9, place), lent(12 * k + 11, 1000), **changes)
+    for room, place in enumerate(room_places):
+        yield Border((10, place), lent(full, room), **changes)
+    assert len(room_places) == needs
+    yield Border(None, lent(full, needs), **changes)
+    yield Border(None, lent(full + 11, needs + 1), **changes)
+    yield Border(None, lent(120000, 100000), **changes)
+
+
 def rooms():
     """9 and 10 at the first edge that does not fit, 11 with the bytes needed"""
-    def lent(slots, room, output=200):
-        return Lent(slots, room, output)
-
-    def case(slots_places, room_places, needs, **changes):
-        """places by count of slots and by bytes of room, and what is exactly enough"""
-        full = 12 * len(slots_places)
-        for k, place in enumerate(slots_places):
-            yield Border((9, place), lent(12 * k, needs), **changes)
-            yield Border((9, place), lent(12 * k + 11, 1000), **changes)
-        for room, place in enumerate(room_places):
-            yield Border((10, place), lent(full, room), **changes)
-        assert len(room_places) == needs
-        yield Border(None, lent(full, needs), **changes)
-        yield Border(None, lent(full + 11, needs + 1), **changes)
-        yield Border(None, lent(120000, 100000), **changes)
-
     plain = dict(rules=NONE, classes=NONE, vowels=NONE)
     # characters without rules fall back in their order: 1, 2, 3, 4 bytes
     yield from case([0, 1, 2, 3], [0, 1, 1, 2, 2, 2, 3, 3, 3, 3], 10, **plain, text="aé€𐍈".encode(), mode=1)
@@ -325,13 +431,119 @@ def rooms():
     yield Border((11, 14), Lent(12, 1, 13), **other, mode=1)
 
 
+def inner_rooms():
+    """9 and 10 of the edges that a decomposition's string takes, at the character; then they are gone"""
+    def plain(made, text, kinds=(), table=(), mode=3):
+        return dict(rules=rules(*table), classes=classes(dict(kinds)), vowels=NONE, decompositions=forms(made), text=text.encode(), mode=mode)
+
+    number = {"①": (NUMBER,), "2": (NUMBER,)}
+    # one slot and one byte, used twice
+    yield from case([0], [0], 1, **plain({"①": "1"}, "①"))
+    yield from case([0, 1, 2], [0, 1, 2], 3, **plain({"①": "1"}, "①①①"))
+    # two and three edges inside, one outside
+    yield from case([0, 0], [0, 0], 2, **plain({"①": "12"}, "①"))
+    yield from case([0, 0, 0], [0, 0, 0], 3, **plain({"①": "123"}, "①"))
+    yield from case([0, 0, 1], [0, 0, 1, 1], 4, **plain({"①": "12"}, "①①"))
+    # fallbacks come behind: with what is left of the inner edges they find room
+    yield from case([1, 1, 1], [1, 1, 1, 0], 4, **plain({"①": "123"}, "a①"))
+    yield from case([0, 0, 0], [0, 0, 0, 1], 4, **plain({"①": "123"}, "①a"))
+    # an empty text inside takes a slot
+    mark = {"\u0301": (NONSPACING,)}
+    yield from case([0, 0, 0], [0], 1, **plain({"①": "\u0301a\u0301"}, "①", mark))
+    yield from case([0, 0], [], 0, **plain({"①": "\u0301\u0301"}, "①", mark))
+    # rule edges of more than one character inside: "kya" (0,2), then "ki" and "ya" of one character each
+    kana = {"き": (LETTER, 3), "ゃ": (LETTER, 3)}
+    yield from case([0, 0, 0], [0] * 7, 7, **plain({"①": "きゃ"}, "①", kana, [("き", "ki"), ("ゃ", "ya")]))
+    # of seven bytes three stay taken
+    yield from case([0, 0, 0, 1], [0] * 7 + [1] * 3, 10, **plain({"①": "きゃ"}, "①①", kana, [("き", "ki"), ("ゃ", "ya")]))
+    # the spaces are the edge's own: its 10 comes where its string has fitted
+    yield from case([1, 0], [1, 1, 0], 3, **plain({"①": "1"}, "2①", number))
+    yield from case([1, 0, 2], [1, 1, 1, 0, 2], 5, **plain({"①": "1"}, "2①2", number))
+    yield from case([1, 1, 2], [1, 1, 0, 2], 4, **plain({"①": "\u0301\u0301"}, "2①2", {**number, **mark}))
+    # the slash makes a string shorter: 5 bytes inside, 3 outside
+    half = {"½": "1\u20442"}
+    yield from case([0, 0, 0], [0] * 5, 5, **plain(half, "½", {"½": (NUMBER,)}))
+    yield from case([0, 0, 0], [0] * 5, 5, **plain(half, "½"))
+    yield from case([0, 0, 0, 1], [0] * 5 + [1] * 4, 9, **plain(half, "½½", {"½": (NUMBER,)}))
+    # a rule beside it: its edge is before, and the string is asked for nevertheless
+    yield from case([0, 0, 0], [0, 0, 0, 0], 4, **plain({"①": "12"}, "①", table=[("①", "ab")]))
+    yield from case([0, 0, 0, 0], [0, 0, 0, 0, 0], 5, **plain({"①": "123"}, "①", table=[("①", "ab")]))
+    # no edge, no string
+    for tag in (UNTAGGED, SUPER, SUB, NO_BREAK, COMPAT):
+        yield from case([0], [0, 0, 0], 3, **plain({"①": ("123456", tag)}, "①"))
+    # the first edge that does not fit: an inner one behind outer ones, and an outer one behind it
+    yield Border((9, 2), lent(24, 9), **plain({"①": "12"}, "xx①", table=[("x", "k")]))
+    yield Border((10, 2), lent(60, 3), **plain({"①": "12"}, "xx①", table=[("x", "k")]))
+    yield Border((10, 0), lent(60, 4), **plain({"①": "12"}, "a①①", table=[("x", "k")]))
+    yield Border((9, 0), lent(0, 0), **plain({"①": "1"}, "①"))
+    yield Border((10, 0), lent(12, 0), **plain({"①": "1"}, "①"))
+    yield Border((9, 0), lent(12, 0), **plain({"①": "\u0301a"}, "①", mark))
+    yield Border((10, 0), lent(24, 0), **plain({"①": "\u0301a"}, "①", mark))
+    # 11 behind them; the output has the edge alone
+    for mode, needs in ((0, 2), (1, 15), (2, 15), (3, 15)):
+        yield Border((11, needs), Lent(24, 2, needs - 1), **plain({"①": "12"}, "①", mode=mode))
+        yield Border(None, Lent(24, 2, needs), **plain({"①": "12"}, "①", mode=mode))
+
+
+def too_long():
+    """14 at the character whose finished text passes 198 bytes: behind its string's 9 and 10, before its own"""
+    def long(made, text, kinds=(), table=(("x", "k" * 11), ("y", "k" * 12), ("z", "k" * 10))):
+        return dict(rules=rules(*table), classes=classes(dict(kinds)), vowels=NONE, decompositions=forms(made), text=text.encode(), mode=1)
+
+    number = {"①": (NUMBER,), "2": (NUMBER,)}
+    most, more, less = "x" * 18, "x" * 17 + "y", "x" * 17 + "z"            # 198, 199 and 197 bytes
+    yield Border(None, Lent(18 * 12, 198, 300), **long({"①": most}, "①"))
+    yield Border((14, 0), Lent(18 * 12, 199, 300), **long({"①": more}, "①"))
+    yield Border((14, 0), Lent(9999, 9999, 300), **long({"①": more}, "①"))
+    yield Border((14, 0), Lent(9999, 9999, 0), **long({"①": more}, "①"))
+    # behind the string's 9 and 10
+    for slots in (0, 1, 17):
+        yield Border((9, 0), Lent(12 * slots, 199, 300), **long({"①": more}, "①"))
+    for room in (0, 11, 198):
+        yield Border((10, 0), Lent(18 * 12, room, 300), **long({"①": more}, "①"))
+    # before its own 10: 197 bytes and two spaces, 198 and one
+    for made, text, table in ((less, "2①2", 197), (most, "2①", 198), (most, "①2", 198)):
+        at = text.index("①")
+        yield Border((10, at), Lent(9999, table - 1, 300), **long({"①": made}, text, number))
+        yield Border((14, at), Lent(9999, table, 300), **long({"①": made}, text, number))
+        yield Border((14, at), Lent(18 * 12, 9999, 300), **long({"①": made}, text, number))
+        yield Border(None, Lent(9999, 9999, 300), **long({"①": made}, text))
+    yield Border((10, 1), Lent(9999, 197, 300), **long({"①": less}, "2①", number))
+    yield Border(None, Lent(9999, 199, 300), **long({"①": less}, "2①", number))
+    # the slash is in: 15 times 13 bytes, and three slashes of three bytes, or of one
+    slashes = dict(made={"①": "w" * 15 + SLASH * 3}, table=(("w", "k" * 13),))
+    yield Border((14, 0), Lent(9999, 9999, 300), **long(text="①", **slashes))
+    yield Border(None, Lent(9999, 204, 300), **long(text="①", kinds=number, **slashes))
+    yield Border((10, 0), Lent(9999, 203, 300), **long(text="①", kinds=number, **slashes))
+    yield Border((14, 1), Lent(9999, 9999, 300), **long(text="2①", kinds=number, **slashes))
+    # bytes, not characters: 15 times 13, and one of three bytes, or two of two
+    yield Border(None, Lent(9999, 9999, 300), **long({"①": "v" * 15 + "€"}, "①", table=(("v", "k" * 13),)))
+    yield Border((14, 0), Lent(9999, 9999, 300), **long({"①": "v" * 15 + "éé"}, "①", table=(("v", "k" * 13),)))
+    # the first such character, and behind 9 and 10 of what is added before it
+    yield Border((14, 1), Lent(9999, 9999, 300), **long({"①": more, "②": more}, "a①②"))
+    yield Border((14, 1), Lent(18 * 12, 199, 300), **long({"①": more}, "a①"))
+    yield Border((9, 0), Lent(0, 9999, 300), **long({"①": more}, "x①"))
+    yield Border((10, 0), Lent(9999, 10, 300), **long({"①": more}, "x①"))
+    yield Border((9, 1), Lent(18 * 12, 9999, 300), **long({"①": more}, "x①"))
+    yield Border((10, 1), Lent(9999, 11 + 198, 300), **long({"①": more}, "x①"))
+    yield Border((14, 1), Lent(19 * 12, 11 + 199, 300), **long({"①": more}, "x①"))
+    # a rule beside it helps nothing; a tag without an edge does
+    yield Border((14, 0), Lent(9999, 9999, 300), **long({"①": more}, "①", table=(("①", "1"), ("x", "k" * 11), ("y", "k" * 12))))
+    yield Border((14, 0), Lent(9999, 9999, 300), **long({"①": more}, "①②", table=(("①②", "1"), ("x", "k" * 11), ("y", "k" * 12))))
+    for tag in (UNTAGGED, SUPER, SUB, NO_BREAK, COMPAT):
+        yield Border(None, Lent(9999, 9999, 300), **long({"①": (more, tag)}, "①"))
+    # as long as it can get
+    yield Border((14, 0), Lent(9999, 9999, 300), **long({"①": "x" * 18}, "①", table=(("x", "k" * 64),)))
+    yield Border((14, 511), Lent(99999, 99999, 9999), **long({"①": more}, "a" * 511 + "①"))
+
+
 def orders():
     """two faults at once: the one that is looked for earlier comes first; all of them together give the first"""
     b, c = rule_row("b", "B"), rule_row("c", "C")
     # in their order: number, place, what is changed
     faults = [
         (1, 0, dict(mode=9)), (12, 0, dict(capitals=2)), (20, 5 + len(b), dict(rules=block([b, b"\0"]))), (3, 5, dict(classes=block([class_row("b", 2)]))),
-        (4, 0, dict(vowels=b"\x02\0\0\0\0")), (5, 0, dict(code=b"xx")), (6, 1, dict(text=b"a\xff")), (7, 512, dict(text=b"a" * 513)),
+        (4, 0, dict(vowels=b"\x02\0\0\0\0")), (13, 13, dict(decompositions=block([form_row("①", "1"), form_row("②", "①")]))), (5, 0, dict(code=b"xx")), (6, 1, dict(text=b"a\xff")), (7, 512, dict(text=b"a" * 513)),
         (8, 2, dict(text="ab\u0f00".encode())),
     ]
     both = {(6, 7): (b"a\xff" + b"a" * 600, 1), (6, 8): ("\u0f00a".encode() + b"\xff", 4), (7, 8): ("\u0f00".encode() * 513, 512)}
@@ -350,7 +562,7 @@ def orders():
                 yield Border((number, place), **{**changes, **more})
         for lent in small.values():
             yield Border((number, place), lent, **changes)
-    for rank, (number, place, _) in enumerate(faults[:6]):
+    for rank, (number, place, _) in enumerate(faults[:7]):
         yield Border((number, place), Lent(0, 0, 0), **from_rank(rank))
         yield Border((number, place), Lent(5, 5, 5), **from_rank(rank))
     yield Border((9, 0), small[9])
@@ -382,7 +594,20 @@ def most_rules():
     yield accepted(rules=block([rule] * 8191 + [rule_row("b", "x")]), text=b"b")
 
 
-GROUPS = [modes, choices, headers, rule_rows, smallest_rules, class_rows, vowel_rows, codes, utf8, lengths, left_out, rooms, orders, most_classes]
+def most_decompositions():
+    """the same of decompositions, in a file of their own too: every row is looked up among all"""
+    row = [form_row(chr(0x3400 + k), "1") for k in range(8193)]
+    yield Border((13, 5 + 8192 * 8), decompositions=block(row))
+    yield Border((13, 5 + 8192 * 8), decompositions=block(row[:8192] + [b"\0"]))
+    yield accepted(decompositions=block(row[:8192]), text=chr(0x3400 + 8191).encode())
+    # a row that is one too many is not there, so that the first may hold its character
+    yield Border((13, 5 + 8192 * 8), decompositions=block([form_row("!", chr(0x3400 + 8191)), *row[:8192]]))
+    yield Border((13, 5), decompositions=block([form_row("!", chr(0x3400 + 8190)), *row[:8191]]))
+    yield Border((13, 5 + 8191 * 8), decompositions=block([*row[:8191], form_row("\U0010ffff", "\u3400")]))
+
+
+GROUPS = [modes, choices, headers, rule_rows, smallest_rules, class_rows, vowel_rows, decomposition_rows, nested_decompositions, codes, utf8, lengths,
+          left_out, rooms, inner_rooms, too_long, orders, most_classes]
 
 
 def made(border, built):
@@ -409,9 +634,10 @@ def save(program, path, groups):
     print("%d calls: %s" % (len(calls), ", ".join("%d of %d" % (numbers.count(n), n) for n in sorted(set(numbers)))))
 
 
-def main(program, path, rules_path):
+def main(program, path, rules_path, decompositions_path):
     save(program, path, GROUPS)
     save(program, rules_path, [most_rules])
+    save(program, decompositions_path, [most_decompositions])
 
 
 if __name__ == "__main__":

@@ -31,6 +31,9 @@ CASED_CLASSES = lowered(CLASSES, "ж")
 
 VOWELS = vowels((DEVANAGARI, A, "a"), (KHMER, A, "a"))
 
+# document 01 has none of these; by them ①ＡＢＣ is 1ABC
+DECOMPOSITIONS = decompositions({"①": "1", "Ａ": "A", "Ｂ": "B", "Ｃ": "C"})
+
 # text, code, string
 RESULTS = [
     ("कत", "", "kat"), ("कत", "san", "kata"), ("कित", "", "kit"), ("क\u094dत", "", "kta"), ("ងយ", "", "ngya"), ("កយ", "", "kaya"),

@@ -20,7 +20,7 @@ typedef struct {
 /* what a call is given: all of it is right, and a case spoils one part */
 typedef struct {
     uint8_t mode, capitals;
-    slice rules, classes, vowels, code, text;
+    slice rules, classes, vowels, decompositions, code, text;
     size_t slots, room, out;
 } call;
 
@@ -42,12 +42,31 @@ static void put(slice *s, const char *bytes) {
     memcpy(s->bytes, bytes, s->length);
 }
 
+static void put_bytes(slice *s, const uint8_t *bytes, size_t length) {
+    s->length = length;
+    memcpy(s->bytes, bytes, length);
+}
+
 static void put_many_rules(slice *s) {
     const uint8_t header[] = {1, 0, MANY_RULES >> 16, MANY_RULES >> 8 & 0xFF, MANY_RULES & 0xFF};
     size_t k;
     memcpy(s->bytes, header, 5);
     for (k = 0; k <= MOST_RULES; k++) memcpy(s->bytes + 5 + k * sizeof SMALL_RULE, SMALL_RULE, sizeof SMALL_RULE);
     s->length = 5 + MANY_RULES;
+}
+
+/* U+2460 holds 12, and U+2461 four times x */
+static const uint8_t FORMS[] = {1, 0, 0, 0, 28, 0, 0x24, 0x60, 5, 2, 0, 0, '1', 0, 0, '2',
+                                0, 0x24, 0x61, 5, 4, 0, 0, 'x', 0, 0, 'x', 0, 0, 'x', 0, 0, 'x'};
+enum { SECOND_FORM = 16 };
+
+/* the only rule is that of x, whose target has 50 bytes */
+static void put_long_rule(slice *s) {
+    const uint8_t front[] = {1, 0, 0, 0, 62, 0, 60, 0x20, 0, 0, 1, 0, 0, 'x', 0, 50};
+    put_bytes(s, front, sizeof front);
+    memset(s->bytes + s->length, 'k', 50);
+    s->bytes[s->length + 50] = 0;
+    s->length += 51;
 }
 
 static int is_zero(const uint8_t *bytes, size_t n) {
@@ -64,8 +83,8 @@ static void expect(const char *name, const call *c, uint64_t number, uint64_t pl
     memset(room, 0xA5, sizeof room);
     memset(out, 0xA5, sizeof out);
     a = jettyfig_romanize(c->mode, c->capitals, c->rules.bytes, c->rules.length, c->classes.bytes, c->classes.length,
-                          c->vowels.bytes, c->vowels.length, c->code.bytes, c->code.length, c->text.bytes, c->text.length, slots,
-                          c->slots, room, c->room, out, c->out);
+                          c->vowels.bytes, c->vowels.length, c->decompositions.bytes, c->decompositions.length, c->code.bytes,
+                          c->code.length, c->text.bytes, c->text.length, slots, c->slots, room, c->room, out, c->out);
     runs++;
     if (a.number != number || a.place != place || (number && (a.length || a.edges)) || !is_zero(slots, c->slots) ||
         !is_zero(room, c->room) || !is_zero(out + a.length, c->out - a.length)) {
@@ -83,6 +102,7 @@ int main(int argc, char **argv) {
     read_file(argv[1], &good.rules);
     read_file(argv[2], &good.classes);
     read_file(argv[3], &good.vowels);
+    put_bytes(&good.decompositions, FORMS, sizeof FORMS);
     /* two edges, "ka" and "t": 24 bytes of slots, 3 of room */
     put(&good.text, "\xe0\xa4\x95\xe0\xa4\xa4");
     good.slots = 24;
@@ -124,6 +144,16 @@ int main(int argc, char **argv) {
     expect("classes, lower case of another", &c, JETTYFIG_DONE, 0);
     c = good, c.vowels.bytes[9 + 1] = 2;
     expect("vowels, second row", &c, JETTYFIG_REFUSED_VOWELS, 9);
+    c = good, c.vowels.length--, c.decompositions.length--;
+    expect("vowels before decompositions", &c, JETTYFIG_REFUSED_VOWELS, 0);
+    c = good, c.decompositions.length--, put(&c.code, "hi");
+    expect("decompositions before code", &c, JETTYFIG_REFUSED_DECOMPOSITIONS, 0);
+    c = good, c.decompositions.bytes[SECOND_FORM + 3] = 6;
+    expect("decompositions, the second row's tag", &c, JETTYFIG_REFUSED_DECOMPOSITIONS, SECOND_FORM);
+    c = good, memcpy(c.decompositions.bytes + SECOND_FORM + 5, "\0\x24\x60", 3);
+    expect("decompositions, a character with a row", &c, JETTYFIG_REFUSED_DECOMPOSITIONS, SECOND_FORM);
+    c = good, memcpy(c.decompositions.bytes + SECOND_FORM + 5, "\0\x0f\x40", 3);
+    expect("decompositions, Tibetan", &c, JETTYFIG_REFUSED_DECOMPOSITIONS, SECOND_FORM);
     c = good, put(&c.code, "hi");
     expect("code", &c, JETTYFIG_REFUSED_CODE, 0);
     c = good, put(&c.text, "ab\xc0");
@@ -138,6 +168,20 @@ int main(int argc, char **argv) {
     expect("room", &c, JETTYFIG_REFUSED_ROOM, 1);
     c = good, c.out--;
     expect("output", &c, JETTYFIG_REFUSED_OUTPUT, 3);
+    /* "12" by two edges, which are gone before its own */
+    c = good, put(&c.text, "\xe2\x91\xa0"), c.room = 2, c.out = 2;
+    expect("done, with a decomposition", &c, JETTYFIG_DONE, 0);
+    c.slots--;
+    expect("slots of a decomposition", &c, JETTYFIG_REFUSED_SLOTS, 0);
+    c.slots++, c.room--;
+    expect("room of a decomposition", &c, JETTYFIG_REFUSED_ROOM, 0);
+    /* four times 50 bytes; three are enough for no refusal */
+    c = good, put(&c.text, "a\xe2\x91\xa1"), put_long_rule(&c.rules), c.slots = 48, c.room = 200, c.out = 200;
+    expect("a decomposition's text", &c, JETTYFIG_REFUSED_EDGE_TEXT, 1);
+    c.room--;
+    expect("room before a decomposition's text", &c, JETTYFIG_REFUSED_ROOM, 1);
+    c.decompositions.bytes[SECOND_FORM + 4]--, c.decompositions.bytes[4] -= 3, c.decompositions.length -= 3;
+    expect("done, with a long decomposition", &c, JETTYFIG_DONE, 0);
     printf("%u runs, %u differ\n", runs, differ);
     return differ > 0;
 }

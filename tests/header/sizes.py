@@ -10,6 +10,7 @@ import sys
 TESTS = pathlib.Path(__file__).resolve().parents[1]
 sys.path[:0] = [str(TESTS / "calls"), str(TESTS / "generate")]
 import callfile
+from forms import NO_FORMS, forms
 from random_calls import World
 from tables import *
 
@@ -22,12 +23,16 @@ def worst():
     kana = classes({"か": (LETTER, HIRAGANA)})
     many = rules(*(Rule("か" * k, MOST) for k in range(1, 17)))
     for n in (1, 2, 16, 17, 100, 512):
-        yield many, kana, vowels((HIRAGANA, A, "aaaa")), b"", ("か" * n).encode()
+        yield many, kana, vowels((HIRAGANA, A, "aaaa")), NO_FORMS, b"", ("か" * n).encode()
+        # the most edges inside, and before it the most outside
+        held = forms({"①": "か" * 18})
+        for text in ("①" * n, "か" * (n - 1) + "①"):
+            yield many, kana, vowels(), held, b"", text.encode()
     thai = classes({"ก": (LETTER, THAI), "เ": (LETTER, THAI, PRE), "っ": (LETTER, THAI), "า": (LETTER, THAI),
                     "ゃ": (LETTER, THAI), "\u0e4d": (NONSPACING, THAI, VIRAMA)})
     long = rules(("ก", MOST[1:] + "i"), ("เ", "y" * 63 + "i"), ("า", MOST), ("ゃ", MOST), *(("ก" * k, MOST) for k in range(2, 17)))
     for pattern in ("っเกゃ", "เกา", "っกゃ", "ก", "กゃ", "เก\u0e4d"):
-        yield long, thai, vowels((THAI, AO, "oooo")), b"", (pattern * 170)[:512].encode()
+        yield long, thai, vowels((THAI, AO, "oooo")), NO_FORMS, b"", (pattern * 170)[:512].encode()
 
 
 def cases(count, seed):

@@ -35,11 +35,17 @@ n=$(grep -c '^[^ ]*: [-+]' "$out/edits.diff" || true)
 [ "$n" = 21 ] || { echo "21 edited lines expected, found $n"; cat "$out/edits.diff"; exit 1; }
 cmp "$here/edits.diff" "$out/edits.diff"
 
+# edited_too NAME EDIT: lattice/romanize.rs is edited once more, by sed, and NAME.diff lists what comes of it
+edited_too() {
+  cp "$out/src/lattice/romanize.rs" "$out/romanize.rs"
+  sed -i "$2" "$out/src/lattice/romanize.rs"
+  (cd "$out" && diff -U0 romanize.rs src/lattice/romanize.rs | sed '1,2d' || true) | sed "s|^|lattice/romanize.rs: |" > "$out/$1.diff"
+  cmp "$here/$1.diff" "$out/$1.diff"
+}
 # --- one line more, which does add logic: the Python rule for capitals, where a call chooses it ---
-cp "$out/src/lattice/romanize.rs" "$out/romanize.rs"
-sed -i 's|^        // Gemination: .*|        rom = crate::capitals::as_python(rom, start, end, next_char);|' "$out/src/lattice/romanize.rs"
-(cd "$out" && diff -U0 romanize.rs src/lattice/romanize.rs | sed '1,2d' || true) | sed "s|^|lattice/romanize.rs: |" > "$out/capitals.diff"
-cmp "$here/capitals.diff" "$out/capitals.diff"
+edited_too capitals 's|^        // Gemination: .*|        rom = crate::capitals::as_python(rom, start, end, next_char);|'
+# --- two lines more: whether the neighbours of a decomposed character are numbers, from the class table ---
+edited_too numbers 's/c\.is_numeric()/crate::dicts::is_number(*c)/'
 cp "$here"/src/*.rs "$out/src/"
 
 # --- regex and its three helpers from Debian's package, as path crates ---

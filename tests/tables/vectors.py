@@ -1,12 +1,12 @@
 #!/usr/bin/env python3
-"""Vectors for the checks of the three tables (crates classes, table_vowels and rule_table_check).
+"""Vectors for the checks of the four tables (crates table_classes, table_vowels, table_decompositions and rule_table_check).
 
 vectors.py            writes crates/tables_vectors/stdin and stdout
 vectors.py --check    only says whether they are what it would write
 
-A vector: the kind of table (0 rules, 1 classes, 2 vowels), the table's length in three bytes and its bytes; the number that a
-call refuses it by in one byte (20 to 25 for rules, 3 for classes, 4 for vowels, 0 for a valid table), and the place in three bytes
-(0 where there is none). Numbers are big-endian.
+A vector: the kind of table (0 rules, 1 classes, 2 vowels, 3 decompositions), the table's length in three bytes and its bytes; the
+number that a call refuses it by in one byte (20 to 25 for rules, 3 for classes, 4 for vowels, 13 for decompositions, 0 for a valid
+table), and the place in three bytes (0 where there is none). Numbers are big-endian.
 
 The answers come from three sides. The frozen calls have one for each table that a call was refused by or that passed. Some
 are written here beside the damage, or follow from the layout of the row that is damaged. The rest is answered by the readers of
@@ -23,15 +23,16 @@ TESTS = pathlib.Path(__file__).resolve().parents[1]
 sys.path[:0] = [str(TESTS / 'calls'), str(TESTS / 'generate'), str(TESTS.parent / 'tools')]
 import callfile
 import program
-from tables import A, AO, CF, CO, DEVANAGARI, FAULTS, LETTER, MARK, MOST_RULES, OTHER, PRE, START, THAI, VIRAMA, WHOLE, ZS
-from tables import Rule, block, class_row, fault, read_classes, read_rules, read_vowels, rule_row, vowel_row
+from tables import A, AO, CF, CO, COMPAT, DEVANAGARI, FAULTS, FORM, LETTER, MARK, MOST_RULES, OTHER, PRE, START, SUPER, THAI, UNTAGGED
+from tables import VIRAMA, WHOLE, ZS, Rule, block, class_row, decomposition_row, fault, read_classes, read_decompositions, read_rules
+from tables import read_vowels, rule_row, vowel_row
 
-RULES, CLASSES, VOWELS = range(3)
-NAMES = ('rules', 'classes', 'vowels')
-READERS = (read_rules, read_classes, read_vowels)
-NUMBERS = (set(FAULTS), {3}, {4})       # by which each is refused
+RULES, CLASSES, VOWELS, DECOMPOSITIONS = range(4)
+NAMES = ('rules', 'classes', 'vowels', 'decompositions')
+READERS = (read_rules, read_classes, read_vowels, read_decompositions)
+NUMBERS = (set(FAULTS), {3}, {4}, {13})     # by which each is refused
 BEFORE = (1, 12)    # refused before any table is looked at: mode and capitals
-ROOM = 2000000      # the length of `room` in crates/tables_vectors
+ROOM = 2200000      # the length of `room` in crates/tables_vectors
 LARGE = 4000        # longer tables are taken sparingly
 
 
@@ -368,10 +369,76 @@ def vowel_rows():
     yield VOWELS, block([*every, last]), (4, 5 + 127 * len(first))
 
 
+def decomposition_rows():
+    first, last = decomposition_row(0, 'a'), decomposition_row(0x10FFFF, 'z')
+
+    def at(row, right):
+        return placed(DECOMPOSITIONS, first, row, last, unless(right, 13, 0))
+
+    for n in range(256):
+        yield DECOMPOSITIONS, block([first, decomposition_row('c', 'd', n)]), unless(n <= 5, 13, 13)
+        yield DECOMPOSITIONS, block([first, decomposition_row('c', 'd', count=n)]), unless(n == 1, 13, 13)
+    for n in (*range(21), 127, 128, 255):
+        yield from at(decomposition_row('c', 'd' * n), 1 <= n <= 18)
+    # each part at the borders of its range, in a row of one, two and 18 characters
+    borders = (*CHARACTERS, 0x0EFF, 0x0F00, 0x0FFF, 0x1000, 0x27FF, 0x2800, 0x28FF, 0x2900, 0xABFF, 0xAC00, 0xD7A3, 0xD7A4)
+    for c in borders:
+        character = not 0xD800 <= c <= 0xDFFF and c <= 0x10FFFF
+        right = character and not (0x0F00 <= c <= 0x0FFF or 0x2800 <= c <= 0x28FF or 0xAC00 <= c <= 0xD7A3)
+        for tag in (UNTAGGED, FORM):
+            yield DECOMPOSITIONS, block([decomposition_row(c, 'd', tag)]), unless(character, 13, 5)
+            for held in ([c], ['d', c], [c, 'd'], [*'d' * 17, c], [*'d' * 9, c, *'d' * 8]):
+                yield DECOMPOSITIONS, block([decomposition_row('c', held, tag), decomposition_row('e', 'x')]), unless(right, 13, 5)
+    # no row for a space, which any other may hold
+    for tag in range(6):
+        yield DECOMPOSITIONS, block([decomposition_row('\x1f', ' ', tag), decomposition_row('!', ' x ', tag)]), None
+        yield DECOMPOSITIONS, block([decomposition_row('\x1f', 'x', tag), decomposition_row(' ', 'x', tag)]), (13, 13)
+    # order: each character once
+    order = (0, 1, 0xFF, 0x100, 0x1FF, 0xFFFF, 0x10000, 0x100FF, 0x10FFFF)
+    for one, two in itertools.product(order, repeat=2):
+        yield DECOMPOSITIONS, block([decomposition_row(one, 'x'), decomposition_row(two, 'y')]), unless(one < two, 13, 13)
+    # as many rows as are allowed, and one more
+    every = [decomposition_row(0x3400 + k, 'x') for k in range(MOST_RULES + 1)]
+    yield DECOMPOSITIONS, block(every[:-1]), None
+    yield DECOMPOSITIONS, block(every), (13, 5 + 8 * MOST_RULES)
+
+
+def nested_decompositions():
+    """a row that holds a character with a row, of any tag, before it or behind it or its own; but rows behind one that is wrong by
+    itself are not there"""
+    def of(*rows):
+        return DECOMPOSITIONS, block(rows)
+
+    tags = (UNTAGGED, SUPER, COMPAT, FORM)
+    for one, two in itertools.product(tags, repeat=2):
+        yield *of(decomposition_row('c', 'd', one), decomposition_row('d', 'x', two)), (13, 5)
+        yield *of(decomposition_row('c', 'x', one), decomposition_row('d', 'c', two)), (13, 13)
+        yield *of(decomposition_row('c', 'd', one), decomposition_row('d', 'c', two)), (13, 5)
+    for tag in tags:
+        yield *of(decomposition_row('c', 'c', tag)), (13, 5)
+        yield *of(decomposition_row('c', 'dd', tag)), None
+    # the row that is held stands at each place of a table that its index steps through, and so does the row that holds it
+    many = [chr(0x100 + 2 * k) for k in range(50)]
+    for k in range(50):
+        for c, right in ((many[k], False), (chr(ord(many[k]) + 1), True)):
+            yield *of(decomposition_row('!', 'x' + c), *(decomposition_row(d, 'y') for d in many)), unless(right, 13, 5)
+            yield *of(*(decomposition_row(d, 'y') for d in many), decomposition_row('\u0400', 'x' * 17 + c)), unless(right, 13, 5 + 50 * 8)
+    for n in range(18):
+        yield *of(decomposition_row('c', 'x' * n + 'd' + 'x' * (17 - n)), decomposition_row('d', 'y')), (13, 5)
+    # one that is wrong by itself between them, and behind them
+    wrong = (decomposition_row('d', 'x', 6), decomposition_row('d', ''), decomposition_row('d', 'x' * 19), decomposition_row('d', [0xD800]),
+             decomposition_row('d', [0x0F00]), decomposition_row('b', 'x'), decomposition_row('d', 'x', count=200), decomposition_row(' ', 'x'))
+    for row in wrong:
+        yield *of(decomposition_row('c', 'd'), row), (13, 13)
+        yield *of(decomposition_row('c', 'e'), row, decomposition_row('e', 'x')), (13, 13)
+        yield *of(decomposition_row('B', 'c'), decomposition_row('c', 'x'), row), (13, 5)
+
+
 def headers():
     """a version, a length or an end that is wrong: place 0, whatever the rows are"""
     # the number, a good row, a bad one and how far within it the fault is
-    given = ((20, rule_row('b', 'B'), bytes(2), 2), (3, class_row('b', LETTER), bytes(3), 0), (4, vowel_row(5, A, 'a'), bytes(1), 0))
+    given = ((20, rule_row('b', 'B'), bytes(2), 2), (3, class_row('b', LETTER), bytes(3), 0), (4, vowel_row(5, A, 'a'), bytes(1), 0),
+             (13, decomposition_row('c', 'd'), bytes(4), 0))
     for kind, (number, good, bad, within) in enumerate(given):
         for rows in (b'', good, bad):
             table = block([rows])
@@ -401,6 +468,10 @@ GOOD = (
                      class_row('\ud7ff', CO), class_row('\ue000', MARK, DEVANAGARI, VIRAMA)])),
     (VOWELS, block([vowel_row(1, A, 'a'), vowel_row(5, AO, 'abcd'), vowel_row(6, A, 'yz'), vowel_row(127, AO, 'o')])),
     (VOWELS, block([vowel_row(2, AO, 'aaaa'), vowel_row(3, A, 'zzz'), vowel_row(126, A, 'm')])),
+    (DECOMPOSITIONS, block([decomposition_row('\x1f', 'a'), decomposition_row('!', ' b', SUPER), decomposition_row('\xbd', '1\u20442'),
+                            decomposition_row('\u0f00', '\u0eff\u1000', UNTAGGED), decomposition_row('\u2460', '1')])),
+    (DECOMPOSITIONS, block([decomposition_row('\ud7ff', '\ue000', COMPAT), decomposition_row('\uff21', 'A'), decomposition_row('\uff22', 'BC'),
+                            decomposition_row('\U0001f130', '\u1160\uabff')])),
 )
 VALUES = (0, 1, 0x1F, 0x20, 0x40, 0x60, 0x61, 0x7A, 0x7B, 0x7E, 0x7F, 0x80, 0xFF)
 
@@ -440,7 +511,8 @@ def told(answers):
 
 
 def main():
-    made = itertools.chain(frozen(), headers(), rule_rows(), rule_layouts(), class_rows(), vowel_rows(), damaged())
+    made = itertools.chain(frozen(), headers(), rule_rows(), rule_layouts(), class_rows(), vowel_rows(), decomposition_rows(),
+                           nested_decompositions(), damaged())
     found = list(agreed(made))
     size = program.deliver('tables_vectors', list(itertools.starmap(encoded, found)))
     assert size < ROOM, size

@@ -42,6 +42,9 @@ pub const ALT: u8 = 12;
 
 pub const ALT3: u8 = 14;
 
+// A character read by those that it stands for.
+pub const DECOMP: u8 = 15;
+
 // No annotation, while nothing has been expanded.
 pub const UNTOUCHED: u8 = 0;
 

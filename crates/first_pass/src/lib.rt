@@ -61,7 +61,7 @@ fn add_span(
 }
 
 // `add_romanization` from one start: its ends rise while the span is a prefix of a source.
-fn add_from(
+pub fn add_from(
     rules: &[u8],
     ready: &[u32],
     vowels: &[u8],

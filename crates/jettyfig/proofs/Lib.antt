@@ -1,3 +1,5 @@
 pub mod Parts
 pub mod Prepared
 pub mod Wholes
+pub mod Finished
+pub mod Firsts

@@ -1,69 +1,236 @@
--- Parts of one list lent one after the other and come back: what is made ready, and a line.
-use Prim.Native.Nat.{ℕ, _+_, _-_, _*_, _/_, _≤_}
-use mathlib.Core.List.{List, [], _∷_, _++_, append-assoc}
-use mathlib.Core.Path.{_≡_, sym, ap, _∙_, subst}
+-- Parts of one list lent one after the other and come back: what is prepared, and a line.
+use Prim.Native.Nat.{ℕ, _+_, _-_, _*_, _/_, _≤_, _<_}
+use mathlib.Core.List.{List, _++_}
+use mathlib.Core.Path.{_≡_, refl, sym, ap, _∙_, subst}
 use native.Mathlib.Omega.{arith}
-use lib.ListN.{length, take, drop, set, getD, replicate, length-append, length-replicate}
-use lib.Seq.{take-at, drop-at, take-take, length-take-le, getD-append-seam}
+use lib.ListN.{length, take, drop, set, getD, replicate, length-append, length-drop, length-set, length-replicate, List·getD-append}
+use lib.Seq.{take-at, drop-at, take-take, drop-drop, take-append-le, drop-append-le, take-append-add, drop-append-add, length-take-le}
+use lib.Seq.{getD-take, getD-drop, getD-append-add, getD-set-same, getD-set-other, drop-set-lt}
 use borrow.Rule.Slice.PartMut.{putMid, midOf}
 use Rattle.base.specs.Loans.{lent-end, back-end}
+use Rattle.base.specs.ListLaws.{drop-take}
 use Rattle.definition.specs.Limits.{ascii-characters, most-characters}
 use Rattle.definition.specs.Texts.{Text}
 use Rattle.utf8.specs.Lines.{spaced}
 use Rattle.table_classes.specs.Told.{kinds-of, alphas-of}
 use Rattle.table_classes.specs.Packing.{alphas-length, kinds-length}
 use Rattle.rule_memo.specs.Kept.{all-places, Kept}
-use Rattle.words.specs.Given.{letters-in, choices-in, index-from, index-in}
+use Rattle.table_decompositions.specs.Index.{index-of}
+use Rattle.words.specs.Given.{letters-in, choices-in, mode-in, form-entries, forms-from, forms-in, index-from, all-ready, ready-in, line-in}
 use Rattle.jettyfig.specs.Verdicts.{choose}
-use Rattle.jettyfig.specs.Steps.{with-kinds}
+use Rattle.jettyfig.specs.Steps.{with-kinds, Blank, MadeReady}
 
--- The choice was written into a list of zeros, the letters have come back to its front, and the rest of it is lent for the
--- index and what is kept behind it
-module _ (classes old letters : List ℕ) (capitals : ℕ) (z : old ≡ replicate (index-from + all-places) 0) (a : letters ≡ alphas-of classes) where
+-- A front of a list, and others behind it: what stands within the front stays
+module _ (l : List ℕ) (a : ℕ) (h : a ≤ length l) where
+  front-length : length (take a l) ≡ a
+  front-length = length-take-le a l h
+
+  pub cut-part : (i n : ℕ) → i + n ≤ a → take n (drop i (take a l)) ≡ take n (drop i l)
+  cut-part i n k =
+      ap (λ (m : ℕ). take n (drop i (take m l))) {x = a} {y = i + (a - i)} (omega arith)
+      ∙ ap (take n) (drop-take i (a - i) l) ∙ take-take n (a - i) (drop i l) (omega arith)
+
+  module _ (x : List ℕ) where
+    pub stays-at : (i : ℕ) → i < a → getD (take a l ++ x) i 0 ≡ getD l i 0
+    stays-at i k = List·getD-append (take a l) x 0 i (omega (arith, front-length)) ∙ getD-take a l i 0 k
+
+    pub stays-part : (i n : ℕ) → i + n ≤ a → take n (drop i (take a l ++ x)) ≡ take n (drop i l)
+    stays-part i n k =
+        ap (take n) (drop-append-le i (take a l) x (omega (arith, front-length)))
+        ∙ take-append-le n (drop i (take a l)) x (omega (arith, front-length, length-drop i (take a l))) ∙ cut-part i n k
+
+    pub stays-behind : drop a (take a l ++ x) ≡ x
+    stays-behind = drop-at (take a l) x a front-length
+
+-- The letters have come back to the front of what is prepared, and from the index of the rule table on it is lent
+module _ (classes old letters : List ℕ) (long : all-ready ≤ length old) (a : letters ≡ alphas-of classes) where
   abbrev came : List ℕ
-  came = letters ++ drop ascii-characters (set old ascii-characters capitals)
-
-  abbrev front : List ℕ
-  front = letters ++ capitals ∷ []
+  came = letters ++ drop ascii-characters old
 
   lettered : length letters ≡ ascii-characters
   lettered = ap length a ∙ alphas-length classes
 
-  fronted : length front ≡ index-from
-  fronted = omega (arith, lettered, length-append letters (capitals ∷ []))
+  pub as-long : length came ≡ length old
+  as-long = omega (arith, lettered, length-append letters (drop ascii-characters old), length-drop ascii-characters old, long)
 
-  came-is : came ≡ front ++ replicate all-places 0
-  came-is =
-      ap (λ (l : List ℕ). letters ++ drop ascii-characters (set l ascii-characters capitals)) z
-      ∙ sym (append-assoc letters (capitals ∷ []) (replicate all-places 0))
+  came-at : (i j : ℕ) → i ≡ ascii-characters + j → getD came i 0 ≡ getD old i 0
+  came-at i j e =
+      ap (λ (k : ℕ). getD came k 0) {x = i} {y = length letters + j} (omega (arith, lettered))
+      ∙ getD-append-add letters (drop ascii-characters old) j 0 ∙ getD-drop ascii-characters old j 0 ∙ ap (λ (k : ℕ). getD old k 0) (sym e)
 
-  pub as-long : length came ≡ index-from + all-places
-  as-long = omega (arith, ap length came-is, fronted, length-append front (replicate all-places 0), length-replicate {A = ℕ} all-places 0)
+  came-from : (i j : ℕ) → i ≡ ascii-characters + j → drop i came ≡ drop i old
+  came-from i j e =
+      ap (λ (k : ℕ). drop k came) {x = i} {y = length letters + j} (omega (arith, lettered))
+      ∙ drop-append-add letters (drop ascii-characters old) j ∙ drop-drop j ascii-characters old ∙ ap (λ (k : ℕ). drop k old) (sym e)
 
-  pub zeros-left : midOf index-from (length came - index-from) came ≡ replicate all-places 0
-  zeros-left = lent-end came index-from ∙ ap (drop index-from) came-is ∙ drop-at front (replicate all-places 0) index-from fronted
+  abbrev index-lent : List ℕ
+  index-lent = midOf index-from (length came - index-from) came
 
-  abbrev back : List ℕ → List ℕ
-  back index = putMid index-from (length came - index-from) came index
+  lent-is : index-lent ≡ drop index-from old
+  lent-is = lent-end came index-from ∙ came-from index-from (index-from - ascii-characters) refl
 
-  back-as : (index : List ℕ) → back index ≡ front ++ index
-  back-as index =
-      back-end came index-from index
-      ∙ ap (λ (l : List ℕ). l ++ index) (ap (take index-from) came-is ∙ take-at front (replicate all-places 0) index-from fronted)
+  pub zeros-lent : take all-places (drop index-from old) ≡ replicate all-places 0 → take all-places index-lent ≡ replicate all-places 0
+  zeros-lent z = ap (take all-places) lent-is ∙ z
 
-  pub stays-long : (rules index : List ℕ) → Kept rules index → length (back index) ≡ length old
-  stays-long rules index x =
-      omega (arith, ap length (back-as index), fronted, length-append front index, x .long, ap length z, length-replicate {A = ℕ} (index-from + all-places) 0)
+  pub room-lent : (half : ℕ) → half ≡ (length came - all-ready) / 2 → all-places + half ≤ length index-lent
+  room-lent half e = omega (arith, ap length lent-is, length-drop index-from old, as-long, long, e)
 
-  pub made-ready : (rules index : List ℕ) → Kept rules index
-      → (letters-in (back index) ≡ alphas-of classes) × (choices-in (back index) ≡ choose capitals) × Kept rules (index-in (back index))
-  made-ready rules index x =
-      let whole = back-as index ∙ append-assoc letters (capitals ∷ []) index in (
-        ap (take ascii-characters) whole ∙ take-at letters (capitals ∷ index) ascii-characters lettered ∙ a,
-        ap choose (ap (λ (l : List ℕ). getD l ascii-characters 0) whole
-            ∙ ap (λ (k : ℕ). getD (letters ++ capitals ∷ index) k 0) (sym lettered) ∙ getD-append-seam letters capitals index 0),
-        subst (Kept rules) (sym (ap (drop index-from) (back-as index) ∙ drop-at front index index-from fronted)) x,
+  module _ (rules back : List ℕ) (k : Kept rules (take all-places back)) (b : drop all-places back ≡ drop all-places index-lent) (l : length back ≡ length index-lent) where
+    abbrev after : List ℕ
+    after = putMid index-from (length came - index-from) came back
+
+    within : index-from ≤ length came
+    within = omega (arith, as-long, long)
+
+    after-is : after ≡ take index-from came ++ back
+    after-is = back-end came index-from back
+
+    stays-long : length after ≡ length old
+    stays-long =
+        omega (
+          arith,
+          ap length after-is,
+          length-append (take index-from came) back,
+          length-take-le index-from came within,
+          l,
+          ap length lent-is,
+          length-drop index-from old,
+          as-long,
+          long,
+        )
+
+    kept-at : (i j : ℕ) → i ≡ ascii-characters + j → i < index-from → getD after i 0 ≡ getD old i 0
+    kept-at i j e h = ap (λ (l : List ℕ). getD l i 0) after-is ∙ stays-at came index-from within back i h ∙ came-at i j e
+
+    behind : drop index-from after ≡ back
+    behind = ap (drop index-from) after-is ∙ stays-behind came index-from within back
+
+    pub made-ready : MadeReady rules classes old after
+    made-ready = record {
+      letters = ap (take ascii-characters) after-is ∙ stays-part came index-from within back 0 ascii-characters (omega arith)
+          ∙ take-at letters (drop ascii-characters old) ascii-characters lettered ∙ a;
+      choices = ap choose (kept-at ascii-characters 0 refl (omega arith));
+      mode = kept-at (ascii-characters + 1) 1 refl (omega arith);
+      forms = ap forms-in after-is ∙ stays-part came index-from within back forms-from form-entries (omega arith)
+          ∙ ap (take form-entries) (came-from forms-from 2 refl);
+      index = subst (Kept rules) (sym (ap (take all-places) behind)) k;
+      line = sym (drop-drop all-places index-from after) ∙ ap (drop all-places) behind ∙ b ∙ ap (drop all-places) lent-is
+          ∙ drop-drop all-places index-from old;
+      long = stays-long;
+    }
+
+-- A line has come back behind what is made ready, and both are lent as far as the line goes
+module _ (old line : List ℕ) (long : all-ready ≤ length old) (k : ℕ) (h : k ≤ length line) where
+  abbrev pub whole : List ℕ
+  whole = putMid all-ready (length old - all-ready) old line
+
+  abbrev pub cut : List ℕ
+  cut = take (all-ready + k) whole
+
+  whole-is : whole ≡ take all-ready old ++ line
+  whole-is = back-end old all-ready line
+
+  fronted : length (take all-ready old) ≡ all-ready
+  fronted = length-take-le all-ready old long
+
+  cut-is : cut ≡ take all-ready old ++ take k line
+  cut-is =
+      ap (take (all-ready + k)) whole-is
+      ∙ ap (λ (m : ℕ). take m (take all-ready old ++ line)) {x = all-ready + k} {y = length (take all-ready old) + k} (omega (arith, fronted))
+      ∙ take-append-add (take all-ready old) line k
+
+  pub whole-long : all-ready + k ≤ length whole
+  whole-long = omega (arith, ap length whole-is, length-append (take all-ready old) line, fronted, h)
+
+  pub cut-mode : mode-in cut ≡ mode-in old
+  cut-mode = ap mode-in cut-is ∙ stays-at old all-ready long (take k line) (ascii-characters + 1) (omega arith)
+
+  pub cut-choices : choices-in cut ≡ choices-in old
+  cut-choices = ap choose (ap (λ (l : List ℕ). getD l ascii-characters 0) cut-is ∙ stays-at old all-ready long (take k line) ascii-characters (omega arith))
+
+  pub cut-line : line-in cut ≡ take k line
+  cut-line = ap line-in cut-is ∙ stays-behind old all-ready long (take k line)
+
+  pub cut-blank : (decompositions : List ℕ) → Blank decompositions old → Blank decompositions cut
+  cut-blank decompositions b = record {
+    long = omega (arith, length-take-le (all-ready + k) whole whole-long);
+    zeros = ap (λ (l : List ℕ). take all-places (drop index-from l)) cut-is ∙ stays-part old all-ready long (take k line) index-from all-places (omega arith) ∙ b .zeros;
+    forms = ap forms-in cut-is ∙ stays-part old all-ready long (take k line) forms-from form-entries (omega arith) ∙ b .forms;
+  }
+
+-- What is made ready is cut off: its parts are there
+module _ (prepared : List ℕ) (long : all-ready ≤ length prepared) where
+  pub ready-letters : letters-in (ready-in prepared) ≡ letters-in prepared
+  ready-letters = cut-part prepared all-ready long 0 ascii-characters (omega arith)
+
+  pub ready-choices : choices-in (ready-in prepared) ≡ choices-in prepared
+  ready-choices = ap choose (getD-take all-ready prepared ascii-characters 0 (omega arith))
+
+  pub ready-mode : mode-in (ready-in prepared) ≡ mode-in prepared
+  ready-mode = getD-take all-ready prepared (ascii-characters + 1) 0 (omega arith)
+
+  pub ready-forms : forms-in (ready-in prepared) ≡ forms-in prepared
+  ready-forms = cut-part prepared all-ready long forms-from form-entries (omega arith)
+
+  pub ready-index : drop index-from (ready-in prepared) ≡ take all-places (drop index-from prepared)
+  ready-index = drop-take index-from all-places prepared
+
+  pub ready-long : index-from ≤ length (ready-in prepared)
+  ready-long = omega (arith, length-take-le all-ready prepared long)
+
+-- The index of the decomposition table has come back into zeros, then the choice and the mode are written
+module _ (zeros index : List ℕ) (capitals mode : ℕ) (z : zeros ≡ replicate (all-ready + 2 * (most-characters + 3)) 0) (l : length index ≡ form-entries) where
+  abbrev filled : List ℕ
+  filled = putMid forms-from form-entries zeros index
+
+  abbrev pub asked : List ℕ
+  asked = set (set filled ascii-characters capitals) (ascii-characters + 1) mode
+
+  abbrev rest : List ℕ
+  rest = replicate (all-places + 2 * (most-characters + 3)) 0
+
+  filled-is : filled ≡ replicate forms-from 0 ++ (index ++ rest)
+  filled-is = ap (λ (x : List ℕ). putMid forms-from form-entries x index) z
+
+  filled-long : length filled ≡ all-ready + 2 * (most-characters + 3)
+  filled-long =
+      omega (
+        arith,
+        ap length filled-is,
+        length-append (replicate forms-from 0) (index ++ rest),
+        length-append index rest,
+        l,
+        length-replicate {A = ℕ} forms-from 0,
+        length-replicate {A = ℕ} (all-places + 2 * (most-characters + 3)) 0,
       )
+
+  pub asked-long : length asked ≡ all-ready + 2 * (most-characters + 3)
+  asked-long =
+      length-set (set filled ascii-characters capitals) (ascii-characters + 1) mode ∙ length-set filled ascii-characters capitals ∙ filled-long
+
+  pub asked-mode : mode-in asked ≡ mode
+  asked-mode = getD-set-same (set filled ascii-characters capitals) (ascii-characters + 1) mode 0
+      (omega (arith, length-set filled ascii-characters capitals, filled-long))
+
+  pub asked-choices : choices-in asked ≡ choose capitals
+  asked-choices = ap choose
+      (getD-set-other (set filled ascii-characters capitals) (ascii-characters + 1) ascii-characters mode 0 (λ e. omega arith)
+      ∙ getD-set-same filled ascii-characters capitals 0 (omega (arith, filled-long)))
+
+  asked-from : (i : ℕ) → ascii-characters + 1 < i → drop i asked ≡ drop i filled
+  asked-from i h =
+      drop-set-lt i (set filled ascii-characters capitals) (ascii-characters + 1) mode h ∙ drop-set-lt i filled ascii-characters capitals (omega arith)
+
+  from-forms : drop forms-from filled ≡ index ++ rest
+  from-forms = ap (drop forms-from) filled-is ∙ drop-at (replicate forms-from 0) (index ++ rest) forms-from (length-replicate {A = ℕ} forms-from 0)
+
+  pub asked-blank : (decompositions : List ℕ) → index ≡ index-of decompositions → Blank decompositions asked
+  asked-blank decompositions e = record {
+    long = omega (arith, asked-long);
+    zeros = ap (take all-places) (asked-from index-from (omega arith) ∙ sym (drop-drop form-entries forms-from filled) ∙ ap (drop form-entries) from-forms
+        ∙ drop-at index rest form-entries l);
+    forms = ap (take form-entries) (asked-from forms-from (omega arith) ∙ from-forms) ∙ take-at index rest form-entries l ∙ e;
+  }
 
 -- A line begins with a text between spaces, and as much again is lent with it for the classes
 module _ (line : List ℕ) (t : Text) (n : ℕ) (full : length line ≡ 2 * (most-characters + 3)) (few : n ≤ most-characters)

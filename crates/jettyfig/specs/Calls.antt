@@ -10,24 +10,20 @@ use Rattle.base.specs.Pick.{pick}
 use Rattle.base.specs.Lists.{or-else}
 use Rattle.base.specs.Alls.{All}
 use Rattle.definition.specs.Limits.{slot-bytes}
-use Rattle.definition.specs.Texts.{Text, at}
-use Rattle.definition.specs.Tables.{Class, Tables}
+use Rattle.definition.specs.Texts.{Text}
+use Rattle.definition.specs.Tables.{Class, Decomposition, Tables}
 use Rattle.definition.specs.Edges.{State}
-use Rattle.definition.specs.Building.{rule-lattice}
-use Rattle.definition.specs.Bounds.{Bounded, Sound}
-use Rattle.definition.specs.DecompositionRows.{decompositions-of}
-use Rattle.definition.specs.Sample.{no-decompositions}
-use Rattle.definition.specs.FormsOff.{Silent, stands-off, by-rules-alone, accepted-off, empty-silent}
+use Rattle.definition.specs.Decomposing.{lattice}
+use Rattle.definition.specs.Bounds.{Sound}
 use Rattle.definition.specs.Listing.{shown}
 use Rattle.definition.specs.Refusals.{Refusal, refuse, refused-output}
-use Rattle.definition.specs.Capacity.{misfit}
-use Rattle.definition.specs.Call.{Inputs, Called, tables, decompositions, characters, before-text, refusal, refused, written, within-room, accepted, unless-refused, called}
+use Rattle.definition.specs.Capacity.{overflow}
+use Rattle.definition.specs.Call.{Inputs, Called, tables, decompositions, characters, before-text, refusal, refused, written, within-room, with-lattice, accepted, unless-refused, called}
 use Rattle.definition.specs.Call.{text-refusal}
 use Rattle.lent_bytes.specs.Puts.{put-at}
 use Rattle.edge.specs.declared.Added.the-variants.{Fits}
 use Rattle.edge.specs.Slots.{edges-of}
 use Rattle.edge.specs.Stored.{edge-count}
-use Rattle.edge.specs.Fitting.{stored-fits}
 use Rattle.passes.specs.Reached.{Reached}
 use Rattle.output.specs.Shows.{Shows}
 use Rattle.jettyfig.specs.declared.Answer.{Answer}
@@ -72,35 +68,24 @@ module _ (w out out′ : List ℕ) (r : ℕ) (s : Shows w out out′ r) (h : out
       (ap (λ (m : ℕ). returned (refusing refused-output m) z) (s .needed)
       ∙ ap (returned (refusing refused-output (length w))) (e ∙ ap (λ (m : ℕ). replicate {A = ℕ} m 0) (s .kept ∙ sym l)))
 
--- What is built, where no character stands for others: a refusal of slots or room, or the lattice
-module _ (i : Inputs) (D : Tables) (t : Text) (ok : Bounded D) (e : i .decompositions ≡ no-decompositions) where
+-- What is built: a refusal of slots or room, or the lattice
+module _ (i : Inputs) (D : Tables) (t : Text) where
+  abbrev ds : List Decomposition
+  ds = decompositions i
+
   abbrev built : Option Refusal
-  built = misfit (i .slots / slot-bytes) (i .room) (rule-lattice D t .0)
-
-  silent : Silent (decompositions i)
-  unfolding decompositions
-  silent = subst Silent (sym (ap decompositions-of e ∙ empty-silent)) tt
-
-  by-rules : by-rules-alone i D t ≡ accepted i D t
-  by-rules = sym (accepted-off i D t ok (λ p l. stands-off (decompositions i) silent (at t p)))
+  built = overflow D ds t (i .slots / slot-bytes) (i .room) (lattice D ds t .0)
 
   pub built-refused : (x : Refusal) → built ≡ some x → refused i x ≡ accepted i D t
-  unfolding by-rules-alone within-room
-  built-refused x q = sym (ap (within-room i D t (rule-lattice D t)) q) ∙ by-rules
+  unfolding accepted with-lattice within-room
+  built-refused x e = sym (ap (within-room i D t (lattice D ds t)) e)
 
-  pub built-all : built ≡ none → written i (length (rule-lattice D t .0)) (shown D t (i .mode) (rule-lattice D t)) ≡ accepted i D t
-  unfolding by-rules-alone within-room
-  built-all q = sym (ap (within-room i D t (rule-lattice D t)) q) ∙ by-rules
+  pub built-all : built ≡ none → written i (length (lattice D ds t .0)) (shown D t (i .mode) (lattice D ds t)) ≡ accepted i D t
+  unfolding accepted with-lattice within-room
+  built-all e = sym (ap (within-room i D t (lattice D ds t)) e)
 
 -- a lattice that is in the slots has found room
 module _ {ks : List Class} {n : ℕ} {S R S′ R′ P′ : List ℕ} {most : ℕ} {st : State} {c u : ℕ} (b : Reached ks n S R S′ R′ P′ most st (Fits c u)) where
-  pub reached-fits : misfit (length S / slot-bytes) (length R) (st .0) ≡ none
-  reached-fits =
-      ap (misfit (length S / slot-bytes) (length R)) (sym (b .came .0 .edges))
-      ∙ ap (λ (k : ℕ). misfit (k / slot-bytes) (length R) (edges-of R′ c S′)) (sym (b .slots))
-      ∙ ap (λ (k : ℕ). misfit (length S′ / slot-bytes) k (edges-of R′ c S′)) (sym (b .room))
-      ∙ stored-fits S′ R′ c u (b .came .0 .stored)
-
   pub reached-count : c ≡ length (st .0)
   reached-count = sym (edge-count S′ R′ c) ∙ ap length (b .came .0 .edges)
 

@@ -1,18 +1,35 @@
 -- What the steps of a call are lent, and what they promise: of every world that the line and what was made ready stand for.
-use Prim.Native.Nat.{ℕ}
-use mathlib.Core.List.{List, _++_}
+use Prim.Native.Nat.{ℕ, _+_, _*_, _≤_}
+use mathlib.Core.List.{List, [], _++_}
+use mathlib.Core.Option.{none}
 use mathlib.Core.Path.{_≡_}
+use lib.ListN.{length, take, drop, replicate}
+use Rattle.definition.specs.Limits.{most-mode, most-characters, most-edges, most-bytes}
 use Rattle.definition.specs.Texts.{Text}
 use Rattle.definition.specs.Tables.{Choices}
+use Rattle.definition.specs.Building.{each}
+use Rattle.definition.specs.Decomposing.{start}
+use Rattle.definition.specs.DecompositionRows.{decompositions-of}
 use Rattle.definition.specs.Listing.{shown}
 use Rattle.definition.specs.Utf8.{decoded}
 use Rattle.definition.specs.Call.{Inputs, Called, tables-of, written, accepted, unless-refused}
-use Rattle.definition.specs.Call.{text-refusal}
+use Rattle.definition.specs.Call.{before-text, text-refusal, refusal}
 use Rattle.utf8.specs.Lines.{spaced}
-use Rattle.table_classes.specs.Told.{kinds-of}
+use Rattle.table_classes.specs.Told.{kinds-of, alphas-of}
+use Rattle.table_vowels.specs.Told.{FineVowels}
+use Rattle.table_decompositions.specs.Index.{index-of}
+use Rattle.rule_memo.specs.Kept.{all-places, Kept}
+use Rattle.edge.specs.declared.Filled.{Filled}
+use Rattle.edge.specs.declared.Added.the-variants as Added
 use Rattle.edge.specs.Slots.{edges-of}
 use Rattle.edge_places.specs.Shows.{memory}
-use Rattle.words.specs.Given.{World, size, Told, Lined, Lent}
+use Rattle.words.specs.Given.{World, kinds, size, size-in, letters-in, choices-in, mode-in, forms-in, index-from, all-ready, ready-in, line-in}
+use Rattle.words.specs.Given.{Prepared, Told, Lined, Lent}
+use Rattle.passes.specs.Starts.{Began}
+use Rattle.second_pass.specs.Fallback.{Own, chars-in}
+use Rattle.decomp.specs.declared.Grew.the-variants.{Fits}
+use Rattle.decomp.specs.Rows.{Formable}
+use Rattle.decomp.specs.Grown.{GrewTo}
 use Rattle.output.specs.declared.Built.{Built}
 use Rattle.jettyfig.specs.Verdicts.{given}
 
@@ -20,11 +37,69 @@ use Rattle.jettyfig.specs.Verdicts.{given}
 unfoldable pub with-kinds : List ℕ → Text → List ℕ
 with-kinds classes t = spaced t ++ kinds-of classes (spaced t)
 
--- there is a world
-pub record Readied (ready line : List ℕ) : Type 0 where
+-- What is prepared while the text is read: the mode, the choices and the index of the decomposition table stand in it, and
+-- there is room for the index of the rule table with what is kept of characters
+pub record Blank (decompositions prepared : List ℕ) : Type 0 where
+  pub long : all-ready ≤ length prepared
+  pub zeros : take all-places (drop index-from prepared) ≡ replicate all-places 0
+  pub forms : forms-in prepared ≡ index-of decompositions
+
+-- the tables and the code have passed, and the line has room for a text of the most characters
+pub record ReadReady (rules classes vowels decompositions code prepared : List ℕ) : Type 0 where
+  pub passed : before-text (mode-in prepared) (choices-in prepared) rules classes vowels decompositions code ≡ none
+  pub blank : Blank decompositions prepared
+  pub whole : length prepared ≡ all-ready + 2 * (most-characters + 3)
+
+-- and the text, whose line stands there
+pub record PrepareReady (rules classes vowels decompositions code text prepared : List ℕ) : Type 0 where
+  pub passed : refusal (given (mode-in prepared) (choices-in prepared) rules classes vowels decompositions code text 0 0 0) ≡ none
+  pub blank : Blank decompositions prepared
+  pub line : line-in prepared ≡ with-kinds classes (decoded text)
+
+-- What was made ready of it
+pub record MadeReady (rules classes before after : List ℕ) : Type 0 where
+  pub letters : letters-in after ≡ alphas-of classes
+  pub choices : choices-in after ≡ choices-in before
+  pub mode : mode-in after ≡ mode-in before
+  pub forms : forms-in after ≡ forms-in before
+  pub index : Kept rules (take all-places (drop index-from after))
+  pub line : line-in after ≡ line-in before
+  pub long : length after ≡ length before
+
+-- The first pass is done in a world over what was lent, with some vowel and decomposition table: the state that it leads to
+-- from no edges is kept, and nothing has overflowed
+pub record FirstDone (rules prepared vowels decompositions code slots room places : List ℕ) (filled : Filled) (w : World) : Type 0 where
+  pub told : Told w (ready-in prepared)
+  pub lined : Lined w (line-in prepared)
+  pub fine : FineVowels vowels
+  pub grew : GrewTo (tables-of (w .choices) rules (w .classes) vowels code) (decompositions-of decompositions) (w .text) (kinds w) (size w)
+      slots room slots room places (size-in (line-in prepared) * (most-edges * most-bytes))
+      (each (start (tables-of (w .choices) rules (w .classes) vowels code) (decompositions-of decompositions) (w .text)) (size w) 0 ([], replicate (size w) 0))
+      (Fits (filled .count) (filled .used))
+
+-- All is ready for the second pass: the tables are as they were checked, the text's bytes are its own, starts tell how many
+-- edges each found, and there is such a world
+pub record FinishReady (rules prepared code text slots room places starts : List ℕ) (filled : Filled) : Type 0 where
+  pub long : all-ready ≤ length prepared
+  pub table : Prepared rules (ready-in prepared)
+  pub own : Own text (chars-in (line-in prepared))
+  pub mode : mode-in (ready-in prepared) ≤ most-mode
+  pub began : Began slots room (size-in (line-in prepared)) starts (Added.Fits (filled .count) (filled .used))
+  pub vowels : List ℕ
+  pub decompositions : List ℕ
   pub world : World
-  pub told : Told world ready
-  pub lined : Lined world line
+  pub first : FirstDone rules prepared vowels decompositions code slots room places filled world
+
+-- All is ready: the tables are as they were checked, the text's bytes are its own, and there is a world
+pub record RomanizeReady (rules prepared classes vowels decompositions text : List ℕ) : Type 0 where
+  pub long : all-ready ≤ length prepared
+  pub forms : Formable rules (ready-in prepared) classes vowels decompositions
+  pub own : Own text (chars-in (line-in prepared))
+  pub mode : mode-in (ready-in prepared) ≤ most-mode
+  pub world : World
+  pub same : world .classes ≡ classes
+  pub told : Told world (ready-in prepared)
+  pub lined : Lined world (line-in prepared)
 
 -- what is shown is written, or its refusal
 abbrev pub Writes : Inputs → List ℕ → List ℕ → List ℕ → List ℕ → List ℕ → List ℕ → List ℕ → Built → Called → Type 0
@@ -32,17 +107,25 @@ Writes i rules ready code line slots room places built r =
     (vowels : List ℕ) (w : World) → Told w ready → Lent w line places → edges-of room (built .count) slots ≡ w .edges
     → r ≡ written i (built .count) (shown (tables-of (w .choices) rules (w .classes) vowels code) (w .text) (built .mode) (w .edges, memory (size w) places))
 
+-- what is left of an accepted call after its first pass, whatever tables and world that was done in
+abbrev pub Finishes : List ℕ → List ℕ → List ℕ → List ℕ → List ℕ → List ℕ → List ℕ → Filled → ℕ → Called → Type 0
+Finishes rules prepared code text slots room places filled out r =
+    (vowels decompositions : List ℕ) (w : World) → FirstDone rules prepared vowels decompositions code slots room places filled w
+    → r ≡ accepted (given (mode-in (ready-in prepared)) (w .choices) rules (w .classes) vowels decompositions code text (length slots) (length room) out)
+    (tables-of (w .choices) rules (w .classes) vowels code) (w .text)
+
 -- and the whole of an accepted call
-abbrev pub Romanizes : ℕ → List ℕ → List ℕ → List ℕ → List ℕ → List ℕ → List ℕ → ℕ → ℕ → ℕ → Called → Type 0
-Romanizes mode rules ready vowels code text line slots room out r =
-    (w : World) → Told w ready → Lined w line
-    → r ≡ accepted (given mode (w .choices) rules (w .classes) vowels code text slots room out) (tables-of (w .choices) rules (w .classes) vowels code) (w .text)
+abbrev pub Romanizes : List ℕ → List ℕ → List ℕ → List ℕ → List ℕ → List ℕ → List ℕ → ℕ → ℕ → ℕ → Called → Type 0
+Romanizes rules prepared classes vowels decompositions code text slots room out r =
+    (w : World) → w .classes ≡ classes → Told w (ready-in prepared) → Lined w (line-in prepared)
+    → r ≡ accepted (given (mode-in (ready-in prepared)) (w .choices) rules (w .classes) vowels decompositions code text slots room out)
+    (tables-of (w .choices) rules (w .classes) vowels code) (w .text)
 
 -- the same in terms of the call, whose tables and text are right; and of one whose text may be refused
-abbrev pub Prepares : ℕ → Choices → List ℕ → List ℕ → List ℕ → List ℕ → List ℕ → ℕ → ℕ → ℕ → Called → Type 0
-Prepares mode choices rules classes vowels code text slots room out r =
-    r ≡ accepted (given mode choices rules classes vowels code text slots room out) (tables-of choices rules classes vowels code) (decoded text)
+abbrev pub Prepares : ℕ → Choices → List ℕ → List ℕ → List ℕ → List ℕ → List ℕ → List ℕ → ℕ → ℕ → ℕ → Called → Type 0
+Prepares mode choices rules classes vowels decompositions code text slots room out r =
+    r ≡ accepted (given mode choices rules classes vowels decompositions code text slots room out) (tables-of choices rules classes vowels code) (decoded text)
 
-abbrev pub Reads : ℕ → Choices → List ℕ → List ℕ → List ℕ → List ℕ → List ℕ → ℕ → ℕ → ℕ → Called → Type 0
-Reads mode choices rules classes vowels code text slots room out r =
-    r ≡ unless-refused (given mode choices rules classes vowels code text slots room out) (text-refusal text)
+abbrev pub Reads : ℕ → Choices → List ℕ → List ℕ → List ℕ → List ℕ → List ℕ → List ℕ → ℕ → ℕ → ℕ → Called → Type 0
+Reads mode choices rules classes vowels decompositions code text slots room out r =
+    r ≡ unless-refused (given mode choices rules classes vowels decompositions code text slots room out) (text-refusal text)

@@ -13,12 +13,14 @@ use Rattle.base.specs.Pick.{pick}
 use Rattle.base.specs.Lists.{all, same, or-else, first-of}
 use Rattle.base.specs.ListLaws.{same-some, first-past, first-here}
 use Rattle.definition.specs.Blocks.{small}
+use Rattle.definition.specs.DecompositionRows.{right-part, decomposition-fault}
 use Rattle.definition.specs.Refusals.{Refusal, refuse, when, placed, refused-code}
 use Rattle.definition.specs.Utf8.{bad-sequence, bad-from, decoded, decode-by}
 use Rattle.definition.specs.Call.{Inputs, Called, code-right, first-left-out, before-text, text-refusal, refusal}
-use Rattle.definition.specs.Sample.{no-decompositions}
 use Rattle.definition.specs.Accepted as accepted
 use Rattle.definition.specs.Tables.{Choices}
+use Rattle.table_decompositions.specs.Index.{index-of}
+use Rattle.table_decompositions.specs.Told.{checked-ready}
 use Rattle.jettyfig.specs.declared.Answer.{Answer}
 use Rattle.jettyfig.specs.declared.Asked.{Asked}
 use Rattle.jettyfig.specs.declared.Verdict.{Verdict}
@@ -29,6 +31,16 @@ abbrev pub verdict-means : Verdict → Option Refusal
 verdict-means Accepted = none
 verdict-means (Refused n p) = some (refuse n p)
 
+-- where nothing is refused, the decomposition table is right and its index was filled
+abbrev pub Indexed : List ℕ → List ℕ → Verdict → Type 0
+Indexed decompositions index Accepted = (decomposition-fault decompositions ≡ none) × (index ≡ index-of decompositions)
+Indexed decompositions index (Refused n p) = Unit {0}
+
+pub indexed-so : (decompositions index : List ℕ) → decomposition-fault decompositions ≡ none → index ≡ index-of (right-part decompositions)
+    → (v : Verdict) → Indexed decompositions index v
+indexed-so b x e f Accepted = (e, f ∙ ap index-of (checked-ready b e .0))
+indexed-so b x e f (Refused n p) = tt
+
 -- the choices of a call
 abbrev pub choose : ℕ → Choices
 choose capitals = record { capitals = capitals }
@@ -36,15 +48,15 @@ choose capitals = record { capitals = capitals }
 abbrev pub chosen : Asked → Choices
 chosen a = choose (a .capitals)
 
--- what a call was given, and what it returned with the whole output. No character stands for others
-abbrev pub given : ℕ → Choices → List ℕ → List ℕ → List ℕ → List ℕ → List ℕ → ℕ → ℕ → ℕ → Inputs
-given mode choices rules classes vowels code text slots room out = record {
+-- what a call was given, and what it returned with the whole output
+abbrev pub given : ℕ → Choices → List ℕ → List ℕ → List ℕ → List ℕ → List ℕ → List ℕ → ℕ → ℕ → ℕ → Inputs
+given mode choices rules classes vowels decompositions code text slots room out = record {
   mode = mode;
   choices = choices;
   rules = rules;
   classes = classes;
   vowels = vowels;
-  decompositions = no-decompositions;
+  decompositions = decompositions;
   code = code;
   text = text;
   slots = slots;
@@ -116,8 +128,9 @@ empty-text : text-refusal [] ≡ none
 unfolding text-refusal first-of placed when bad-sequence bad-from decoded decode-by first-left-out pick
 empty-text = refl
 
-pub passed : (mode : ℕ) (choices : Choices) (rules classes vowels code : List ℕ) → before-text mode choices rules classes vowels no-decompositions code ≡ none
-    → accepted.Accepted (given mode choices rules classes vowels code [] 0 0 0)
-passed mode choices rules classes vowels code e =
-    let i = given mode choices rules classes vowels code [] 0 0 0 in
+pub passed : (mode : ℕ) (choices : Choices) (rules classes vowels decompositions code : List ℕ)
+    → before-text mode choices rules classes vowels decompositions code ≡ none
+    → accepted.Accepted (given mode choices rules classes vowels decompositions code [] 0 0 0)
+passed mode choices rules classes vowels decompositions code e =
+    let i = given mode choices rules classes vowels decompositions code [] 0 0 0 in
     accepted.accepted-of i (nothing-refused i e empty-text)

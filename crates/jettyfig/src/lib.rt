@@ -1,5 +1,6 @@
-// The call: a text romanized by three lent tables and a language code, in lent slots and text room, into a lent output; or
+// The call: a text romanized by four lent tables and a language code, in lent slots and text room, into a lent output; or
 // one numbered refusal. Nothing is assumed of what is lent.
+ghost use mathlib.Core.List.{List};
 ghost use mathlib.Core.Option.{none};
 ghost use mathlib.Core.Path.{_≡_};
 ghost use Prim.Native.Nat.{ℕ, _+_, _*_, _≤_};
@@ -9,35 +10,30 @@ ghost use Rattle.definition.specs.Refusals.{placed};
 ghost use Rattle.definition.specs.Utf8.{decoded};
 ghost use Rattle.definition.specs.ClassRows.{class-fault};
 ghost use Rattle.definition.specs.RuleFaults.{rule-fault};
-ghost use Rattle.definition.specs.Call.{Inputs, before-text, text-refusal, refusal, called};
-ghost use Rattle.definition.specs.Sample.{no-decompositions};
+ghost use Rattle.definition.specs.Call.{Inputs, before-text, text-refusal, called};
 ghost use Rattle.table_blocks.specs.Faults.{table-means};
 ghost use Rattle.rule_table_check.specs.Told.{rules-means};
 ghost use Rattle.utf8.specs.Read.{text-means};
-ghost use Rattle.table_classes.specs.Told.{alphas-of};
-ghost use Rattle.table_vowels.specs.Told.{FineVowels};
-ghost use Rattle.rule_memo.specs.Kept.{all-places, Kept};
-ghost use Rattle.words.specs.Given.{letters-in, choices-in, index-from, index-in, Prepared};
-ghost use Rattle.second_pass.specs.Fallback.{Own, chars-in};
+ghost use Rattle.words.specs.Given.{form-entries, choices-in, mode-in};
 ghost use Rattle.output.specs.Whole.{Whole};
-ghost use Rattle.jettyfig.specs.Verdicts.{verdict-means, choose, chosen, given, returned, by-code};
-ghost use Rattle.jettyfig.specs.Steps.{with-kinds, Readied, Writes, Romanizes, Prepares, Reads};
+ghost use Rattle.jettyfig.specs.Verdicts.{verdict-means, Indexed, choose, chosen, given, returned, by-code};
+ghost use Rattle.jettyfig.specs.Steps.{with-kinds, Blank, ReadReady, PrepareReady, MadeReady, FinishReady, RomanizeReady, Writes, Finishes, Romanizes, Prepares, Reads};
+use decomp::Grew;
 use edge::Added;
+use edge::Filled;
 use output::Built;
 use rule_table_check::RulesRead;
 use table_blocks::TableRead;
 use utf8::TextRead;
 
-// What is prepared for a text of the most characters: the text between spaces and the classes of its characters; and an
-// entry for each position, its end too.
-const LINE: usize = 2 * utf8::MOST_LINE;
+// What is prepared for a text of the most characters: what is made ready, and behind it the text between spaces and the
+// classes of its characters; and an entry for each position, its end too.
+const PREPARED: usize = words::READY + 2 * utf8::MOST_LINE;
 
 const MOST_PLACES: usize = utf8::MOST_CHARACTERS + 1;
 
-// What is made ready: the ASCII letters, the choices, and what a look-up goes by.
+// Of so many characters it is told whether they are letters.
 const ASCII: usize = 128;
-
-const READY: usize = words::INDEX + rule_memo::PLACES;
 
 // The highest mode, the highest number of a choice, and the letters of a language code.
 const MOST_MODE: u8 = 3;
@@ -55,6 +51,8 @@ const REFUSED_CLASSES: u64 = 3;
 
 const REFUSED_VOWELS: u64 = 4;
 
+const REFUSED_DECOMPOSITIONS: u64 = 13;
+
 const REFUSED_CODE: u64 = 5;
 
 const REFUSED_UTF8: u64 = 6;
@@ -66,6 +64,8 @@ const REFUSED_LEFT_OUT: u64 = 8;
 const REFUSED_SLOTS: u64 = 9;
 
 const REFUSED_ROOM: u64 = 10;
+
+const REFUSED_EDGE_TEXT: u64 = 14;
 
 const REFUSED_OUTPUT: u64 = 11;
 
@@ -141,9 +141,20 @@ fn check_code(code: &[u8]) -> Verdict
     Verdict::Refused(REFUSED_CODE, 0)
 }
 
-// What is refused before the text is read, in this order.
-fn check(asked: Asked, rules: &[u8], classes: &[u8], vowels: &[u8], code: &[u8]) -> Verdict
-    ensures { λ r. ⌜ verdict-means r ≡ before-text (asked .mode) (chosen asked) (now (rules .entry)) (now (classes .entry)) (now (vowels .entry)) no-decompositions (now (code .entry)) ⌝ }
+// What is refused before the text is read, in this order. The decomposition table's index is filled by the way.
+fn check(
+    asked: Asked,
+    rules: &[u8],
+    classes: &[u8],
+    vowels: &[u8],
+    decompositions: &[u8],
+    code: &[u8],
+    index: &mut [u32],
+) -> Verdict
+    requires { ⌜ now index ≡ replicate form-entries 0 ⌝ }
+    ensures verdict { λ r. ⌜ verdict-means r ≡ before-text (asked .mode) (chosen asked) (now (rules .entry)) (now (classes .entry)) (now (vowels .entry))
+        (now (decompositions .entry)) (now (code .entry)) ⌝ }
+    ensures index { λ r. ⌜ Indexed (now (decompositions .entry)) (now (index .exit)) r ⌝ }
 {
     if MOST_MODE < asked.mode {
         return Verdict::Refused(REFUSED_MODE, 0);
@@ -162,6 +173,13 @@ fn check(asked: Asked, rules: &[u8], classes: &[u8], vowels: &[u8], code: &[u8])
     let of_vowels = of_table(REFUSED_VOWELS, table_vowels::check_vowels(vowels));
     let Verdict::Accepted = of_vowels else {
         return of_vowels;
+    };
+    let of_decompositions = of_table(
+        REFUSED_DECOMPOSITIONS,
+        table_decompositions::check_decompositions(decompositions, index),
+    );
+    let Verdict::Accepted = of_decompositions else {
+        return of_decompositions;
     };
     check_code(code)
 }
@@ -215,38 +233,38 @@ fn no_entries() -> [u32; MOST_PLACES]
     [0u32; MOST_PLACES]
 }
 
-// What is shown of the lattice, or the refusal of slots or text room that are too short. What is kept by position and by start while it is built begins as zeros.
-fn romanize<'a>(
-    mode: u8,
+// What is shown of the lattice once its first pass has found room: the fallbacks come behind its edges, or the refusal of slots
+// or text room that are too short for them.
+fn finish<'a>(
     rules: &'a [u8],
-    ready: &[u32],
-    vowels: &[u8],
+    prepared: &[u32],
     code: &[u8],
     text: &'a [u8],
-    line: &[u32],
     slots: &mut [u8],
     room: &mut [u8],
+    places: &mut [u32],
+    starts: &mut [u32],
+    filled: Filled,
     out: &mut [u8],
 ) -> Answer
-    requires { ⌜ Prepared (now rules) (now ready) × FineVowels (now vowels) × Own (now text) (chars-in (now line)) × Readied (now ready) (now line)
-        × (mode ≤ 3) × (now out ≡ replicate (length (now out)) 0) ⌝ }
-    ensures { λ r. ⌜ Romanizes mode (now (rules .entry)) (now (ready .entry)) (now (vowels .entry)) (now (code .entry)) (now (text .entry)) (now (line .entry))
-        (length (now (slots .entry))) (length (now (room .entry))) (length (now (out .entry))) (returned r (now (out .exit))) ⌝ }
+    requires { ⌜ FinishReady (now rules) (now prepared) (now code) (now text) (now slots) (now room) (now places) (now starts) filled
+        × (now out ≡ replicate (length (now out)) 0) ⌝ }
+    ensures { λ r. ⌜ Finishes (now (rules .entry)) (now (prepared .entry)) (now (code .entry)) (now (text .entry)) (now (slots .entry)) (now (room .entry))
+        (now (places .entry)) filled (length (now (out .entry))) (returned r (now (out .exit))) ⌝ }
 {
-    let end = words::text_len(line) + 1;
-    let mut places = no_entries();
-    let mut starts = no_entries();
-    match lattice::build_lattice(
+    let ready = words::ready_in(prepared);
+    let line = words::line_in(prepared);
+    match second_pass::add_rom_fall_back_singles(
         rules,
         ready,
-        vowels,
         code,
         text,
         line,
         slots,
         room,
-        &mut places[..end],
-        &mut starts[..end],
+        places,
+        starts,
+        filled,
     ) {
         Added::Fits { count, used } => show(
             rules,
@@ -255,9 +273,13 @@ fn romanize<'a>(
             line,
             slots,
             room,
-            &mut places[..end],
-            &starts[..end],
-            Built { mode, count, used },
+            places,
+            starts,
+            Built {
+                mode: words::mode_in(ready) as u8,
+                count,
+                used,
+            },
             out,
         ),
         Added::NoSlot(p) => refuse(REFUSED_SLOTS, p as u64),
@@ -265,47 +287,101 @@ fn romanize<'a>(
     }
 }
 
-// What the engine asks besides the tables' rows: the ASCII letters, the choices, then the index of the rule table with what
-// it has of the line's characters.
-fn make_ready(asked: Asked, rules: &[u8], classes: &[u8], line: &[u32], ready: &mut [u32])
-    requires { ⌜ (rule-fault (now rules) ≡ none) × (class-fault (now classes) ≡ none) × (now ready ≡ replicate (index-from + all-places) 0) ⌝ }
-    ensures { λ _. ⌜ (letters-in (now (ready .exit)) ≡ alphas-of (now (classes .entry))) × (choices-in (now (ready .exit)) ≡ chosen asked)
-        × Kept (now (rules .entry)) (index-in (now (ready .exit))) ⌝ }
-{
-    ready[words::CAPITALS] = asked.capitals as u32;
-    table_classes::classify_ascii(classes, &mut ready[..ASCII]);
-    let half = line.len() / 2;
-    rule_memo::fill(rules, &line[..half], &mut ready[words::INDEX..]);
-}
-
-// What is shown of a text, with what the engine is lent made ready first.
-fn prepare<'a>(
-    asked: Asked,
+// What is shown of the lattice, or the refusal of slots or text room that are too short, or of an edge's text that is too
+// long. What is kept by position and by start while it is built begins as zeros.
+fn romanize<'a>(
     rules: &'a [u8],
+    prepared: &[u32],
     classes: &[u8],
     vowels: &[u8],
+    decompositions: &[u8],
     code: &[u8],
     text: &'a [u8],
-    line: &[u32],
     slots: &mut [u8],
     room: &mut [u8],
     out: &mut [u8],
 ) -> Answer
-    requires { ⌜ (refusal (given (asked .mode) (chosen asked) (now rules) (now classes) (now vowels) (now code) (now text) 0 0 0) ≡ none)
-        × (now line ≡ with-kinds (now classes) (decoded (now text))) × (now out ≡ replicate (length (now out)) 0) ⌝ }
-    ensures { λ r. ⌜ Prepares (asked .mode) (chosen asked) (now (rules .entry)) (now (classes .entry)) (now (vowels .entry)) (now (code .entry)) (now (text .entry))
+    requires { ⌜ RomanizeReady (now rules) (now prepared) (now classes) (now vowels) (now decompositions) (now text)
+        × (now out ≡ replicate (length (now out)) 0) ⌝ }
+    ensures { λ r. ⌜ Romanizes (now (rules .entry)) (now (prepared .entry)) (now (classes .entry)) (now (vowels .entry)) (now (decompositions .entry))
+        (now (code .entry)) (now (text .entry)) (length (now (slots .entry))) (length (now (room .entry))) (length (now (out .entry))) (returned r (now (out .exit))) ⌝ }
+{
+    let end = words::text_len(words::line_in(prepared)) + 1;
+    let mut places = no_entries();
+    let mut starts = no_entries();
+    match decomp_pass::add_romanization(
+        rules,
+        prepared,
+        classes,
+        vowels,
+        decompositions,
+        code,
+        slots,
+        room,
+        &mut places[..end],
+        &mut starts[..end],
+    ) {
+        Grew::Fits { count, used } => finish(
+            rules,
+            prepared,
+            code,
+            text,
+            slots,
+            room,
+            &mut places[..end],
+            &mut starts[..end],
+            Filled {
+                count,
+                used,
+                since: count,
+            },
+            out,
+        ),
+        Grew::NoSlot(p) => refuse(REFUSED_SLOTS, p as u64),
+        Grew::NoRoom(p) => refuse(REFUSED_ROOM, p as u64),
+        Grew::TooLong(p) => refuse(REFUSED_EDGE_TEXT, p as u64),
+    }
+}
+
+// What the engine asks besides the tables' rows: the ASCII letters, and the index of the rule table with what it has of the
+// line's characters.
+fn make_ready(rules: &[u8], classes: &[u8], prepared: &mut [u32])
+    requires { ⌜ (rule-fault (now rules) ≡ none) × (class-fault (now classes) ≡ none) × ((decompositions : List ℕ) × Blank decompositions (now prepared)) ⌝ }
+    ensures { λ _. ⌜ MadeReady (now (rules .entry)) (now (classes .entry)) (now (prepared .entry)) (now (prepared .exit)) ⌝ }
+{
+    table_classes::classify_ascii(classes, &mut prepared[..ASCII]);
+    let half = (prepared.len() - words::READY) / 2;
+    rule_memo::fill(rules, &mut prepared[words::INDEX..], half);
+}
+
+// What is shown of a text, with what the engine is lent made ready first.
+fn prepare<'a>(
+    rules: &'a [u8],
+    classes: &[u8],
+    vowels: &[u8],
+    decompositions: &[u8],
+    code: &[u8],
+    text: &'a [u8],
+    prepared: &mut [u32],
+    slots: &mut [u8],
+    room: &mut [u8],
+    out: &mut [u8],
+) -> Answer
+    requires { ⌜ PrepareReady (now rules) (now classes) (now vowels) (now decompositions) (now code) (now text) (now prepared)
+        × (now out ≡ replicate (length (now out)) 0) ⌝ }
+    ensures { λ r. ⌜ Prepares (mode-in (now (prepared .entry))) (choices-in (now (prepared .entry))) (now (rules .entry)) (now (classes .entry)) (now (vowels .entry))
+        (now (decompositions .entry)) (now (code .entry)) (now (text .entry))
         (length (now (slots .entry))) (length (now (room .entry))) (length (now (out .entry))) (returned r (now (out .exit))) ⌝ }
 {
-    let mut ready = [0u32; READY];
-    make_ready(asked, rules, classes, line, &mut ready);
+    make_ready(rules, classes, prepared);
     romanize(
-        asked.mode,
         rules,
-        &ready,
+        prepared,
+        classes,
         vowels,
+        decompositions,
         code,
         text,
-        line,
         slots,
         room,
         out,
@@ -333,30 +409,31 @@ fn lay_out(classes: &[u8], text: &[u8], line: &mut [u32]) -> TextRead
 
 // The text read and romanized, or its refusal.
 fn read<'a>(
-    asked: Asked,
     rules: &'a [u8],
     classes: &[u8],
     vowels: &[u8],
+    decompositions: &[u8],
     code: &[u8],
     text: &'a [u8],
+    prepared: &mut [u32],
     slots: &mut [u8],
     room: &mut [u8],
     out: &mut [u8],
 ) -> Answer
-    requires { ⌜ (before-text (asked .mode) (chosen asked) (now rules) (now classes) (now vowels) no-decompositions (now code) ≡ none) × (now out ≡ replicate (length (now out)) 0) ⌝ }
-    ensures { λ r. ⌜ Reads (asked .mode) (chosen asked) (now (rules .entry)) (now (classes .entry)) (now (vowels .entry)) (now (code .entry)) (now (text .entry))
+    requires { ⌜ ReadReady (now rules) (now classes) (now vowels) (now decompositions) (now code) (now prepared) × (now out ≡ replicate (length (now out)) 0) ⌝ }
+    ensures { λ r. ⌜ Reads (mode-in (now (prepared .entry))) (choices-in (now (prepared .entry))) (now (rules .entry)) (now (classes .entry)) (now (vowels .entry))
+        (now (decompositions .entry)) (now (code .entry)) (now (text .entry))
         (length (now (slots .entry))) (length (now (room .entry))) (length (now (out .entry))) (returned r (now (out .exit))) ⌝ }
 {
-    let mut line = [0u32; LINE];
-    match lay_out(classes, text, &mut line) {
+    match lay_out(classes, text, &mut prepared[words::READY..]) {
         TextRead::Characters(n) => prepare(
-            asked,
             rules,
             classes,
             vowels,
+            decompositions,
             code,
             text,
-            &line[..2 * (n + 3)],
+            &mut prepared[..words::READY + 2 * (n + 3)],
             slots,
             room,
             out,
@@ -373,6 +450,7 @@ fn respond<'a>(
     rules: &'a [u8],
     classes: &[u8],
     vowels: &[u8],
+    decompositions: &[u8],
     code: &[u8],
     text: &'a [u8],
     slots: &mut [u8],
@@ -380,17 +458,40 @@ fn respond<'a>(
     out: &mut [u8],
 ) -> Answer
     ensures { λ r. ⌜ returned r (now (out .exit)) ≡ called (given (asked .mode) (chosen asked) (now (rules .entry)) (now (classes .entry)) (now (vowels .entry))
-        (now (code .entry)) (now (text .entry)) (length (now (slots .entry))) (length (now (room .entry))) (length (now (out .entry)))) ⌝ }
+        (now (decompositions .entry)) (now (code .entry)) (now (text .entry)) (length (now (slots .entry))) (length (now (room .entry))) (length (now (out .entry)))) ⌝ }
 {
     lent_bytes::clear(out);
-    match check(asked, rules, classes, vowels, code) {
+    let mut prepared = [0u32; PREPARED];
+    match check(
+        asked,
+        rules,
+        classes,
+        vowels,
+        decompositions,
+        code,
+        &mut prepared[words::FORMS..words::INDEX],
+    ) {
         Verdict::Refused(number, place) => refuse(number, place),
-        Verdict::Accepted => read(asked, rules, classes, vowels, code, text, slots, room, out),
+        Verdict::Accepted => {
+            prepared[words::CAPITALS] = asked.capitals as u32;
+            prepared[words::MODE] = asked.mode as u32;
+            read(
+                rules,
+                classes,
+                vowels,
+                decompositions,
+                code,
+                text,
+                &mut prepared,
+                slots,
+                room,
+                out,
+            )
+        }
     }
 }
 
-// The call. Answer and output are the definition's `called`, of a decomposition table without rows: no character stands for
-// others here; slots and text room are zeros afterwards, whatever happened.
+// The call. Answer and output are the definition's `called`; slots and text room are zeros afterwards, whatever happened.
 #[no_mangle]
 pub extern "C" fn jettyfig_romanize<'a>(
     mode: u8,
@@ -398,6 +499,7 @@ pub extern "C" fn jettyfig_romanize<'a>(
     rules: &'a [u8],
     classes: &[u8],
     vowels: &[u8],
+    decompositions: &[u8],
     code: &[u8],
     text: &'a [u8],
     slots: &mut [u8],
@@ -405,12 +507,23 @@ pub extern "C" fn jettyfig_romanize<'a>(
     out: &mut [u8],
 ) -> Answer
     ensures answer { λ r. ⌜ returned r (now (out .exit)) ≡ called (given mode (choose capitals) (now (rules .entry)) (now (classes .entry)) (now (vowels .entry))
-        (now (code .entry)) (now (text .entry)) (length (now (slots .entry))) (length (now (room .entry))) (length (now (out .entry)))) ⌝ }
+        (now (decompositions .entry)) (now (code .entry)) (now (text .entry)) (length (now (slots .entry))) (length (now (room .entry))) (length (now (out .entry)))) ⌝ }
     ensures slots { λ _. ⌜ now (slots .exit) ≡ replicate (length (now (slots .entry))) 0 ⌝ }
     ensures room { λ _. ⌜ now (room .exit) ≡ replicate (length (now (room .entry))) 0 ⌝ }
 {
     let asked = Asked { mode, capitals };
-    let answered = respond(asked, rules, classes, vowels, code, text, slots, room, out);
+    let answered = respond(
+        asked,
+        rules,
+        classes,
+        vowels,
+        decompositions,
+        code,
+        text,
+        slots,
+        room,
+        out,
+    );
     lent_bytes::clear(slots);
     lent_bytes::clear(room);
     answered

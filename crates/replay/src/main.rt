@@ -94,37 +94,7 @@ fn skip(input: &[u8], at: usize) -> usize
     at + 4 + number(input, at)
 }
 
-// A call over rubbish.
-fn run_call<'a>(
-    mode: u8,
-    capitals: u8,
-    rules: &'a [u8],
-    classes: &[u8],
-    vowels: &[u8],
-    code: &[u8],
-    text: &'a [u8],
-    slots: &mut [u8],
-    room: &mut [u8],
-    out: &mut [u8],
-) -> Answer {
-    fill(slots, RUBBISH);
-    fill(room, RUBBISH);
-    fill(out, RUBBISH);
-    jettyfig::jettyfig_romanize(
-        mode,
-        capitals,
-        rules,
-        classes,
-        vowels,
-        code,
-        text,
-        slots,
-        room,
-        out,
-    )
-}
-
-// The call at `at`, in rooms as large as it says: its fields stand at `at + 14`, `a`, `b`, `c` and `d`.
+// The call at `at` over rubbish, in rooms as large as it says: its fields stand at `at + 14`, `a`, `b`, `c`, `d` and `e`.
 fn run_fields(
     input: &[u8],
     at: usize,
@@ -132,15 +102,19 @@ fn run_fields(
     b: usize,
     c: usize,
     d: usize,
+    e: usize,
     slots: &mut [u8],
     room: &mut [u8],
     out: &mut [u8],
 ) -> Answer
-    requires { ⌜ (at < 16777216) × (a < 100000000000) × (b < 100000000000) × (c < 100000000000) × (d < 100000000000) ⌝ }
+    requires { ⌜ (at < 16777216) × (a < 100000000000) × (b < 100000000000) × (c < 100000000000) × (d < 100000000000) × (e < 100000000000) ⌝ }
 {
     let mode = (base::byte(input, at) % 256) as u8;
     let capitals = (base::byte(input, at + 1) % 256) as u8;
-    run_call(
+    fill(slots, RUBBISH);
+    fill(room, RUBBISH);
+    fill(out, RUBBISH);
+    jettyfig::jettyfig_romanize(
         mode,
         capitals,
         field(input, at + 14),
@@ -148,6 +122,7 @@ fn run_fields(
         field(input, b),
         field(input, c),
         field(input, d),
+        field(input, e),
         slots,
         room,
         out,
@@ -164,11 +139,12 @@ fn run_in(input: &[u8], at: usize, slots: &mut [u8], room: &mut [u8], out: &mut 
     let c = skip(input, b);
     let d = skip(input, c);
     let e = skip(input, d);
-    let next = e + 13 + number(input, e + 5);
-    let answer = run_fields(input, at, a, b, c, d, slots, room, out);
+    let f = skip(input, e);
+    let next = f + 13 + number(input, f + 5);
+    let answer = run_fields(input, at, a, b, c, d, e, slots, room, out);
     Ran {
         next,
-        right: is_right(input, e, answer, slots, room, out),
+        right: is_right(input, f, answer, slots, room, out),
     }
 }
 
@@ -202,8 +178,8 @@ fn lent_room() -> [u8; 131072] {
     [0u8; 131072]
 }
 
-fn calls_room() -> [u8; 1600000] {
-    [0u8; 1600000]
+fn calls_room() -> [u8; 2700000] {
+    [0u8; 2700000]
 }
 
 // All calls, one behind the other.

@@ -1,4 +1,4 @@
-// romanize RULES CLASSES VOWELS CODE MODE [capitals]: romanizes standard input by the tables of three files.
+// romanize RULES CLASSES VOWELS DECOMPOSITIONS CODE MODE [capitals]: romanizes standard input by the tables of four files.
 //
 // CODE is a language code, or - for none. MODE is 0 for the string, 1 for the path, 2 for the path and its alternatives, 3 for
 // all edges; these are written a line for each edge: start, end, annotation, core length and text. The word `capitals` turns that
@@ -17,8 +17,8 @@ use rule_row_faults::Fault;
 use rule_table_check::RulesRead;
 
 // What an annotation is called, eight letters each: its number is its place.
-const NAMES: [u8; 120] =
-    *b"none    rom     core    tail    expandeddeleted single  Mn      Cf      Co      Zs      orig    alt     alt2    alt3    ";
+const NAMES: [u8; 128] =
+    *b"none    rom     core    tail    expandeddeleted single  Mn      Cf      Co      Zs      orig    alt     alt2    alt3    decomp  ";
 
 // No mode.
 const NO_MODE: u8 = 255;
@@ -44,16 +44,20 @@ fn vowels_room() -> [u8; 4096] {
     [0u8; 4096]
 }
 
+fn decompositions_room() -> [u8; 524288] {
+    [0u8; 524288]
+}
+
 fn text_room() -> [u8; 65536] {
     [0u8; 65536]
 }
 
-fn slots_room() -> [u8; 104448] {
-    [0u8; 104448]
+fn slots_room() -> [u8; 108120] {
+    [0u8; 108120]
 }
 
-fn edges_room() -> [u8; 1723392] {
-    [0u8; 1723392]
+fn edges_room() -> [u8; 1783980] {
+    [0u8; 1783980]
 }
 
 fn out_room() -> [u8; 1793029] {
@@ -63,11 +67,11 @@ fn out_room() -> [u8; 1793029] {
 fn usage() {
     io::write_all(
         STDERR_FILENO,
-        b"usage: romanize RULES CLASSES VOWELS CODE MODE [capitals] < TEXT\n",
+        b"usage: romanize RULES CLASSES VOWELS DECOMPOSITIONS CODE MODE [capitals] < TEXT\n",
     );
     io::write_all(
         STDERR_FILENO,
-        b"three table files; a language code, or - for none; 0 string, 1 path, 2 alternatives, 3 all edges\n",
+        b"four table files; a language code, or - for none; 0 string, 1 path, 2 alternatives, 3 all edges\n",
     );
     io::write_all(
         STDERR_FILENO,
@@ -133,14 +137,14 @@ fn capitals_of(word: &[u8]) -> u8
 // The choice of capitals by the arguments behind the mode.
 fn capitals_chosen() -> u8 {
     let count = os::arg_count();
-    if count == 6 {
+    if count == 7 {
         return CAPITALS_OFF;
     }
-    if count != 7 {
+    if count != 8 {
         return NO_CHOICE;
     }
     let mut word = [0u8; 16];
-    let n = os::arg(6, &mut word);
+    let n = os::arg(7, &mut word);
     capitals_of(&word[..n])
 }
 
@@ -300,6 +304,21 @@ fn say_choice() {
     );
 }
 
+// What a refusal of the decomposition table or of a decomposition's text means, and what its place is.
+fn say_decomposition(number: u64) {
+    if number == 13 {
+        io::write_all(
+            STDERR_FILENO,
+            b"the decomposition table is faulty; offset of the first faulty row, 0 for the header: ",
+        );
+        return;
+    }
+    io::write_all(
+        STDERR_FILENO,
+        b"a decomposition's text is longer than 198 bytes; its position in characters: ",
+    );
+}
+
 // What a refusal of anything but the rule table means, and its place.
 fn say_meaning(number: u64, place: u64) {
     if number < 6 {
@@ -308,8 +327,10 @@ fn say_meaning(number: u64, place: u64) {
         say_text(number);
     } else if number < 12 {
         say_room(number);
-    } else {
+    } else if number == 12 {
         say_choice();
+    } else {
+        say_decomposition(number);
     }
     io::print_decimal(STDERR_FILENO, place);
 }
@@ -382,6 +403,7 @@ fn romanize<'a>(
     rules: &'a [u8],
     classes: &[u8],
     vowels: &[u8],
+    decompositions: &[u8],
     code: &[u8],
     text: &'a [u8],
 ) {
@@ -394,6 +416,7 @@ fn romanize<'a>(
         rules,
         classes,
         vowels,
+        decompositions,
         code,
         text,
         &mut slots,
@@ -413,15 +436,15 @@ fn romanize<'a>(
 }
 
 // The tables are read; code, mode and text are not yet.
-fn with_tables(capitals: u8, rules: &[u8], classes: &[u8], vowels: &[u8]) {
+fn with_tables(capitals: u8, rules: &[u8], classes: &[u8], vowels: &[u8], decompositions: &[u8]) {
     let mut code = io::buffer();
-    let c = os::arg(4, &mut code);
+    let c = os::arg(5, &mut code);
     if os::errno() != 0 {
         os::fail(b"CODE");
         return;
     }
     let mut mode = [0u8; 2];
-    let m = os::arg(5, &mut mode);
+    let m = os::arg(6, &mut mode);
     let mut text = text_room();
     let t = read_all(STDIN_FILENO, b"standard input", &mut text);
     if t == text.len() {
@@ -433,6 +456,7 @@ fn with_tables(capitals: u8, rules: &[u8], classes: &[u8], vowels: &[u8]) {
         rules,
         classes,
         vowels,
+        decompositions,
         code_of(&code[..c]),
         without_line_end(&text[..t]),
     );
@@ -459,5 +483,16 @@ fn main() {
     if v == vowels.len() {
         return;
     }
-    with_tables(capitals, &rules[..r], &classes[..c], &vowels[..v]);
+    let mut decompositions = decompositions_room();
+    let d = read_table(4, &mut decompositions);
+    if d == decompositions.len() {
+        return;
+    }
+    with_tables(
+        capitals,
+        &rules[..r],
+        &classes[..c],
+        &vowels[..v],
+        &decompositions[..d],
+    );
 }

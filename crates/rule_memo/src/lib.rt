@@ -3,8 +3,8 @@
 // put there last of those with the same lowest seven bits. A character that is not there is looked up.
 ghost use mathlib.Core.Option.{none};
 ghost use mathlib.Core.Path.{_≡_};
-ghost use Prim.Native.Nat.{_+_, _*_, _%_, _<_};
-ghost use lib.ListN.{length, replicate};
+ghost use Prim.Native.Nat.{_+_, _*_, _%_, _<_, _≤_};
+ghost use lib.ListN.{length, take, drop, replicate};
 ghost use Rattle.definition.specs.RuleFaults.{rule-fault};
 ghost use Rattle.rule_memo.specs.Kept.{kept-characters, all-places, place, character-limit, count-limit, Tells, Kept, fits, note-of, noted};
 use rule_table::Found;
@@ -101,15 +101,16 @@ fn learn(rules: &[u8], index: &mut [u32], c: u32)
     put(index, c, found);
 }
 
-// The index of the rule table, and behind it what the table has of a text's characters.
-pub fn fill(rules: &[u8], text: &[u32], index: &mut [u32])
-    requires { ⌜ (rule-fault (now rules) ≡ none) × (now index ≡ replicate all-places 0) ⌝ }
-    ensures { λ _. ⌜ Kept (now (rules .entry)) (now (index .exit)) ⌝ }
+// The index of the rule table, behind it what the table has of some characters; these stand behind both.
+pub fn fill(rules: &[u8], all: &mut [u32], count: usize)
+    requires { ⌜ (rule-fault (now rules) ≡ none) × (take all-places (now all) ≡ replicate all-places 0) × (all-places + count ≤ length (now all)) ⌝ }
+    ensures { λ _. ⌜ Kept (now (rules .entry)) (take all-places (now (all .exit))) × (drop all-places (now (all .exit)) ≡ drop all-places (now (all .entry))) ⌝ }
 {
-    rule_table::fill_index(rules, &mut index[..rule_table::INDEX_ENTRIES]);
+    rule_table::fill_index(rules, &mut all[..rule_table::INDEX_ENTRIES]);
     let mut i: usize = 0;
-    while i < text.len() {
-        learn(rules, index, text[i]);
+    while i < count {
+        let c = all[PLACES + i];
+        learn(rules, &mut all[..PLACES], c);
         i += 1;
     }
 }

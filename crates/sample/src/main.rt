@@ -1,5 +1,5 @@
-// Document 01's sample program: all of standard input is the text, mode 1, the sample tables and no code; the output in
-// lower-case hex and a line end. A refusal goes to standard error with its number and place.
+// Document 01's sample program: all of standard input is the text, mode 1, the sample tables, no decompositions and no code;
+// the output in lower-case hex and a line end. A refusal goes to standard error with its number and place.
 ghost use mathlib.Core.Path.{_≡_};
 ghost use Prim.Native.Nat.{_<_};
 ghost use Rattle.sample.specs.Hex.{hex-digit};
@@ -484,6 +484,9 @@ const CLASSES: [u8; 143] = [
 // Vowels.
 const VOWELS: [u8; 13] = [1, 0, 0, 0, 8, 5, 0, 1, 97, 6, 0, 1, 97];
 
+// Decompositions: none.
+const DECOMPOSITIONS: [u8; 5] = [1, 0, 0, 0, 0];
+
 // A digit in lower-case hex.
 fn digit(x: u8) -> u8
     requires { ⌜ x < 16 ⌝ }
@@ -521,6 +524,7 @@ fn main() {
         &RULES,
         &CLASSES,
         &VOWELS,
+        &DECOMPOSITIONS,
         b"",
         &text[..n],
         &mut slots,

@@ -1,20 +1,24 @@
-// Runs the checks of the three tables on the vectors of standard input, which tests/tables/vectors.py writes, and counts
+// Runs the checks of the four tables on the vectors of standard input, which tests/tables/vectors.py writes, and counts
 // those whose answer is another than the one given.
 ghost use mathlib.Core.Path.{_≡_};
 ghost use Prim.Native.Nat.{_+_, _<_, _≤_};
-ghost use lib.ListN.{length, getD, drop};
+ghost use lib.ListN.{length, getD, drop, replicate};
 ghost use Rattle.base.specs.Big.{be3};
-ghost use Rattle.definition.specs.Refusals.{placed};
+ghost use Rattle.definition.specs.Refusals.{placed, refused-decompositions};
+ghost use Rattle.definition.specs.DecompositionRows.{decomposition-fault};
 ghost use Rattle.table_blocks.specs.Faults.{table-means};
 ghost use Rattle.rule_table_check.specs.Told.{rules-means};
+ghost use Rattle.rule_table.specs.Index.{index-entries};
 ghost use Rattle.tables_vectors.specs.Given.{judged-means, fault-of, is-given, is-right};
 use rule_table_check::RulesRead;
 use table_blocks::TableRead;
 
-// The numbers that refuse a class table and a vowel table.
+// The numbers that refuse a class table, a vowel table and a decomposition table.
 const REFUSED_CLASSES: u64 = 3;
 
 const REFUSED_VOWELS: u64 = 4;
+
+const REFUSED_DECOMPOSITIONS: u64 = 13;
 
 // What a check says of a table: nothing, or the number that refuses it and the place.
 enum Judged {
@@ -67,7 +71,22 @@ fn of_table(number: u64, read: TableRead) -> Judged
     }
 }
 
-// What the check says of a table: 0 rules, 1 classes, 2 vowels.
+// The index that the check of a decomposition table fills.
+fn no_index() -> [u32; table_decompositions::INDEX_ENTRIES]
+    ensures { λ r. ⌜ r ≡ replicate index-entries 0 ⌝ }
+{
+    [0u32; table_decompositions::INDEX_ENTRIES]
+}
+
+fn checked_decompositions(table: &[u8]) -> Judged
+    ensures { λ r. ⌜ judged-means r ≡ placed refused-decompositions (decomposition-fault (now (table .entry))) ⌝ }
+{
+    let mut index = no_index();
+    let read = table_decompositions::check_decompositions(table, &mut index);
+    of_table(REFUSED_DECOMPOSITIONS, read)
+}
+
+// What the check says of a table: 0 rules, 1 classes, 2 vowels, 3 decompositions.
 fn checked(kind: usize, table: &[u8]) -> Judged
     ensures { λ r. ⌜ judged-means r ≡ fault-of kind (now (table .entry)) ⌝ }
 {
@@ -77,7 +96,10 @@ fn checked(kind: usize, table: &[u8]) -> Judged
     if kind == 1 {
         return of_table(REFUSED_CLASSES, table_classes::check_classes(table));
     }
-    of_table(REFUSED_VOWELS, table_vowels::check_vowels(table))
+    if kind == 2 {
+        return of_table(REFUSED_VOWELS, table_vowels::check_vowels(table));
+    }
+    checked_decompositions(table)
 }
 
 // Is the answer the one given: 0 and no place, or the number that refuses and its place?
@@ -100,12 +122,12 @@ fn is_answer(judged: Judged, number: usize, place: usize) -> bool
     }
 }
 
-// The answer of the table at `at`, which is `len` bytes long and whose answer stands behind it. A fourth kind has none.
+// The answer of the table at `at`, which is `len` bytes long and whose answer stands behind it. A fifth kind has none.
 fn is_right(input: &[u8], kind: usize, at: usize, len: usize) -> bool
     requires { ⌜ (at + len ≤ length (now input)) × (at < 0x10000000) × (len < 0x10000000) ⌝ }
     ensures { λ r. ⌜ r ≡ is-right (now (input .entry)) kind at len ⌝ }
 {
-    if 2 < kind {
+    if 3 < kind {
         return false;
     }
     let judged = checked(kind, lent_bytes::part(input, at, len));
@@ -148,8 +170,8 @@ fn run_all(input: &[u8]) -> Tally
 }
 
 // Room for the vectors. It is apart so that `main` knows its length alone, and no proof goes through its bytes.
-fn room() -> [u8; 2000000] {
-    [0u8; 2000000]
+fn room() -> [u8; 2200000] {
+    [0u8; 2200000]
 }
 
 fn main() {

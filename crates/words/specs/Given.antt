@@ -1,7 +1,8 @@
 -- What the engine is lent, in two slices: the line is the text's characters between spaces, one before and two behind,
 -- and then the class of each of these in one number; what was made ready is of each ASCII character whether it is a
--- letter, then the choices, and then the index of the rule table with what is kept of characters. What they stand for is
--- a world: a class table, the choices, a text, and the edges so far, which places show.
+-- letter, then the choices and the mode, the index of the decomposition table, and the index of the rule table with what is
+-- kept of characters. What they stand for is a world: a class table, the choices, a text, and the edges so far, which places
+-- show.
 use mathlib.Core.Bool.{Bool, _&&_}
 use mathlib.Core.Path.{_≡_, refl, sym, ap, _∙_, subst}
 use mathlib.Core.List.{List, [], _∷_, _++_, append-assoc}
@@ -20,7 +21,7 @@ use Rattle.definition.specs.Edges.{Edge, View, view}
 use Rattle.utf8.specs.Lines.{spaced}
 use Rattle.table_classes.specs.Told.{Fine, packed, kinds-of, alphas-of}
 use Rattle.table_classes.specs.Packing.{Says, says, says-alpha, kinds-at, kinds-length}
-use Rattle.rule_memo.specs.Kept.{Kept}
+use Rattle.rule_memo.specs.Kept.{all-places, Kept}
 use Rattle.edge_places.specs.Shows.{Shows, told, shows-none, shows-told}
 
 -- what stands from `s` to `e`
@@ -38,18 +39,41 @@ size-in line = length line / 2 - 3
 abbrev pub kind-in : List ℕ → ℕ → ℕ
 kind-in line i = getD line (length line / 2 + i) 0
 
--- what was made ready: of each ASCII character whether it is a letter, the choices, and the index with what is kept
+-- what was made ready: of each ASCII character whether it is a letter, the choices, the mode, and both indexes
 abbrev pub letters-in : List ℕ → List ℕ
 letters-in ready = take ascii-characters ready
 
 abbrev pub choices-in : List ℕ → Choices
 choices-in ready = record { capitals = getD ready ascii-characters 0 }
 
+abbrev pub mode-in : List ℕ → ℕ
+mode-in ready = getD ready (ascii-characters + 1) 0
+
+-- the index of the decomposition table has so many entries
+abbrev pub form-entries : ℕ
+form-entries = 512
+
+abbrev pub forms-from : ℕ
+forms-from = ascii-characters + 2
+
+abbrev pub forms-in : List ℕ → List ℕ
+forms-in ready = take form-entries (drop forms-from ready)
+
 abbrev pub index-from : ℕ
-index-from = ascii-characters + 1
+index-from = forms-from + form-entries
 
 abbrev pub index-in : List ℕ → List ℕ
 index-in ready = drop index-from ready
+
+-- all of it, and the line that is prepared behind it
+abbrev pub all-ready : ℕ
+all-ready = index-from + all-places
+
+abbrev pub ready-in : List ℕ → List ℕ
+ready-in prepared = take all-ready prepared
+
+abbrev pub line-in : List ℕ → List ℕ
+line-in prepared = drop all-ready prepared
 
 pub record Prepared (rules ready : List ℕ) : Type 0 where
   pub table : Kept rules (index-in ready)

@@ -11,7 +11,7 @@ ghost use Rattle.definition.specs.ClassRows.{classes-of};
 ghost use Rattle.definition.specs.Boundaries.{fresh, word-start, word-end};
 ghost use Rattle.table_classes.specs.Told.{alphas-of};
 ghost use Rattle.words.specs.Did.{Asked};
-ghost use Rattle.words.specs.Given.{World, kinds, seen, size-in, kind-in, index-from, index-in, letters-in, choices-in, Prepared, Told, Lined, Lent, alpha-kind};
+ghost use Rattle.words.specs.Given.{World, kinds, seen, size-in, kind-in, forms-in, index-from, index-in, letters-in, choices-in, mode-in, all-ready, ready-in, line-in, Prepared, Told, Lined, Lent, alpha-kind};
 ghost use Rattle.words.specs.Found.{Row, Rows, rules-in};
 ghost use Rattle.words.specs.Looks.{Looked};
 ghost use Rattle.words.specs.Choosing.{choices-of};
@@ -38,10 +38,19 @@ pub struct Choices {
     pub capitals: u32,
 }
 
-// Where what was made ready has the choice of capitals, behind the ASCII letters, and where the index begins.
+// Where what was made ready has the choice of capitals, behind the ASCII letters, and the mode; where the index of the
+// decomposition table begins, with so many entries, and where that of the rule table does; and how much all of it is.
 pub const CAPITALS: usize = 128;
 
-pub const INDEX: usize = CAPITALS + 1;
+pub const MODE: usize = CAPITALS + 1;
+
+pub const FORMS: usize = MODE + 1;
+
+pub const FORM_ENTRIES: usize = 512;
+
+pub const INDEX: usize = FORMS + FORM_ENTRIES;
+
+pub const READY: usize = INDEX + rule_memo::PLACES;
 
 // The number at a place; past the end there is 0.
 pub fn number_at(numbers: &[u32], i: usize) -> u32
@@ -140,12 +149,42 @@ pub fn choices_in(ready: &[u32]) -> Choices
     }
 }
 
-// The index of the rule table with what is kept of characters, behind the choices.
+// The mode, behind the choices.
+pub fn mode_in(ready: &[u32]) -> u32
+    ensures { λ r. ⌜ r ≡ mode-in (now (ready .entry)) ⌝ }
+{
+    number_at(ready, MODE)
+}
+
+// The index of the decomposition table.
+pub fn forms_in<'a>(ready: &'a [u32]) -> &'a [u32]
+    requires { ⌜ index-from ≤ length (now ready) ⌝ }
+    ensures { λ r. ⌜ now r ≡ forms-in (now (ready .entry)) ⌝ }
+{
+    &ready[FORMS..INDEX]
+}
+
+// The index of the rule table with what is kept of characters, behind the other.
 pub fn index_in<'a>(ready: &'a [u32]) -> &'a [u32]
     requires { ⌜ index-from ≤ length (now ready) ⌝ }
     ensures { λ r. ⌜ now r ≡ index-in (now (ready .entry)) ⌝ }
 {
     &ready[INDEX..]
+}
+
+// What is prepared: what was made ready, and the line behind it.
+pub fn ready_in<'a>(prepared: &'a [u32]) -> &'a [u32]
+    requires { ⌜ all-ready ≤ length (now prepared) ⌝ }
+    ensures { λ r. ⌜ now r ≡ ready-in (now (prepared .entry)) ⌝ }
+{
+    &prepared[..READY]
+}
+
+pub fn line_in<'a>(prepared: &'a [u32]) -> &'a [u32]
+    requires { ⌜ all-ready ≤ length (now prepared) ⌝ }
+    ensures { λ r. ⌜ now r ≡ line-in (now (prepared .entry)) ⌝ }
+{
+    &prepared[READY..]
 }
 
 // Does the rule in a row bring a letter, unless it asks a start of word?

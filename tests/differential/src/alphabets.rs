@@ -6,7 +6,7 @@ const OTHER: u8 = 0;
 pub const LETTER: u8 = 1;
 const NONSPACING: u8 = 2;
 const MARK: u8 = 3;
-const NUMBER: u8 = 4;
+pub const NUMBER: u8 = 4;
 const CF: u8 = 5;
 const CO: u8 = 6;
 pub const ZS: u8 = 7;
@@ -228,6 +228,26 @@ pub const TARGETS: [&str; 113] = [
     "xi", "yi", "wi", "tsu", "ssi", "bcd", "xyz", "nn", "kk", "ngy", "'", "~", "", "", " ", " k", "k ", " ka ", "  k",
     "k  ", " a", "a ", " i", "kh", "kha", "sha", "tt", "ngo", "yo", "oo", "ae", "iu", "kyi", "gya", "+k", "n-", "K1",
 ];
+
+/// characters that have decompositions, and their usual classes
+pub static FORM_KINDS: [(char, Class); 7] = [
+    mark('①', NUMBER, 0, 0),
+    mark('②', NUMBER, 0, 0),
+    mark('½', NUMBER, 0, 0),
+    letter('Ａ', 0),
+    mark('ⓩ', OTHER, 0, 0),
+    letter('㌔', KATAKANA),
+    mark('\u{2075}', NUMBER, 0, 0),
+];
+pub static FORM_PHRASES: [&str; 9] = ["①②", "1①", "①1", "1½", "½①1", "Ａⓩ", "①x", "½ ", " ①"];
+pub const USUAL_FORMS: [(char, &str); 7] =
+    [('①', "1"), ('②', "2"), ('½', "1\u{2044}2"), ('Ａ', "A"), ('ⓩ', "z"), ('㌔', "キロ"), ('\u{2075}', "5")];
+/// what a row may hold besides the characters of its world
+pub const HELD: [char; 16] =
+    ['1', '1', '2', '2', 'x', 'k', 'Z', 'q', '\u{2044}', '\u{2044}', '\u{2044}', ' ', ' ', 'é', '€', '\u{0301}'];
+/// with its rule three of these are 192 bytes; the other has none
+pub const LONG: char = '\u{3007}';
+pub const FILLER: char = '=';
 
 /// what the choice of capitals may change, and what it must leave; more of these in worlds with lower case
 pub const CAPITALS: [&str; 24] = [

@@ -1,7 +1,8 @@
 //! A call, what it is lent, and an answer.
 
 /// tables, code and text: what `Call::parts` has, in this order
-pub const PARTS: [&str; 5] = ["rules", "classes", "vowels", "code", "text"];
+pub const PARTS: [&str; 6] = ["rules", "classes", "vowels", "decompositions", "code", "text"];
+pub type Parts<'a> = [&'a [u8]; PARTS.len()];
 /// what is lent to be written
 pub const ROOMS: [&str; 3] = ["slots", "room", "output"];
 
@@ -12,7 +13,7 @@ pub type Lent = [usize; 3];
 pub struct Call<'a> {
     pub mode: u8,
     pub capitals: u8,
-    pub parts: [&'a [u8]; 5],
+    pub parts: Parts<'a>,
     pub lent: Lent,
 }
 

@@ -1,6 +1,6 @@
 //! Call files, as tests/calls/callfile.py reads and writes them.
 
-use crate::call::{Answer, Call, Numbers};
+use crate::call::{Answer, Call, Numbers, Parts};
 use oracle::Reader;
 use std::path::Path;
 use std::process::Command;
@@ -31,7 +31,7 @@ fn next<'a>(r: &mut Reader<'a>) -> Option<(Call<'a>, Answer<'a>)> {
     for n in &mut lent {
         *n = r.number(4)? as usize;
     }
-    let mut parts: [&[u8]; 5] = [&[]; 5];
+    let mut parts: Parts = Default::default();
     for part in &mut parts {
         let n = r.number(4)? as usize;
         *part = r.take(n)?;

@@ -1,20 +1,22 @@
 //! Damages a call: mode or capitals, a table, the code or the text. What it leaves may still be valid.
 
-use crate::damaged_table::table;
+use crate::call::PARTS;
+use crate::damaged_table::{DECOMPOSITIONS, table};
 use crate::random::Random;
 
 /// tables, code and text, to be changed in place
-pub type Parts = [Vec<u8>; 5];
+pub type Damaged = [Vec<u8>; PARTS.len()];
 
-pub fn damage(random: &mut Random, mode: &mut u8, capitals: &mut u8, parts: &mut Parts) {
+pub fn damage(random: &mut Random, mode: &mut u8, capitals: &mut u8, parts: &mut Damaged) {
     match random.below(100) {
         0..3 => *mode = random.between(4, 255) as u8,
         3..5 => *capitals = random.between(2, 255) as u8,
-        5..43 => table(random, 0, &mut parts[0]),
-        43..58 => table(random, 1, &mut parts[1]),
-        58..69 => table(random, 2, &mut parts[2]),
-        69..74 => code(random, &mut parts[3]),
-        74..92 => text(random, &mut parts[4]),
+        5..33 => table(random, 0, &mut parts[0]),
+        33..44 => table(random, 1, &mut parts[1]),
+        44..53 => table(random, 2, &mut parts[2]),
+        53..73 => table(random, DECOMPOSITIONS, &mut parts[3]),
+        73..77 => code(random, &mut parts[4]),
+        77..92 => text(random, &mut parts[5]),
         // two at once: the one that is looked for first is named
         _ => {
             damage(random, mode, capitals, parts);
@@ -82,7 +84,7 @@ const SEQUENCES: [&[u8]; 46] = [
     b"\xF4\x8F\xBF\xBF",
 ];
 /// both sides of each border of what is left out
-const NEAR_LEFT_OUT: [char; 15] = [
+pub const NEAR_LEFT_OUT: [char; 15] = [
     '\u{EFF}', '\u{F00}', '\u{F40}', '\u{FFF}', '\u{1000}', '\u{27FF}', '\u{2800}', '\u{2855}', '\u{28FF}', '\u{2900}',
     '\u{ABFF}', '\u{AC00}', '\u{C544}', '\u{D7A3}', '\u{D7A4}',
 ];

@@ -1,5 +1,6 @@
 //! Damages a table: bytes, rows, or a row of its own with something at a border.
 
+use crate::damaged_form;
 use crate::damaged_rule::{damage, odd_rule};
 use crate::random::Random;
 use crate::refusals::MOST_ROWS;
@@ -11,15 +12,20 @@ pub const BORDERS: [u8; 26] =
     [0, 1, 2, 3, 4, 5, 7, 8, 9, 12, 15, 16, 17, 31, 32, 63, 64, 65, 96, 97, 122, 123, 126, 127, 128, 255];
 pub const BORDER_SCALARS: [u32; 9] = [0, 0xD7FF, 0xD800, 0xDBFF, 0xDFFF, 0xE000, 0x10FFFF, 0x110000, 0xFFFFFF];
 
-/// `kind` is 0 for rules, 1 for classes, 2 for vowels
+const RULES: usize = 0;
+const CLASSES: usize = 1;
+const VOWELS: usize = 2;
+pub const DECOMPOSITIONS: usize = 3;
+
+/// `kind` is 0 for rules, 1 for classes, 2 for vowels, 3 for decompositions
 pub fn table(random: &mut Random, kind: usize, bytes: &mut Vec<u8>) {
-    if kind < 2 && random.chance(0.002) {
-        *bytes = if kind == 0 { full_rules(random) } else { full_classes(random) };
+    if kind != VOWELS && random.chance(0.002) {
+        *bytes = full(random, kind);
         return;
     }
     let rows = rows(kind, bytes);
-    // a rule row has more fields than the others, and its faults have kinds
-    match random.below(if kind == 0 { 24 } else { 12 }) {
+    // a rule row has more fields than the others, and its faults have kinds; and a decomposition looks at all other rows
+    match random.below(if kind == RULES || kind == DECOMPOSITIONS { 24 } else { 12 }) {
         0..4 => change(random, bytes, 5),
         4 => change(random, bytes, 0),
         5 => drop(bytes.split_off(bytes.len() - random.below(bytes.len().min(12)))),
@@ -28,7 +34,8 @@ pub fn table(random: &mut Random, kind: usize, bytes: &mut Vec<u8>) {
         8 => swap(random, bytes, &rows),
         9 => repeat(random, bytes, &rows),
         10 => take_out(random, bytes, &rows),
-        11..18 if kind == 0 => change_rule(random, bytes, &rows),
+        11..18 if kind == RULES => change_row(random, bytes, &rows, damage),
+        11..20 if kind == DECOMPOSITIONS => damaged_form::damage(random, bytes, &rows),
         _ => put_in(random, kind, bytes, &rows),
     }
     if random.chance(0.85) {
@@ -42,9 +49,10 @@ fn rows(kind: usize, bytes: &[u8]) -> Vec<Range<usize>> {
     let mut at = 5;
     while let Some(left) = bytes.get(at..).filter(|left| left.len() > 2) {
         let n = match kind {
-            0 => 2 + left[0] as usize * 256 + left[1] as usize,
-            1 => 6,
-            _ => 3 + left[2] as usize,
+            RULES => 2 + left[0] as usize * 256 + left[1] as usize,
+            CLASSES => 6,
+            VOWELS => 3 + left[2] as usize,
+            _ => 5 + 3 * *left.get(4).unwrap_or(&0) as usize,
         };
         if n > left.len() {
             break;
@@ -108,7 +116,13 @@ fn take_out(random: &mut Random, bytes: &mut Vec<u8>, rows: &[Range<usize>]) {
     }
 }
 
-fn change_rule(random: &mut Random, bytes: &mut Vec<u8>, rows: &[Range<usize>]) {
+/// one of its rows becomes another
+pub fn change_row(
+    random: &mut Random,
+    bytes: &mut Vec<u8>,
+    rows: &[Range<usize>],
+    damage: impl FnOnce(&mut Random, &mut Vec<u8>),
+) {
     if rows.is_empty() {
         return;
     }
@@ -122,13 +136,14 @@ fn change_rule(random: &mut Random, bytes: &mut Vec<u8>, rows: &[Range<usize>]) 
 fn put_in(random: &mut Random, kind: usize, bytes: &mut Vec<u8>, rows: &[Range<usize>]) {
     let k = random.below(rows.len() + 1);
     let row = match kind {
-        0 => odd_rule(random, rows.get(k).map_or(&[], |row| &bytes[row.clone()])),
-        1 => odd_class(random),
-        _ => odd_vowel(random),
+        RULES => odd_rule(random, rows.get(k).map_or(&[], |row| &bytes[row.clone()])),
+        CLASSES => odd_class(random),
+        VOWELS => odd_vowel(random),
+        _ => damaged_form::odd(random),
     };
     let behind = |at: &&Range<usize>| bytes[(*at).clone()] > row[..];
     let at = match kind {
-        0 => rows.get(k).map(|row| row.end),
+        RULES => rows.get(k).map(|row| row.end),
         _ => rows.iter().find(behind).map(|row| row.start),
     };
     let at = at.unwrap_or(bytes.len());
@@ -169,6 +184,14 @@ fn full_rules(random: &mut Random) -> Vec<u8> {
     }
     let others = random.choice(&[MOST_ROWS - 1, MOST_ROWS]);
     block(std::iter::repeat_n(like, others).chain([last]))
+}
+
+fn full(random: &mut Random, kind: usize) -> Vec<u8> {
+    match kind {
+        RULES => full_rules(random),
+        CLASSES => full_classes(random),
+        _ => damaged_form::full(random),
+    }
 }
 
 /// as many rows as are allowed, or one more

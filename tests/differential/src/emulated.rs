@@ -2,7 +2,7 @@
 //! answers.c is that process, and says what is sent to and fro.
 
 use crate::call::{Call, Numbers};
-use crate::library::Slice;
+use crate::library::{Given, Rooms};
 use std::io::{Read, Write};
 use std::path::Path;
 use std::process::{Child, ChildStdin, ChildStdout, Command, Stdio};
@@ -29,7 +29,7 @@ impl Callee {
     }
 
     /// One call; the slices become what it has left of them.
-    pub fn call(&mut self, call: &Call, parts: &mut [Slice; 5], rooms: &mut [Slice; 3]) -> Numbers {
+    pub fn call(&mut self, call: &Call, parts: &mut Given, rooms: &mut Rooms) -> Numbers {
         self.bytes.clear();
         for choice in [call.mode, call.capitals] {
             self.bytes.extend((choice as u32).to_le_bytes());

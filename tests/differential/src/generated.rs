@@ -1,8 +1,8 @@
 //! Cases from a seed, until the time is over.
 
-use crate::call::Call;
-use crate::damage::{Parts, damage};
-use crate::judge::{Judged, judge};
+use crate::call::{Call, Parts};
+use crate::damage::{Damaged, damage};
+use crate::judge::{Judged, judge, tables as read};
 use crate::random::Random;
 use crate::rooms;
 use crate::tester::Tester;
@@ -10,6 +10,8 @@ use crate::world::{World, world};
 use oracle::Tables;
 use std::time::{Duration, Instant};
 
+/// the first parts are tables
+const TABLES: usize = 4;
 /// damaged calls of a world: some 30 % of its cases
 const DAMAGED: usize = 10;
 
@@ -22,7 +24,7 @@ pub fn run(tester: &mut Tester, seconds: u64, seed: u64) {
     {
         let mut random = Random::of(seed, k);
         let world = world(&mut random);
-        let tables = Tables::read(&world.rules, &world.classes, &world.vowels);
+        let tables = read(parts(&world, &world.asked[0]));
         for asked in &world.asked {
             ask(tester, &name, &mut random, parts(&world, asked), tables.as_ref());
         }
@@ -34,15 +36,16 @@ pub fn run(tester: &mut Tester, seconds: u64, seed: u64) {
     let (cases, numbers) = (tester.cases, tester.by_number());
     let speed = cases as f64 / begun.elapsed().as_secs_f64();
     println!("in {} cases the choice of capitals has changed letters", tester.capitalized);
+    println!("in {} cases a decomposition has an edge", tester.decomposed);
     println!("{cases} cases, {} differ (seed {seed}: {numbers}), {speed:.0}/s", tester.differ());
 }
 
-fn parts<'a>(world: &'a World, (code, text): &'a (&'static str, String)) -> [&'a [u8]; 5] {
-    [&world.rules, &world.classes, &world.vowels, code.as_bytes(), text.as_bytes()]
+fn parts<'a>(world: &'a World, (code, text): &'a (&'static str, String)) -> Parts<'a> {
+    [&world.rules, &world.classes, &world.vowels, &world.decompositions, code.as_bytes(), text.as_bytes()]
 }
 
 /// one lattice in each mode, and some more; what is strange is strange in all of them
-fn ask(tester: &mut Tester, name: &str, random: &mut Random, parts: [&[u8]; 5], tables: Option<&Tables>) {
+fn ask(tester: &mut Tester, name: &str, random: &mut Random, parts: Parts, tables: Option<&Tables>) {
     let capitals = random.below(2) as u8;
     let judged = judge(0, capitals, parts, tables);
     let modes = [0, 1, 2, 3, random.below(4) as u8, random.below(4) as u8];
@@ -58,7 +61,7 @@ fn test(
     name: &str,
     random: &mut Random,
     (mode, capitals): (u8, u8),
-    parts: [&[u8]; 5],
+    parts: Parts,
     judged: &Judged,
 ) {
     let lent = match judged {
@@ -67,20 +70,21 @@ fn test(
     };
     let call = Call { mode, capitals, parts, lent };
     tester.capitalized += judged.capitalized() as u64;
+    tester.decomposed += judged.decomposed() as u64;
     tester.test(name, &call, &judged.wanted(mode, lent), judged.strange(), random.next());
 }
 
 fn ask_damaged(tester: &mut Tester, name: &str, random: &mut Random, world: &World, tables: Option<&Tables>) {
     let asked = &world.asked[random.below(world.asked.len())];
     let whole = parts(world, asked);
-    let mut damaged: Parts = whole.map(<[u8]>::to_vec);
+    let mut damaged: Damaged = whole.map(<[u8]>::to_vec);
     let (mut mode, mut capitals) = (random.below(4) as u8, random.below(2) as u8);
     damage(random, &mut mode, &mut capitals, &mut damaged);
     let parts = damaged.each_ref().map(|part| &part[..]);
-    let read = if parts[..3] == whole[..3] { None } else { Some(Tables::read(parts[0], parts[1], parts[2])) };
-    let tables = match &read {
+    let others = if parts[..TABLES] == whole[..TABLES] { None } else { Some(read(parts)) };
+    let tables = match &others {
         None => tables,
-        Some(read) => read.as_ref(),
+        Some(others) => others.as_ref(),
     };
     let judged = judge(mode, capitals, parts, tables);
     test(tester, name, random, (mode, capitals), parts, &judged);

@@ -1,7 +1,7 @@
 //! What a call must answer: by the checker where mode, capitals, tables, code or text are refused, all else by the oracle;
 //! both must agree on which it is.
 
-use crate::call::{Answer, Lent};
+use crate::call::{Answer, Lent, Parts};
 use crate::refusals::refusal;
 use crate::rooms::answered;
 use oracle::{Shown, Tables, allowed_capitals, allowed_code, allowed_text};
@@ -13,10 +13,16 @@ pub enum Judged {
     Strange(&'static str, Option<(u64, u64)>),
 }
 
-/// `tables` are what the oracle read of the first three parts
-pub fn judge(mode: u8, capitals: u8, parts: [&[u8]; 5], tables: Option<&Tables>) -> Judged {
+/// what the oracle reads of the tables
+pub fn tables([rules, classes, vowels, decompositions, ..]: Parts) -> Option<Tables> {
+    Tables::read([rules, classes, vowels, decompositions])
+}
+
+/// `tables` are what the oracle read of the parts
+pub fn judge(mode: u8, capitals: u8, parts: Parts, tables: Option<&Tables>) -> Judged {
     let refused = refusal(mode, capitals, parts);
-    let allowed = || Some((tables?, allowed_capitals(capitals)?, allowed_code(parts[3])?, allowed_text(parts[4])?));
+    let [.., code, text] = parts;
+    let allowed = || Some((tables?, allowed_capitals(capitals)?, allowed_code(code)?, allowed_text(text)?));
     let accepted = if mode <= 3 { allowed() } else { None };
     match (refused, accepted) {
         (Some((number, place)), None) => Judged::Refused(number, place),
@@ -43,6 +49,11 @@ impl Judged {
     /// whether the choice of capitals has changed letters
     pub fn capitalized(&self) -> bool {
         matches!(self, Judged::Shown(shown) if shown.capitalized > 0)
+    }
+
+    /// whether a decomposition has an edge
+    pub fn decomposed(&self) -> bool {
+        matches!(self, Judged::Shown(shown) if shown.added.iter().any(|edge| !edge.inner.is_empty()))
     }
 
     pub fn strange(&self) -> Option<String> {

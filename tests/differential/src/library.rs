@@ -47,11 +47,14 @@ impl Slice {
     }
 }
 
+pub type Given = [Slice; PARTS.len()];
+pub type Rooms = [Slice; ROOMS.len()];
+
 /// What a call got and what it left; used again and again, so that a call allocates nothing.
 pub struct Library {
     callee: Callee,
-    parts: [Slice; 5],
-    rooms: [Slice; 3],
+    parts: Given,
+    rooms: Rooms,
     pub numbers: Numbers,
 }
 

@@ -2,7 +2,7 @@
 
 use crate::call::{Call, Numbers};
 use crate::jettyfig::{Choices, Rooms, Tables, romanize};
-use crate::library::Slice;
+use crate::library::{self, Given, Slice};
 use std::path::Path;
 
 pub struct Callee;
@@ -12,10 +12,11 @@ impl Callee {
         Callee
     }
 
-    pub fn call(&mut self, call: &Call, parts: &mut [Slice; 5], rooms: &mut [Slice; 3]) -> Numbers {
-        let [rules, classes, vowels, code, text] = parts.each_ref().map(Slice::lent);
+    pub fn call(&mut self, call: &Call, parts: &mut Given, rooms: &mut library::Rooms) -> Numbers {
+        let [rules, classes, vowels, decompositions, code, text] = parts.each_ref().map(Slice::lent);
         let [slots, room, out] = rooms.each_mut().map(Slice::lent_mut);
-        let (tables, rooms) = (Tables { rules, classes, vowels }, Rooms { slots, room, out });
+        let tables = Tables { rules, classes, vowels, decompositions };
+        let rooms = Rooms { slots, room, out };
         let choices = Choices { capitals: call.capitals };
         let answer = romanize(call.mode, choices, tables, code, text, rooms);
         Numbers { number: answer.number, place: answer.place, length: answer.length, edges: answer.edges }

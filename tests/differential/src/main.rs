@@ -11,10 +11,12 @@ mod call;
 mod callfile;
 mod compare;
 mod damage;
+mod damaged_form;
 mod damaged_rule;
 mod damaged_table;
 #[cfg(not(target_arch = "x86_64"))]
 mod emulated;
+mod forms;
 mod generated;
 #[cfg(target_arch = "x86_64")]
 #[path = "../../../include/jettyfig.rs"]

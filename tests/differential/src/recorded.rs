@@ -3,11 +3,10 @@
 use crate::call::{Answer, Call};
 use crate::callfile;
 use crate::compare::told;
-use crate::judge::judge;
+use crate::judge::{judge, tables};
 use crate::random::Random;
 use crate::spoil::Spoil;
 use crate::tester::Tester;
-use oracle::Tables;
 
 pub fn run(tester: &mut Tester, paths: &[String]) -> Result<(), String> {
     let files = paths.iter().map(|path| callfile::bytes(path)).collect::<Result<Vec<_>, _>>()?;
@@ -32,7 +31,7 @@ pub fn run(tester: &mut Tester, paths: &[String]) -> Result<(), String> {
 
 /// how oracle and checker differ from what is recorded
 fn unlike(call: &Call, recorded: &Answer) -> Option<String> {
-    let tables = Tables::read(call.parts[0], call.parts[1], call.parts[2]);
+    let tables = tables(call.parts);
     let judged = judge(call.mode, call.capitals, call.parts, tables.as_ref());
     judged.strange().or_else(|| {
         let wanted = judged.wanted(call.mode, call.lent);

@@ -1,7 +1,8 @@
 //! What a call is refused by before its lattice, and where: document 01's "Numbers a call returns" and "Table and output
-//! bytes", and for capitals ticket 2 (docs/DECISIONS.md), written from their words alone. The rule table's refusals are in
-//! rule_refusals.rs.
+//! bytes", and for capitals and decompositions tickets 2 and 3 (docs/DECISIONS.md), written from their words alone. The rule
+//! table's refusals are in rule_refusals.rs.
 
+use crate::call::Parts;
 use crate::rule_refusals::rule_fault;
 
 pub const MOST_ROWS: usize = 8192;
@@ -10,7 +11,7 @@ const MOST_TEXT: usize = 512;
 /// number and place; none where the call goes on to its lattice
 pub type Refusal = Option<(u64, u64)>;
 
-pub fn refusal(mode: u8, capitals: u8, [rules, classes, vowels, code, text]: [&[u8]; 5]) -> Refusal {
+pub fn refusal(mode: u8, capitals: u8, [rules, classes, vowels, decompositions, code, text]: Parts) -> Refusal {
     if mode > 3 {
         return Some((1, 0));
     }
@@ -23,6 +24,7 @@ pub fn refusal(mode: u8, capitals: u8, [rules, classes, vowels, code, text]: [&[
         .map(|(number, place)| (number, place as u64))
         .or_else(|| class_fault(classes).map(faulty(3)))
         .or_else(|| vowel_fault(vowels).map(faulty(4)))
+        .or_else(|| decomposition_fault(decompositions).map(faulty(13)))
         .or_else(|| code_fault(code).map(faulty(5)))
         .or_else(|| text_fault(text))
 }
@@ -44,7 +46,7 @@ pub fn headed(table: &[u8]) -> bool {
     table.len() >= 5 && table[0] == 1 && number(&table[1..5]) as usize == table.len() - 5
 }
 
-/// The place of a class or vowel table's first faulty row. `row` is given what is left of the block from a row on, and
+/// The place of the first faulty row of a table without kinds of faults. `row` is given what is left of the block from a row on, and
 /// tells the row's length, or none where it is faulty.
 fn fault(table: &[u8], mut row: impl FnMut(&[u8]) -> Option<usize>) -> Option<usize> {
     if !headed(table) {
@@ -76,6 +78,9 @@ impl<'a> Row<'a> {
     fn count(&mut self, least: usize, most: usize) -> Option<usize> {
         self.byte().filter(|n| (least..=most).contains(n))
     }
+    fn character(&mut self) -> Option<u32> {
+        Some(number(self.take(3)?)).filter(|c| scalar(*c))
+    }
 }
 
 fn class_fault(table: &[u8]) -> Option<usize> {
@@ -103,6 +108,36 @@ fn vowel_fault(table: &[u8]) -> Option<usize> {
         last = script;
         small_letters(row.take(n)?).then_some(3 + n)
     })
+}
+
+/// A row of the decomposition table that is right by itself.
+struct Form {
+    at: usize,
+    character: u32,
+    holds: Vec<u32>,
+}
+
+/// The first row that holds a character with a row; else the first that is wrong by itself. Rows from that one on are not
+/// there, so a row may hold their characters.
+fn decomposition_fault(table: &[u8]) -> Option<usize> {
+    let mut rows: Vec<Form> = Vec::new();
+    let wrong = fault(table, |left| {
+        let at = table.len() - left.len();
+        let mut row = Row(left);
+        let character = row.character()?;
+        row.count(0, 5)?;
+        let n = row.count(1, 18)?;
+        let holds = (0..n).map(|_| row.character().filter(|c| !is_left_out(*c))).collect::<Option<Vec<_>>>()?;
+        let rises = rows.last().is_none_or(|last| last.character < character);
+        // a row too many is not there either
+        if !rises || character == 0x20 || rows.len() == MOST_ROWS {
+            return None;
+        }
+        rows.push(Form { at, character, holds });
+        Some(5 + 3 * n)
+    });
+    let has_row = |c: &u32| rows.binary_search_by_key(c, |row| row.character).is_ok();
+    rows.iter().find(|row| row.holds.iter().any(has_row)).map(|row| row.at).or(wrong)
 }
 
 fn code_fault(code: &[u8]) -> Option<usize> {

@@ -1,36 +1,60 @@
-//! What a call answers where this much is lent. The oracle knows nothing of slots, text room and output size: 9, 10 and 11
-//! follow by document 01's words from its edges in their adding order.
+//! What a call answers where this much is lent. The oracle knows nothing of slots, text room and output size, nor of the
+//! longest text of an edge: 9, 10, 11 and 14 follow by the words of document 01 and ticket 3 from its edges in their adding
+//! order.
 
 use crate::call::{Answer, Lent};
 use crate::random::Random;
+use oracle::Added;
 
 const SLOT: usize = 12;
+const MOST_EDGE_TEXT: usize = 198;
 /// far more than most calls need; to clear it takes time, so it is lent rarely
 const MUCH: [usize; 2] = [17 * 512 * SLOT, 512 * 198];
 
-pub type Added = [(usize, usize)];
-
-/// exactly what the call needs
-pub fn exact(added: &Added, output: &[u8]) -> Lent {
-    [SLOT * added.len(), added.iter().map(|(_, length)| length).sum(), output.len()]
+/// exactly what the call needs; the edges that a decomposition's comes of are gone before it is added
+pub fn exact(added: &[Added], output: &[u8]) -> Lent {
+    let (mut slots, mut room, mut used) = (0, 0, 0);
+    for (k, edge) in added.iter().enumerate() {
+        slots = slots.max(k + edge.inner.len().max(1));
+        room = room.max(used + edge.length.max(edge.inner.iter().sum()));
+        used += edge.length;
+    }
+    [SLOT * slots, room, output.len()]
 }
 
-/// 9 or 10 at the first edge that does not fit: the slot is asked before the room
-fn misfit(added: &Added, [slots, mut room, _]: Lent) -> Option<Answer<'static>> {
-    for (k, (start, length)) in added.iter().enumerate() {
-        if k == slots / SLOT {
-            return Some(Answer::refused(9, *start as u64));
+/// 9 or 10 at the first of these lengths that does not fit: the slot is asked before the room
+fn misfit(lengths: &[usize], slots: usize, mut room: usize) -> Option<u64> {
+    for (k, length) in lengths.iter().enumerate() {
+        if k == slots {
+            return Some(9);
         }
         if *length > room {
-            return Some(Answer::refused(10, *start as u64));
+            return Some(10);
         }
         room -= length;
     }
     None
 }
 
-pub fn answered<'a>(added: &Added, output: &'a [u8], lent: Lent) -> Answer<'a> {
-    if let Some(refused) = misfit(added, lent) {
+/// what keeps an edge out: 9 or 10 of the edges that it comes of, 14 where it is too long, its own 9 or 10
+fn hindered(edge: &Added, slots: usize, room: usize) -> Option<u64> {
+    let too_long = !edge.inner.is_empty() && edge.length > MOST_EDGE_TEXT;
+    misfit(&edge.inner, slots, room).or(too_long.then_some(14)).or_else(|| misfit(&[edge.length], slots, room))
+}
+
+/// the refusal of the first edge that can't be added
+fn first_misfit(added: &[Added], [slots, mut room, _]: Lent) -> Option<Answer<'static>> {
+    for (k, edge) in added.iter().enumerate() {
+        if let Some(number) = hindered(edge, slots / SLOT - k, room) {
+            return Some(Answer::refused(number, edge.start as u64));
+        }
+        room -= edge.length;
+    }
+    None
+}
+
+pub fn answered<'a>(added: &[Added], output: &'a [u8], lent: Lent) -> Answer<'a> {
+    if let Some(refused) = first_misfit(added, lent) {
         return refused;
     }
     if lent[2] < output.len() {
@@ -40,7 +64,7 @@ pub fn answered<'a>(added: &Added, output: &'a [u8], lent: Lent) -> Answer<'a> {
 }
 
 /// enough, exactly enough, or short of slots, of room or of output
-pub fn some(random: &mut Random, added: &Added, output: &[u8]) -> Lent {
+pub fn some(random: &mut Random, added: &[Added], output: &[u8]) -> Lent {
     let exact = exact(added, output);
     let [slots, room, out] = exact;
     let mut less = || exact.map(|n| random.below(n));

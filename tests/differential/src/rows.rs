@@ -66,6 +66,13 @@ pub fn vowel_row(script: u8, kind: u8, letters: &str) -> Vec<u8> {
     row
 }
 
+pub fn form_row(c: u32, tag: u8, held: &[u32]) -> Vec<u8> {
+    let mut row = three(c).to_vec();
+    row.extend([tag, held.len() as u8]);
+    row.extend(held.iter().flat_map(|&c| three(c)));
+    row
+}
+
 pub fn block<R: AsRef<[u8]>>(rows: impl IntoIterator<Item = R>) -> Vec<u8> {
     let mut bytes = vec![1, 0, 0, 0, 0];
     for row in rows {

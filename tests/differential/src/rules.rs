@@ -1,6 +1,6 @@
 //! The rules of a world, made from pieces of its texts.
 
-use crate::alphabets::{CAPITALS, CODES, EN_DASH, PRE, TARGETS, USUAL};
+use crate::alphabets::{CAPITALS, CODES, EN_DASH, LONG, PRE, TARGETS, USUAL};
 use crate::rows::{Rule, block};
 use crate::world::{Maker, Text};
 
@@ -14,10 +14,15 @@ impl Maker<'_> {
                 sources.extend(more.into_iter().filter(|s| s.len() > 1));
             }
         }
+        self.add_held(&texts[0], &mut sources);
         if self.chance(0.003) {
             self.add_many(&mut sources);
         }
         let mut made = Vec::new();
+        let long = vec![LONG];
+        if self.forms.iter().any(|(_, _, held)| held.contains(&LONG)) {
+            made.push((&long, Rule { source: &long, target: Some(b"ka".repeat(32)), ..Rule::default() }.row()));
+        }
         for source in &sources {
             for _ in 0..self.random.choice(&[1, 1, 1, 1, 2, 2, 3]) {
                 made.push((source, self.rule(source)));
@@ -30,6 +35,25 @@ impl Maker<'_> {
         }
         made.sort_by_key(|(source, _)| *source);
         block(made.iter().map(|(_, row)| row))
+    }
+
+    /// characters and stretches of what decompositions hold
+    fn add_held(&mut self, text: &Text, sources: &mut Vec<Text>) {
+        for (_, _, held) in self.forms.clone() {
+            if held.contains(&LONG) {
+                continue;
+            }
+            for (k, c) in held.iter().enumerate() {
+                if !held[..k].contains(c) && !text.contains(c) && self.chance(0.5) {
+                    sources.push(vec![*c]);
+                }
+            }
+            if held.len() > 1 && self.chance(0.3) {
+                let at = self.random.below(held.len() - 1);
+                let n = self.random.choice(&[2, 2, 3]);
+                sources.push(held[at..(at + n).min(held.len())].to_vec());
+            }
+        }
     }
 
     /// some hundreds of strangers, which a search must pass by
@@ -49,7 +73,7 @@ impl Maker<'_> {
     fn sources(&mut self, text: &Text) -> Vec<Text> {
         let mut sources: Vec<Text> = Vec::new();
         for (k, c) in text.iter().enumerate() {
-            if !text[..k].contains(c) && self.chance(0.85) {
+            if !text[..k].contains(c) && self.chance(if self.has_form(*c) { 0.25 } else { 0.85 }) {
                 sources.push(vec![*c]);
             }
         }

@@ -19,6 +19,8 @@ pub struct Tester {
     pub cases: u64,
     /// cases in which the choice of capitals has changed letters
     pub capitalized: u64,
+    /// cases in which a decomposition has an edge
+    pub decomposed: u64,
     /// cases by the number that was wanted
     numbers: [u64; HIGHEST_NUMBER + 1],
     differ: u64,
@@ -29,7 +31,18 @@ impl Tester {
     pub fn new(folder: PathBuf, spoil: Spoil) -> Self {
         let library = Library::new(&folder);
         let numbers = [0; HIGHEST_NUMBER + 1];
-        Tester { folder, library, spoil, keeps: true, cases: 0, capitalized: 0, numbers, differ: 0, spoilt_found: 0 }
+        Tester {
+            folder,
+            library,
+            spoil,
+            keeps: true,
+            cases: 0,
+            capitalized: 0,
+            decomposed: 0,
+            numbers,
+            differ: 0,
+            spoilt_found: 0,
+        }
     }
 
     /// One case, unless there were differences enough. `strange` says what is wrong with it before the library is asked.

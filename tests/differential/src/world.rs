@@ -2,6 +2,7 @@
 //! so that sources match, targets chain and the special characters stand beside each other.
 
 use crate::alphabets::{Alphabet, CODES, LETTER, LIKELY, LOWER, VOWELS, ZS};
+use crate::forms::Form;
 use crate::random::Random;
 use crate::rows::{Class, block, class_row, vowel_row};
 
@@ -10,6 +11,7 @@ pub struct World {
     pub rules: Vec<u8>,
     pub classes: Vec<u8>,
     pub vowels: Vec<u8>,
+    pub decompositions: Vec<u8>,
     /// code and text
     pub asked: Vec<(&'static str, String)>,
 }
@@ -19,9 +21,13 @@ pub fn world(random: &mut Random) -> World {
     let texts = maker.texts();
     maker.class_all(&texts);
     maker.bend();
+    if maker.formed {
+        maker.some_forms(&texts);
+    }
     let rules = maker.rule_table(&texts);
     let asked = texts.iter().map(|text| (maker.near_code(), text.iter().collect())).collect();
-    World { rules, classes: maker.class_table(), vowels: maker.vowel_table(), asked }
+    let (classes, vowels, decompositions) = (maker.class_table(), maker.vowel_table(), maker.form_table());
+    World { rules, classes, vowels, decompositions, asked }
 }
 
 pub type Text = Vec<char>;
@@ -34,6 +40,10 @@ pub struct Maker<'r> {
     pub code: &'static str,
     /// whether there is lower case, and many targets have capitals
     pub cased: bool,
+    /// whether there are decompositions
+    formed: bool,
+    /// by their characters
+    pub forms: Vec<Form>,
     /// what texts are made from, some of it more often
     pub letters: Vec<char>,
 }
@@ -48,9 +58,9 @@ impl<'r> Maker<'r> {
             }
         }
         let code = if random.chance(3.0 / 11.0) { "" } else { random.choice(&CODES) };
-        let cased = random.chance(0.4);
-        let (kinds, phrases, letters) = Default::default();
-        let mut maker = Maker { random, alphabets, kinds, phrases, code, cased, letters };
+        let (cased, formed) = (random.chance(0.4), random.chance(0.6));
+        let (kinds, phrases, forms, letters) = Default::default();
+        let mut maker = Maker { random, alphabets, kinds, phrases, code, cased, formed, forms, letters };
         for alphabet in maker.alphabets.clone() {
             let all = alphabet.kinds;
             let n = maker.random.between(all.len().min(3), all.len());
@@ -59,6 +69,9 @@ impl<'r> Maker<'r> {
             }
             let phrases = maker.random.sample(alphabet.phrases, 2);
             maker.phrases.extend(phrases);
+        }
+        if formed {
+            maker.meet_forms();
         }
         maker.letters = maker.some_letters();
         maker
@@ -72,7 +85,7 @@ impl<'r> Maker<'r> {
         self.kinds.iter().find(|(d, _)| *d == c).map(|(_, kind)| *kind)
     }
 
-    fn set(&mut self, c: char, kind: Class) {
+    pub fn set(&mut self, c: char, kind: Class) {
         match self.kinds.iter_mut().find(|(d, _)| *d == c) {
             Some(row) => row.1 = kind,
             None => self.kinds.push((c, kind)),

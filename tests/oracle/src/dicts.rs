@@ -1,4 +1,4 @@
-//! The published `Dicts` facade over the three lent tables.
+//! The published `Dicts` facade over the four lent tables.
 
 use std::cell::Cell;
 use std::collections::{HashMap, HashSet};
@@ -91,7 +91,12 @@ pub struct Data {
     /// scalar value, category, script, flags; rising
     pub classes: Vec<(u32, u8, u8, u8)>,
     pub vowels: HashMap<u8, (AbugidaRuleType, String)>,
+    /// tag and characters
+    pub decompositions: HashMap<char, (u8, String)>,
 }
+
+/// The tags of decompositions by their numbers. 5 stands for all that the Rust has no name for.
+const TAGS: [&str; 6] = ["", "<super>", "<sub>", "<noBreak>", "<compat>", "<circle>"];
 
 thread_local! {
     static CURRENT: Cell<Option<&'static Data>> = const { Cell::new(None) };
@@ -112,6 +117,9 @@ fn flag(c: char, bit: u8) -> bool {
 pub fn is_lower(c: char) -> bool {
     flag(c, 7)
 }
+pub fn is_number(c: char) -> bool {
+    class_of(c).0 == 4
+}
 
 #[derive(Clone, Copy)]
 pub struct Dicts {
@@ -128,6 +136,10 @@ impl Dicts {
     }
     pub fn uninstall() {
         CURRENT.set(None);
+    }
+    /// the tables that are installed
+    pub fn installed() -> Self {
+        Self { d: CURRENT.get().expect("tables set") }
     }
     pub fn rom_rules(&self, s: &str) -> &'static [Rule] {
         self.d.rules.get(s).map(|v| v.as_slice()).unwrap_or(&[])
@@ -176,8 +188,9 @@ impl Dicts {
     pub fn num_prop(&self, _s: &str) -> Option<&'static NumProp> {
         None
     }
-    pub fn decomposition(&self, _c: char) -> Option<(&'static str, &'static str)> {
-        None
+    pub fn decomposition(&self, c: char) -> Option<(&'static str, &'static str)> {
+        let (tag, characters) = self.d.decompositions.get(&c)?;
+        Some((TAGS[*tag as usize], characters.as_str()))
     }
     pub fn hangul_romanization(&self, _c: char) -> Option<String> {
         None

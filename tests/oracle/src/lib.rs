@@ -11,6 +11,7 @@ mod shim;
 mod tables;
 mod utils;
 
+pub use shim::Added;
 pub use shim::blocks::report;
 pub use tables::Reader;
 
@@ -19,7 +20,7 @@ use lattice::Lattice;
 use listing::listing;
 use std::panic::{AssertUnwindSafe, catch_unwind};
 
-// `decomp_rom` names these; with no decompositions it never gets that far.
+// `decomp_rom` asks these for the string of a decomposition.
 pub mod rom_format {
     pub struct Str;
 }
@@ -28,8 +29,10 @@ impl Uroman {
     pub fn new() -> Self {
         Uroman
     }
-    pub fn romanize_string<F>(&self, _s: &str, _lcode: Option<&str>) -> String {
-        unreachable!()
+    /// The mode 0 string under the tables and choices of the call. No character of it has a decomposition, so there is no third lattice.
+    pub fn romanize_string<F>(&self, s: &str, lcode: Option<&str>) -> String {
+        let made = shim::within(|| output(&mut filled(Dicts::installed(), lcode.unwrap_or(""), s), 0, s));
+        String::from_utf8(made).unwrap()
     }
 }
 
@@ -41,15 +44,15 @@ pub struct Answer {
     /// `DONE`, `PANICKED`, or `REFUSED` for mode, capitals, tables, code or text
     pub status: u8,
     pub output: Vec<u8>,
-    /// start and text length of every lattice edge, in adding order
-    pub added: Vec<(usize, usize)>,
+    /// every lattice edge, in adding order
+    pub added: Vec<Added>,
 }
 
 /// The same lattice shown in each mode.
 pub struct Shown {
     pub outputs: [Vec<u8>; 4],
     /// as in `Answer`
-    pub added: Vec<(usize, usize)>,
+    pub added: Vec<Added>,
     /// how many romanizations the Python rule for capitals has changed
     pub capitalized: usize,
 }
@@ -60,9 +63,9 @@ pub struct Tables {
 }
 
 impl Tables {
-    /// none where one of them is faulty
-    pub fn read(rules: &[u8], classes: &[u8], vowels: &[u8]) -> Option<Self> {
-        tables::read(rules, classes, vowels).map(|data| Tables { data })
+    /// rules, classes, vowels and decompositions; none where one of them is faulty
+    pub fn read(lent: [&[u8]; 4]) -> Option<Self> {
+        tables::read(lent).map(|data| Tables { data })
     }
 
     /// The output of a mode as published, and nothing besides. A text that `allowed_text` refuses is no text to ask.
@@ -108,7 +111,7 @@ fn filled(dicts: Dicts, code: &str, text: &str) -> Lattice {
     lattice
 }
 
-fn filled_and_counted(dicts: Dicts, code: &str, text: &str) -> (Lattice, Vec<(usize, usize)>) {
+fn filled_and_counted(dicts: Dicts, code: &str, text: &str) -> (Lattice, Vec<Added>) {
     let lattice = filled(dicts, code, text);
     let added = shim::added();
     assert_eq!(lattice.all_edges(0, text.chars().count()).len(), added.len());
@@ -132,9 +135,12 @@ fn output(lattice: &mut Lattice, mode: u8, text: &str) -> Vec<u8> {
     }
 }
 
+fn left_out(c: char) -> bool {
+    matches!(c, '\u{F00}'..='\u{FFF}' | '\u{2800}'..='\u{28FF}' | '\u{AC00}'..='\u{D7A3}')
+}
+
 /// A text that no call refuses.
 pub fn allowed_text(text: &[u8]) -> Option<&str> {
-    let left_out = |c| matches!(c, '\u{F00}'..='\u{FFF}' | '\u{2800}'..='\u{28FF}' | '\u{AC00}'..='\u{D7A3}');
     let text = std::str::from_utf8(text).ok()?;
     (text.chars().count() <= 512 && !text.chars().any(left_out)).then_some(text)
 }
@@ -150,9 +156,9 @@ pub fn allowed_capitals(capitals: u8) -> Option<bool> {
     (capitals <= 1).then_some(capitals == 1)
 }
 
-pub fn answer(mode: u8, capitals: u8, [rules, classes, vowels, code, text]: [&[u8]; 5]) -> Answer {
+pub fn answer(mode: u8, capitals: u8, [rules, classes, vowels, decompositions, code, text]: [&[u8]; 6]) -> Answer {
     let empty = |status| Answer { status, output: Vec::new(), added: Vec::new() };
-    let read = Tables::read(rules, classes, vowels);
+    let read = Tables::read([rules, classes, vowels, decompositions]);
     let asked = (allowed_capitals(capitals), allowed_code(code), allowed_text(text));
     let (Some(tables), (Some(capitals), Some(code), Some(text)), 0..=3) = (read, asked, mode) else {
         return empty(REFUSED);

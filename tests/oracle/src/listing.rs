@@ -18,6 +18,7 @@ fn annotation(e: &Edge) -> (u8, u8) {
         "rom-alt" => (12, 0),
         "rom-alt2" => (13, 0),
         "rom-alt3" => (14, 0),
+        "rom decomp" => (15, 0),
         other => {
             // exactly "rom c:CORE s:VOWEL", the text being CORE and VOWEL; anything else is a finding
             let rest = other.strip_prefix("rom c:").unwrap_or_else(|| panic!("annotation {other:?}"));

@@ -1,10 +1,11 @@
 //! The oracle: calls answered by the published Rust, whose left-out passes are switched off.
 //!
 //! Standard input holds cases one after another: a mode byte and a capitals byte, then rules, classes, vowels,
-//! language code and text, each a 4-byte big-endian length and its bytes.
+//! decompositions, language code and text, each a 4-byte big-endian length and its bytes.
 //! Standard output holds for each a status (0 done, 1 panicked, 2 refused for mode, capitals, tables, code or text),
 //! the count of lattice edges (4), the output's length (4) and bytes, and then the lattice edges
-//! in adding order, each its start (2) and the length of its text (2).
+//! in adding order, each its start (2), the length of its text (2), and how many edges the lattice has that a decomposition's
+//! edge comes of (2; 0 for any other edge), with the length of each one's text (2) in adding order.
 
 use oracle::{Answer, Reader};
 use std::io::{Read, Write};
@@ -14,9 +15,10 @@ fn write(out: &mut impl Write, a: &Answer) -> std::io::Result<()> {
     out.write_all(&(a.added.len() as u32).to_be_bytes())?;
     out.write_all(&(a.output.len() as u32).to_be_bytes())?;
     out.write_all(&a.output)?;
-    for (start, length) in &a.added {
-        out.write_all(&(*start as u16).to_be_bytes())?;
-        out.write_all(&(*length as u16).to_be_bytes())?;
+    for edge in &a.added {
+        for n in [&edge.start, &edge.length, &edge.inner.len()].into_iter().chain(&edge.inner) {
+            out.write_all(&(*n as u16).to_be_bytes())?;
+        }
     }
     Ok(())
 }
@@ -28,7 +30,7 @@ fn main() {
     let mut r = Reader::new(&input);
     while !r.done() {
         let [mode, capitals] = [(); 2].map(|_| r.number(1).unwrap() as u8);
-        let parts = [(); 5].map(|_| {
+        let parts = [(); 6].map(|_| {
             let n = r.number(4).unwrap() as usize;
             r.take(n).unwrap()
         });

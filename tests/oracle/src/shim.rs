@@ -3,17 +3,39 @@
 use crate::edge::Edge;
 use std::cell::RefCell;
 
+/// An edge of a lattice, as far as the room that it takes is concerned.
+#[derive(Clone)]
+pub struct Added {
+    pub start: usize,
+    /// of its text, in bytes
+    pub length: usize,
+    /// the text lengths of the lattice that a decomposition's edge comes of, in adding order; never empty there, empty for all others
+    pub inner: Vec<usize>,
+}
+
 thread_local! {
-    /// start and text length of every edge, in adding order
-    static ADDED: RefCell<Vec<(usize, usize)>> = const { RefCell::new(Vec::new()) };
+    /// every edge, in adding order
+    static ADDED: RefCell<Vec<Added>> = const { RefCell::new(Vec::new()) };
+    /// what the next decomposition's edge comes of
+    static INNER: RefCell<Vec<usize>> = const { RefCell::new(Vec::new()) };
 }
 
 pub fn forget_added() {
     ADDED.take();
+    INNER.take();
 }
 
-pub fn added() -> Vec<(usize, usize)> {
+pub fn added() -> Vec<Added> {
     ADDED.with_borrow(|a| a.clone())
+}
+
+/// Runs a lattice while another is being filled: its edges are no edges of the other, and are kept for the one that comes of them.
+pub fn within<T>(run: impl FnOnce() -> T) -> T {
+    let outer = ADDED.take();
+    let made = run();
+    let inner = ADDED.replace(outer);
+    INNER.set(inner.iter().map(|edge| edge.length).collect());
+    made
 }
 
 /// A set that iterates in adding order and never holds two equal members
@@ -27,7 +49,8 @@ impl OrderedSet {
         if self.members.contains(&edge) {
             return false;
         }
-        ADDED.with_borrow_mut(|a| a.push((edge.start(), edge.txt().len())));
+        let inner = if edge.r#type() == "rom decomp" { INNER.take() } else { Vec::new() };
+        ADDED.with_borrow_mut(|a| a.push(Added { start: edge.start(), length: edge.txt().len(), inner }));
         self.members.push(edge);
         true
     }

@@ -1,6 +1,7 @@
-//! Reads the three tables; none where one is faulty (where it is, is not asked here).
+//! Reads the four tables; none where one is faulty (where it is, is not asked here).
 
 use crate::dicts::{AbugidaRuleType, Data, Rule};
+use crate::left_out;
 
 pub struct Reader<'a> {
     bytes: &'a [u8],
@@ -38,13 +39,22 @@ impl<'a> Reader<'a> {
     fn count(&mut self, most: u32) -> Option<u32> {
         self.number(1).filter(|n| *n <= most)
     }
+    fn character(&mut self) -> Option<char> {
+        char::from_u32(self.number(3)?)
+    }
+    /// a count of at least one, and as many characters
+    fn characters(&mut self, most: u32) -> Option<Vec<char>> {
+        let n = self.count(most).filter(|n| *n > 0)?;
+        (0..n).map(|_| self.character()).collect()
+    }
 }
 
-pub fn read(rules: &[u8], classes: &[u8], vowels: &[u8]) -> Option<Data> {
+pub fn read([rules, classes, vowels, decompositions]: [&[u8]; 4]) -> Option<Data> {
     let mut data = Data::default();
     read_rules(&mut data, rules)?;
     read_classes(&mut data, classes)?;
     read_vowels(&mut data, vowels)?;
+    read_decompositions(&mut data, decompositions)?;
     Some(data)
 }
 
@@ -73,10 +83,7 @@ fn read_rule(row: &mut Reader) -> Option<(Vec<char>, Rule)> {
     let flags = row.number(1).filter(|f| *f < 128)?;
     let flag = |bit: u32| flags >> bit & 1 == 1;
     let n_restr = row.number(2)?;
-    let mut source = Vec::new();
-    for _ in 0..row.count(16).filter(|n| *n > 0)? {
-        source.push(char::from_u32(row.number(3)?)?);
-    }
+    let source = row.characters(16)?;
     let mut lcodes = Vec::new();
     for _ in 0..row.count(8)? {
         lcodes.push(row.letters(3)?);
@@ -141,4 +148,22 @@ fn read_vowels(data: &mut Data, bytes: &[u8]) -> Option<()> {
         last = script;
     }
     Some(())
+}
+
+fn read_decompositions(data: &mut Data, bytes: &[u8]) -> Option<()> {
+    let mut r = Reader::block(bytes)?;
+    let mut last = None;
+    while !r.done() {
+        let c = r.character()?;
+        let tag = r.count(5)? as u8;
+        let characters = r.characters(18)?;
+        if c == ' ' || last >= Some(c) || characters.iter().any(|c| left_out(*c)) || data.decompositions.len() == 8192 {
+            return None;
+        }
+        data.decompositions.insert(c, (tag, characters.iter().collect()));
+        last = Some(c);
+    }
+    let rows = &data.decompositions;
+    let nested = rows.values().any(|(_, characters)| characters.chars().any(|c| rows.contains_key(&c)));
+    (!nested).then_some(())
 }

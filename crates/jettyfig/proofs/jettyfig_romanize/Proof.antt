@@ -30,8 +30,8 @@ returns c =
     let z = c .before .before .before .before .before .before in
     let r = z .before .before .before .before .before .before .before .before .respond in
     let zeros : ℕ → List ℕ = λ m. replicate m 0 in
-    let slots = z .clear .ensures ∙ ap zeros (r .kept .1 .1 .1 .1 .1 .1 .0) in
-    let room = c .before .before .clear2 .ensures ∙ ap zeros (r .kept .1 .1 .1 .1 .1 .1 .1 .0) in
+    let slots = z .clear .ensures ∙ ap zeros (r .kept .1 .1 .1 .1 .1 .1 .1 .0) in
+    let room = c .before .before .clear2 .ensures ∙ ap zeros (r .kept .1 .1 .1 .1 .1 .1 .1 .1 .0) in
     (r .ensures, (slots, room))
 
 pub jettyfig-romanize-spec : {M : Type 1} → statement M

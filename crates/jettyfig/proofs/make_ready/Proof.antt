@@ -1,100 +1,67 @@
--- `jettyfig::make_ready`: the choice is written, the letters come back before it, then the index behind it.
-use mathlib.Core.Path.{sym, ap}
+-- `jettyfig::make_ready`: the letters come back in front, then the index of the rule table with what is kept of characters.
+use mathlib.Core.Path.{refl, sym}
 use native.Mathlib.Omega.{arith}
-use lib.ListN.{length, length-set, length-replicate}
 use lib.Seq.{length-take-le}
-use Prim.Native.Nat.{ℕ, _+_, _/_}
 use denote.Ref.{now}
-use Rattle.rule_memo.specs.Kept.{all-places}
-use Rattle.words.specs.Given.{index-from}
-use Rattle.jettyfig.proofs.Parts.{as-long, zeros-left, stays-long, made-ready}
+use Rattle.jettyfig.proofs.Parts.{zeros-lent, room-lent, made-ready}
 use borrow.Author.Needs.{needs}
 use Rattle.jettyfig.proofs.make_ready.Statement.{statement}
 use Rattle.jettyfig.proofs.make_ready.Tie as tie
 
-abbrev start : tie.After-fill-arg → tie.Start
-start c = c .before .before .before .before .before .before .before .before .before .before
-
-abbrev lettered : tie.After-fill-arg → tie.After-classify-ascii
-lettered c = c .before .before .before
-
-cast-ready : tie.Need-cast-ready
-cast-ready c = search needs
-
-slice-write-ready : tie.Need-slice-write-ready
-slice-write-ready c =
-    omega (arith, ap length (c .before .before .before .before .before .pre .2), length-replicate {A = ℕ} (index-from + all-places) 0)
-
 slice-relend-prefix-classify-ascii : tie.Need-slice-relend-prefix-classify-ascii
-slice-relend-prefix-classify-ascii c =
-    let s = c .before .before .before .before .before in
-    omega (
-      arith,
-      length-set (now (s .args .ready)) 128 (s .args .asked .capitals),
-      ap length (s .pre .2),
-      length-replicate {A = ℕ} (index-from + all-places) 0,
-    )
+slice-relend-prefix-classify-ascii c = omega (arith, c .before .before .before .pre .2 .1 .long)
 
 slice-aggregate-classify-ascii : tie.Need-slice-aggregate-classify-ascii
-slice-aggregate-classify-ascii c = search needs
+slice-aggregate-classify-ascii c =
+    let s = c .before .before .before .before in
+    sym (length-take-le 128 (now (s .args .prepared)) (omega (arith, s .pre .2 .1 .long)))
 
 classify-ascii-requires : tie.Need-classify-ascii-requires
-classify-ascii-requires c κs = search needs
+classify-ascii-requires c κs =
+    let s = c .before .before .before .before in
+    (s .pre .1, length-take-le 128 (now (s .args .prepared)) (omega (arith, s .pre .2 .1 .long)))
 
-slice-aggregate-fill : tie.Need-slice-aggregate-fill
-slice-aggregate-fill c =
-    let line = now (start c .args .line) in
-    sym (length-take-le (length line / 2) line (omega arith))
+sub-half : tie.Need-sub-half
+sub-half c = search needs
 
 sub-fill : tie.Need-sub-fill
-sub-fill c =
-    let s = start c in
-    let a = lettered c .classify-ascii in
-    omega (arith, as-long (now (s .args .classes)) (now (s .args .ready)) (a .last .1 .0) (s .args .asked .capitals) (s .pre .2) (a .ensures))
+sub-fill c = search needs
 
 part-fill-start : tie.Need-part-fill-start
-part-fill-start c =
-    let s = start c in
-    let a = lettered c .classify-ascii in
-    omega (arith, as-long (now (s .args .classes)) (now (s .args .ready)) (a .last .1 .0) (s .args .asked .capitals) (s .pre .2) (a .ensures))
+part-fill-start c = search needs
 
 part-fill-end : tie.Need-part-fill-end
 part-fill-end c = search needs
 
 fill-requires : tie.Need-fill-requires
 fill-requires c κs =
-    let s = start (c .before) in
-    let a = lettered (c .before) .classify-ascii in
-    (s .pre .0, zeros-left (now (s .args .classes)) (now (s .args .ready)) (a .last .1 .0) (s .args .asked .capitals) (s .pre .2) (a .ensures))
+    let s = c .before .before .before .before .before .before .before .before in
+    let a = c .before .before .before .classify-ascii in
+    let blank = s .pre .2 .1 in (
+      s .pre .0,
+      zeros-lent (now (s .args .classes)) (now (s .args .prepared)) (a .last .1 .0) (blank .long) (a .ensures) (blank .zeros),
+      room-lent (now (s .args .classes)) (now (s .args .prepared)) (a .last .1 .0) (blank .long) (a .ensures) _ refl,
+    )
 
 same-length : tie.Need-same-length
-same-length c =
-    let k = c .before .before .before .before in
-    let s = start k in
-    let a = lettered k .classify-ascii in
-    let x = c .before .before .fill in
-    stays-long (now (s .args .classes)) (now (s .args .ready)) (a .last .1 .0) (s .args .asked .capitals) (s .pre .2) (a .ensures)
-    (now (s .args .rules)) (x .last .1 .1 .0) (x .ensures)
+same-length c = search needs
 
 returns : tie.Need-returns
 returns c =
-    let k = c .before .before .before .before in
-    let s = start k in
-    let a = lettered k .classify-ascii in
+    let s = c .before .before .before .before .before .before .before .before .before .before .before in
+    let a = c .before .before .before .before .before .before .classify-ascii in
     let x = c .before .before .fill in
-    made-ready (now (s .args .classes)) (now (s .args .ready)) (a .last .1 .0) (s .args .asked .capitals) (s .pre .2) (a .ensures)
-    (now (s .args .rules)) (x .last .1 .1 .0) (x .ensures)
+    made-ready (now (s .args .classes)) (now (s .args .prepared)) (a .last .1 .0) (s .pre .2 .1 .long) (a .ensures)
+    (now (s .args .rules)) (x .last .1 .0) (x .ensures .0) (x .ensures .1) (x .kept .1 .0)
 
 pub make-ready-spec : {M : Type 1} → statement M
 make-ready-spec =
     tie.close
     (tie.spec
-    cast-ready
-    slice-write-ready
     slice-relend-prefix-classify-ascii
     slice-aggregate-classify-ascii
     classify-ascii-requires
-    slice-aggregate-fill
+    sub-half
     sub-fill
     part-fill-start
     part-fill-end

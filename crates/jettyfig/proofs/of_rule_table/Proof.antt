@@ -1,6 +1,4 @@
 -- `jettyfig::of_rule_table`: a fault's number and place, or none.
-use mathlib.Core.Path.{sym, ap}
-use Rattle.rule_table_check.specs.Told.{rules-means}
 use borrow.Author.Needs.{needs}
 use Rattle.jettyfig.proofs.of_rule_table.Statement.{statement}
 use Rattle.jettyfig.proofs.of_rule_table.Tie as tie

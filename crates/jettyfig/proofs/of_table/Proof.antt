@@ -1,5 +1,4 @@
 -- `jettyfig::of_table`: a fault's place, or none.
-use mathlib.Core.Path.{sym, ap}
 use Rattle.definition.specs.Refusals.{placed}
 use Rattle.table_blocks.specs.Faults.{table-means}
 use borrow.Author.Needs.{needs}

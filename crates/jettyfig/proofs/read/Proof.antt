@@ -1,58 +1,122 @@
 -- `jettyfig::read`: the text's refusal, or what is prepared of it.
-use Prim.Native.Nat.{_≤_}
-use mathlib.Core.Path.{refl, sym, ap, _∙_}
+use Prim.Native.Nat.{ℕ, _+_, _*_, _≤_}
+use mathlib.Core.List.{List}
+use mathlib.Core.Path.{sym, ap, _∙_}
 use native.Mathlib.Omega.{arith}
-use lib.ListN.{length}
+use lib.ListN.{length, length-drop}
 use lib.Seq.{length-take-le}
 use denote.Ref.{now}
+use Rattle.base.specs.Loans.{lent-end}
 use Rattle.definition.specs.Limits.{most-characters}
+use Rattle.definition.specs.Utf8.{decoded}
+use Rattle.definition.specs.Tables.{Choices}
 use Rattle.definition.specs.Refusals.{refuse, refused-utf8, refused-too-long, refused-left-out}
-use Rattle.definition.specs.Call.{tables, characters}
+use Rattle.definition.specs.Call.{Inputs, Called, tables, tables-of, characters, refusal, accepted}
 use Rattle.utf8.specs.Read.{text-means}
-use Rattle.jettyfig.specs.Verdicts.{chosen, given, returned, passed, nothing-refused}
+use Rattle.words.specs.Given.{mode-in, choices-in, all-ready}
+use Rattle.jettyfig.specs.Verdicts.{given, returned, passed, nothing-refused}
 use Rattle.jettyfig.specs.Calls.{as-refused, read-refused, read-right}
+use Rattle.jettyfig.proofs.Parts.{cut, whole, whole-long, cut-mode, cut-choices, cut-line, cut-blank}
 use borrow.Author.Needs.{needs}
 use Rattle.jettyfig.proofs.read.Statement.{statement}
 use Rattle.jettyfig.proofs.read.Tie as tie
 
-slice-aggregate-lay-out : tie.Need-slice-aggregate-lay-out
-slice-aggregate-lay-out c = search needs
+-- where the function began, and where the text was laid out
+abbrev start : tie.After-lay-out → tie.Start
+start l = l .before .before .before .before .before .before .before .before .before .before .before .before
+
+abbrev laid : tie.After-known-told → tie.After-lay-out
+laid k = k .before .before .before .before .before
+
+-- what the call was given
+abbrev asked : tie.Start → Inputs
+asked s =
+    let a = s .args in
+    let P = now (a .prepared) in
+    given (mode-in P) (choices-in P) (now (a .rules)) (now (a .classes)) (now (a .vowels)) (now (a .decompositions)) (now (a .code)) (now (a .text))
+    (length (now (a .slots))) (length (now (a .room))) (length (now (a .out)))
+
+sub-lay-out : tie.Need-sub-lay-out
+sub-lay-out c = search needs
+
+part-lay-out-start : tie.Need-part-lay-out-start
+part-lay-out-start c = search needs
+
+part-lay-out-end : tie.Need-part-lay-out-end
+part-lay-out-end c = search needs
 
 lay-out-requires : tie.Need-lay-out-requires
 lay-out-requires c κs =
-    let s = c .before .before .before .before .before .before .before .before .before in
+    let s = c .before .before .before .before .before .before .before .before .before .before .before in
     let a = s .args in
-    (passed (a .asked .mode) (chosen (a .asked)) (now (a .rules)) (now (a .classes)) (now (a .vowels)) (now (a .code)) (s .pre .0) .classes, refl)
+    let P = now (a .prepared) in
+    let r = s .pre .0 in (
+      passed (mode-in P) (choices-in P) (now (a .rules)) (now (a .classes)) (now (a .vowels)) (now (a .decompositions)) (now (a .code)) (r .passed) .classes,
+      omega (arith, ap length (lent-end P all-ready), length-drop all-ready P, r .whole),
+    )
 
 enum-known-n : tie.Need-enum-known-n
 enum-known-n c = search needs
 
--- the accepted text is not too long
-few : (c : tie.After-known-told) → c .before .n .given .0 .0 ≤ most-characters
-few c = let g = c .before .n .given in c .before .before .before .before .lay-out .ensures .1 (g .0 .0) (g .1) .1
+-- an accepted text: it is not too long, and its line has come back as long as it was lent
+module _ (c : tie.After-known-told) where
+  abbrev n : ℕ
+  n = c .before .n .given .0 .0
 
-add-line : tie.Need-add-line
-add-line c = omega (arith, few c)
+  abbrev old : List ℕ
+  old = now (start (laid c) .args .prepared)
 
-mul-line : tie.Need-mul-line
-mul-line c = omega (arith, few c)
+  abbrev line : List ℕ
+  line = laid c .lay-out .last .1 .1 .0
 
-array-share-prefix-line : tie.Need-array-share-prefix-line
-array-share-prefix-line c = omega (arith, few c)
+  few : n ≤ most-characters
+  few = laid c .lay-out .ensures .1 n (c .before .n .given .1) .1
+
+  long : all-ready ≤ length old
+  long = omega (arith, start (laid c) .pre .0 .whole)
+
+  room : 2 * (n + 3) ≤ length line
+  room = omega (arith, few, laid c .lay-out .kept .1 .1 .0, ap length (lent-end old all-ready), length-drop all-ready old, start (laid c) .pre .0 .whole)
+
+add-prepare : tie.Need-add-prepare
+add-prepare c = omega (arith, few c)
+
+mul-prepare : tie.Need-mul-prepare
+mul-prepare c = omega (arith, few c)
+
+add-prepare-2 : tie.Need-add-prepare-2
+add-prepare-2 c = omega (arith, few c)
+
+slice-relend-prefix-prepare : tie.Need-slice-relend-prefix-prepare
+slice-relend-prefix-prepare c = whole-long (old c) (line c) (long c) (2 * (n c + 3)) (room c)
 
 slice-aggregate-prepare : tie.Need-slice-aggregate-prepare
-slice-aggregate-prepare c = sym (length-take-le _ (c .before .before .before .before .before .lay-out .last .1 .1 .0) (array-share-prefix-line (c .before)))
+slice-aggregate-prepare c =
+    let k = c .before in
+    sym (length-take-le (all-ready + 2 * (n k + 3)) (whole (old k) (line k) (long k) (2 * (n k + 3)) (room k)) (whole-long (old k) (line k) (long k) (2 * (n k + 3)) (room k)))
 
 prepare-requires : tie.Need-prepare-requires
 unfolding text-means
 prepare-requires c κs =
-    let l = c .before .before .before .before .before .before .before .before in
-    let s = l .before .before .before .before .before .before .before .before .before .before in
+    let k = c .before .before .before .before in
+    let l = laid k in
+    let s = start l in
     let a = s .args in
-    let i = given (a .asked .mode) (chosen (a .asked)) (now (a .rules)) (now (a .classes)) (now (a .vowels)) (now (a .code)) (now (a .text)) 0 0 0 in
+    let P = now (a .prepared) in
+    let i = given (mode-in P) (choices-in P) (now (a .rules)) (now (a .classes)) (now (a .vowels)) (now (a .decompositions)) (now (a .code)) (now (a .text)) 0 0 0 in
     let r = l .lay-out .ensures in
-    let g = c .before .before .before .before .before .n .given in
-    (nothing-refused i (s .pre .0) (sym (r .0) ∙ ap text-means (g .1)), r .1 (g .0 .0) (g .1) .2, s .pre .1)
+    let g = k .before .n .given in
+    let m = 2 * (n k + 3) in
+    let of : ℕ → Choices → Inputs = λ x y. given x y (now (a .rules)) (now (a .classes)) (now (a .vowels)) (now (a .decompositions)) (now (a .code)) (now (a .text)) 0 0 0 in (
+      record {
+        passed = ap (λ (x : ℕ). refusal (of x (choices-in (cut P (line k) (long k) m (room k))))) (cut-mode P (line k) (long k) m (room k))
+            ∙ ap (λ (y : Choices). refusal (of (mode-in P) y)) (cut-choices P (line k) (long k) m (room k))
+            ∙ nothing-refused i (s .pre .0 .passed) (sym (r .0) ∙ ap text-means (g .1));
+        blank = cut-blank P (line k) (long k) m (room k) (now (a .decompositions)) (s .pre .0 .blank);
+        line = cut-line P (line k) (long k) m (room k) ∙ r .1 (g .0 .0) (g .1) .2;
+      },
+      s .pre .1,
+    )
 
 enum-known-at : tie.Need-enum-known-at
 enum-known-at c = search needs
@@ -81,45 +145,67 @@ same-length-2 c = search needs
 same-length-3 : tie.Need-same-length-3
 same-length-3 c = search needs
 
+same-length-4 : tie.Need-same-length-4
+same-length-4 c = search needs
+
 returns : tie.Need-returns
 unfolding text-means tables characters
 returns c =
-    let p = c .before .before .before .before .before .before in
-    let n = p .before .before .before .before .before .before in
-    let l = n .before .before .before in
-    let a = l .before .before .before .before .before .before .before .before .before .before .args in
-    let i = given (a .asked .mode) (chosen (a .asked)) (now (a .rules)) (now (a .classes)) (now (a .vowels)) (now (a .code)) (now (a .text)) (length (now (a .slots))) (length (now (a .room))) (length (now (a .out))) in
-    p .prepare .ensures ∙ read-right i (sym (l .lay-out .ensures .0) ∙ ap text-means (n .n .given .1))
+    let p = c .before .before .before .before .before .before .before .before in
+    let k = p .before .before .before .before .before in
+    let l = laid k in
+    let s = start l in
+    let a = s .args in
+    let P = now (a .prepared) in
+    let m = 2 * (n k + 3) in
+    let i = asked s in
+    let of : ℕ → Choices → Called = λ x y.
+    accepted (given x y (now (a .rules)) (now (a .classes)) (now (a .vowels)) (now (a .decompositions)) (now (a .code)) (now (a .text))
+    (length (now (a .slots))) (length (now (a .room))) (length (now (a .out))))
+    (tables-of y (now (a .rules)) (now (a .classes)) (now (a .vowels)) (now (a .code))) (decoded (now (a .text))) in
+    p .prepare .ensures
+    ∙ ap (λ (x : ℕ). of x (choices-in (cut P (line k) (long k) m (room k)))) (cut-mode P (line k) (long k) m (room k))
+    ∙ ap (λ (y : Choices). of (mode-in P) y) (cut-choices P (line k) (long k) m (room k))
+    ∙ read-right i (sym (l .lay-out .ensures .0) ∙ ap text-means (k .before .n .given .1))
+
+same-length-5 : tie.Need-same-length-5
+same-length-5 c = search needs
 
 returns-2 : tie.Need-returns-2
 unfolding text-means
 returns-2 c =
-    let l = c .before .before .before .before .before in
-    let s = l .before .before .before .before .before .before .before .before .before .before in
+    let l = c .before .before .before .before .before .before in
+    let s = start l in
     let a = s .args in
-    let i = given (a .asked .mode) (chosen (a .asked)) (now (a .rules)) (now (a .classes)) (now (a .vowels)) (now (a .code)) (now (a .text)) (length (now (a .slots))) (length (now (a .room))) (length (now (a .out))) in
+    let i = asked s in
     let g = c .before .before .at .given in
     ap (λ x. returned x (now (a .out))) (c .refuse .ensures)
     ∙ as-refused i (now (a .out)) (s .pre .1) refused-utf8 (g .0 .0) ∙ read-refused i (refuse refused-utf8 (g .0 .0)) (sym (l .lay-out .ensures .0) ∙ ap text-means (g .1))
 
+same-length-6 : tie.Need-same-length-6
+same-length-6 c = search needs
+
 returns-3 : tie.Need-returns-3
 unfolding text-means
 returns-3 c =
-    let l = c .before .before .before .before in
-    let s = l .before .before .before .before .before .before .before .before .before .before in
+    let l = c .before .before .before .before .before in
+    let s = start l in
     let a = s .args in
-    let i = given (a .asked .mode) (chosen (a .asked)) (now (a .rules)) (now (a .classes)) (now (a .vowels)) (now (a .code)) (now (a .text)) (length (now (a .slots))) (length (now (a .room))) (length (now (a .out))) in
+    let i = asked s in
     let g = c .before .enum-told .given in
     ap (λ x. returned x (now (a .out))) (c .refuse2 .ensures)
     ∙ as-refused i (now (a .out)) (s .pre .1) refused-too-long most-characters ∙ read-refused i (refuse refused-too-long most-characters) (sym (l .lay-out .ensures .0) ∙ ap text-means (g .1))
 
+same-length-7 : tie.Need-same-length-7
+same-length-7 c = search needs
+
 returns-4 : tie.Need-returns-4
 unfolding text-means
 returns-4 c =
-    let l = c .before .before .before .before .before in
-    let s = l .before .before .before .before .before .before .before .before .before .before in
+    let l = c .before .before .before .before .before .before in
+    let s = start l in
     let a = s .args in
-    let i = given (a .asked .mode) (chosen (a .asked)) (now (a .rules)) (now (a .classes)) (now (a .vowels)) (now (a .code)) (now (a .text)) (length (now (a .slots))) (length (now (a .room))) (length (now (a .out))) in
+    let i = asked s in
     let g = c .before .before .p .given in
     ap (λ x. returned x (now (a .out))) (c .refuse3 .ensures)
     ∙ as-refused i (now (a .out)) (s .pre .1) refused-left-out (g .0 .0) ∙ read-refused i (refuse refused-left-out (g .0 .0)) (sym (l .lay-out .ensures .0) ∙ ap text-means (g .1))
@@ -128,12 +214,15 @@ pub read-spec : {M : Type 1} → statement M
 read-spec =
     tie.close
     (tie.spec
-    slice-aggregate-lay-out
+    sub-lay-out
+    part-lay-out-start
+    part-lay-out-end
     lay-out-requires
     enum-known-n
-    add-line
-    mul-line
-    array-share-prefix-line
+    add-prepare
+    mul-prepare
+    add-prepare-2
+    slice-relend-prefix-prepare
     slice-aggregate-prepare
     prepare-requires
     enum-known-at
@@ -145,7 +234,11 @@ read-spec =
     same-length
     same-length-2
     same-length-3
+    same-length-4
     returns
+    same-length-5
     returns-2
+    same-length-6
     returns-3
+    same-length-7
     returns-4)

@@ -3,7 +3,7 @@ use mathlib.Core.Path.{ap, _∙_}
 use native.Mathlib.Omega.{arith}
 use denote.Ref.{now}
 use Rattle.definition.specs.Refusals.{placed, refused-classes, refused-vowels}
-use Rattle.tables_vectors.proofs.Cases.{by-rules, by-classes, by-vowels}
+use Rattle.tables_vectors.proofs.Cases.{by-rules, by-classes, by-vowels, by-decompositions}
 use borrow.Author.Needs.{needs}
 use Rattle.tables_vectors.proofs.checked.Statement.{statement}
 use Rattle.tables_vectors.proofs.checked.Tie as tie
@@ -42,9 +42,17 @@ of-table-requires-2 c κs = search needs
 returns-3 : tie.Need-returns-3
 returns-3 c =
     let k = c .before in
-    let a = k .before .before .before .before .args in
+    let a = k .before .before .before .before .before .args in
     c .of-table2 .ensures ∙ ap (placed refused-vowels) (k .check-vowels .ensures)
-    ∙ by-vowels (a .kind) (now (a .table)) (λ e. omega arith) (λ e. omega arith)
+    ∙ by-vowels (a .kind) (now (a .table)) (omega arith) (λ e. omega arith) (λ e. omega arith)
+
+checked-decompositions-requires : tie.Need-checked-decompositions-requires
+checked-decompositions-requires c κs = search needs
+
+returns-4 : tie.Need-returns-4
+returns-4 c =
+    let a = c .before .before .before .before .before .args in
+    c .checked-decompositions .ensures ∙ by-decompositions (a .kind) (now (a .table)) (λ e. omega arith) (λ e. omega arith) (λ e. omega arith)
 
 pub checked-spec : {M : Type 1} → statement M
 checked-spec =
@@ -58,4 +66,6 @@ checked-spec =
     returns-2
     check-vowels-requires
     of-table-requires-2
-    returns-3)
+    returns-3
+    checked-decompositions-requires
+    returns-4)

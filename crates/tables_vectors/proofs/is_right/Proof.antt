@@ -1,15 +1,15 @@
--- `tables_vectors::is_right`: a fourth kind, or what the check answers.
+-- `tables_vectors::is_right`: a fifth kind, or what the check answers.
 use mathlib.Core.Path.{ap, _∙_}
 use native.Mathlib.Omega.{arith}
 use denote.Ref.{now}
 use Rattle.tables_vectors.specs.Given.{judged-means, fault-of}
-use Rattle.tables_vectors.proofs.Cases.{fourth, by-answer}
+use Rattle.tables_vectors.proofs.Cases.{fifth, by-answer}
 use borrow.Author.Needs.{needs}
 use Rattle.tables_vectors.proofs.is_right.Statement.{statement}
 use Rattle.tables_vectors.proofs.is_right.Tie as tie
 
 returns : tie.Need-returns
-returns c = let a = c .before .before .args in fourth (now (a .input)) (a .kind) (a .at) (a .len) (omega arith)
+returns c = let a = c .before .before .args in fifth (now (a .input)) (a .kind) (a .at) (a .len) (omega arith)
 
 part-requires : tie.Need-part-requires
 part-requires c κs = search needs
