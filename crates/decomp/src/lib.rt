@@ -162,7 +162,7 @@ fn read_row(
 }
 
 // What adding an edge answered.
-fn as_grew(done: Added) -> Grew
+pub fn as_grew(done: Added) -> Grew
     ensures { λ r. ⌜ r ≡ as-grew done ⌝ }
 {
     match done {

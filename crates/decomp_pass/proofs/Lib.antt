@@ -1,3 +1,6 @@
 pub mod Onward
-pub mod Starting
 pub mod Passing
+pub mod Between
+pub mod Halfway
+pub mod Forms
+pub mod Turns

@@ -1,33 +1,22 @@
--- What the first pass and its steps need of what they are lent, and what they promise.
-use Prim.Native.Nat.{ℕ, _+_, _*_, _≤_, _<_}
+-- What the first pass needs of what it is lent, and what it promises.
+use Prim.Native.Nat.{ℕ, _+_, _*_, _≤_}
 use mathlib.Core.List.{List}
 use mathlib.Core.Path.{_≡_}
 use lib.ListN.{length, replicate}
 use Rattle.definition.specs.Limits.{most-bytes, most-edges}
 use Rattle.definition.specs.Building.{each}
 use Rattle.definition.specs.Decomposing.{start}
-use Rattle.edge.specs.declared.Filled.{Filled}
 use Rattle.edge.specs.declared.Added.the-variants as Added
 use Rattle.words.specs.Given.{size-in, ready-in, line-in, all-ready}
-use Rattle.passes.specs.Reached.{addressable, nothing, Somewhere, Rooms}
+use Rattle.passes.specs.Reached.{nothing, Somewhere, Rooms}
 use Rattle.passes.specs.Starts.{Began}
-use Rattle.first_pass.specs.Fresh.{Fresh}
 use Rattle.decomp.specs.declared.Grew.{Grew}
 use Rattle.decomp.specs.declared.Grew.the-variants.{Fits, NoSlot, NoRoom, TooLong}
 use Rattle.decomp.specs.Rows.{Formable}
 use Rattle.decomp.specs.Grown.{GrowsAt}
 
 module _ (rules prepared classes vowels decompositions slots room places : List ℕ) where
-  -- for one start
-  pub record StartReady (filled : Filled) (s : ℕ) : Type 0 where
-    pub long : all-ready ≤ length prepared
-    pub forms : Formable rules (ready-in prepared) classes vowels decompositions
-    pub somewhere : Somewhere (ready-in prepared) (line-in prepared) slots room places filled
-    pub inside : s < size-in (line-in prepared)
-    pub fresh : Fresh s slots room filled
-    pub offset : filled .used + most-edges * most-bytes < addressable
-
-  -- for all starts: there is no edge yet, of no start anything is told, and the world's classes are those that are lent
+  -- there is no edge yet, of no start anything is told, and the world's classes are those that are lent
   pub record PassReady (noted : List ℕ) : Type 0 where
     pub long : all-ready ≤ length prepared
     pub forms : Formable rules (ready-in prepared) classes vowels decompositions

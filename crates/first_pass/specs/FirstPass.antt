@@ -1,18 +1,29 @@
 -- What the first pass and its steps need of what they are lent, and what the whole of it promises.
-use Prim.Native.Nat.{ℕ, _+_, _*_, _<_}
+use Prim.Native.Nat.{ℕ, _+_, _-_, _*_, _<_, _≤_}
 use mathlib.Core.List.{List}
 use mathlib.Core.Path.{_≡_}
-use lib.ListN.{length, replicate}
-use Rattle.definition.specs.Limits.{most-source, most-bytes}
+use lib.ListN.{length, set}
+use Rattle.base.specs.Alls.{All}
+use Rattle.definition.specs.Limits.{most-source, most-edges, most-bytes}
 use Rattle.definition.specs.Building.{each, build}
 use Rattle.edge.specs.declared.Filled.{Filled}
 use Rattle.edge.specs.declared.Added.{Added as Answer}
+use Rattle.edge.specs.declared.Added.the-variants.{Fits, NoSlot, NoRoom}
+use Rattle.edge.specs.Slots.{edges-of}
+use Rattle.standing.specs.Starts.{begun as begun-at}
+use Rattle.standing.specs.Begun.{Begun}
+use Rattle.standing.specs.Stands.{Ahead}
 use Rattle.table_vowels.specs.Told.{FineVowels}
 use Rattle.words.specs.declared.Look.{Look}
 use Rattle.words.specs.Given.{size-in, Prepared}
 use Rattle.words.specs.Looks.{Looked}
-use Rattle.passes.specs.Reached.{addressable, nothing, Somewhere, Rooms, Reaches}
+use Rattle.passes.specs.Reached.{addressable, Somewhere, Rooms, Reaches}
+use Rattle.first_pass.specs.declared.Stretch.{Stretch}
 use Rattle.first_pass.specs.Fresh.{Fresh}
+
+-- how many edges there are, and how much room they take, when the search comes to a stretch
+abbrev pub filled-of : Stretch → Filled
+filled-of x = record { count = x .count; used = x .used; since = x .count }
 
 module _ (rules ready vowels line slots room places : List ℕ) where
   -- Edges can be searched from the start `s`, of which `Inside` says that it lies in the text: the tables are as they were
@@ -30,12 +41,30 @@ module _ (rules ready vowels line slots room places : List ℕ) where
   abbrev pub StartReady : Filled → ℕ → Type 0
   StartReady filled s = Searchable (s < size-in line) filled s (filled .used + most-source * most-bytes)
 
-  -- for all starts: there is no edge yet, and of no start anything is told
-  abbrev pub PassReady : List ℕ → Type 0
-  PassReady starts =
-      Prepared rules ready × FineVowels vowels × (starts ≡ replicate (size-in line + 1) 0) × Somewhere ready line slots room places nothing
+  -- for the starts of a stretch: there are so many edges from those before it, which go forward within the text
+  pub record PassReady (starts : List ℕ) (x : Stretch) : Type 0 where
+    pub table : Prepared rules ready
+    pub inherent : FineVowels vowels
+    pub forward : x .from ≤ x .to
+    pub inside : x .to ≤ size-in line
+    pub somewhere : Somewhere ready line slots room places (filled-of x)
+    pub begun : Begun (edges-of room (x .count) slots) (x .from) (set starts (x .from) (x .count))
+    pub ahead : All (λ y. Ahead (size-in line) (y .from) (y .to)) (edges-of room (x .count) slots)
+    pub sized : length starts ≡ size-in line + 1
+    pub few : x .count ≤ x .from * most-edges
+    pub little : x .used ≤ x .from * (most-edges * most-bytes)
 
--- The whole pass: from no edge it reaches where the definition's `build` of every start leads
-abbrev pub FirstPass : List ℕ → List ℕ → List ℕ → List ℕ → List ℕ → Rooms → Rooms → Answer → Type 0
-FirstPass rules ready vowels code line before after r =
-    Reaches rules ready vowels code line before after nothing (size-in line * (most-source * most-bytes)) (λ D t. each (build D t) (length t) 0) r
+-- The pass over a stretch: it reaches where the definition's `build` of each of its starts leads
+abbrev pub FirstPass : List ℕ → List ℕ → List ℕ → List ℕ → List ℕ → Rooms → Rooms → Stretch → Answer → Type 0
+FirstPass rules ready vowels code line before after x r =
+    Reaches rules ready vowels code line before after (filled-of x) (x .used + (x .to - x .from) * (most-source * most-bytes))
+    (λ D t. each (build D t) (x .to - x .from) (x .from)) r
+
+-- What starts tell then: each of the stretch has begun, the entry behind it is the number of edges, each of which goes forward
+-- within the text of `n` characters; and there are not too many
+abbrev pub BeganTo : List ℕ → List ℕ → ℕ → List ℕ → Stretch → Answer → Type 0
+BeganTo slots room n starts x (Fits c u) =
+    Begun (edges-of room c slots) (x .to) starts × (begun-at starts (x .to) ≡ c) × (length starts ≡ n + 1)
+    × All (λ y. Ahead n (y .from) (y .to)) (edges-of room c slots) × (c ≤ x .count + (x .to - x .from) * most-source)
+BeganTo slots room n starts x (NoSlot p) = Unit {0}
+BeganTo slots room n starts x (NoRoom p) = Unit {0}

@@ -8,9 +8,8 @@ ghost use Rattle.definition.specs.Limits.{most-source, most-bytes};
 ghost use Rattle.definition.specs.Building.{build};
 ghost use Rattle.words.specs.Given.{size-in};
 ghost use Rattle.passes.specs.Reached.{Reaches};
-ghost use Rattle.passes.specs.Starts.{Began};
 ghost use Rattle.first_pass.specs.Rises.{put-span};
-ghost use Rattle.first_pass.specs.FirstPass.{SpanReady, StartReady, PassReady, FirstPass};
+ghost use Rattle.first_pass.specs.FirstPass.{SpanReady, StartReady, PassReady, FirstPass, BeganTo};
 use edge::Added;
 use edge::Filled;
 use words::Look;
@@ -61,7 +60,7 @@ fn add_span(
 }
 
 // `add_romanization` from one start: its ends rise while the span is a prefix of a source.
-pub fn add_from(
+fn add_from(
     rules: &[u8],
     ready: &[u32],
     vowels: &[u8],
@@ -145,7 +144,16 @@ pub fn add_from(
     }
 }
 
-// From every start, with no edge before. Of each start it is kept how many edges there were when the search came to it.
+// A stretch of starts, and how many edges there are and how much room they take when the search comes to it.
+pub struct Stretch {
+    pub count: usize,
+    pub used: usize,
+    pub from: usize,
+    pub to: usize,
+}
+
+// From every start of a stretch. Of each start, and of the one behind the last, it is kept how many edges there were when the
+// search came to it.
 pub fn add_romanization(
     rules: &[u8],
     ready: &[u32],
@@ -156,16 +164,17 @@ pub fn add_romanization(
     room: &mut [u8],
     places: &mut [u32],
     starts: &mut [u32],
+    stretch: Stretch,
 ) -> Added
-    requires { ⌜ PassReady (now rules) (now ready) (now vowels) (now line) (now slots) (now room) (now places) (now starts) ⌝ }
+    requires { ⌜ PassReady (now rules) (now ready) (now vowels) (now line) (now slots) (now room) (now places) (now starts) stretch ⌝ }
     ensures built { λ r. ⌜ FirstPass (now (rules .entry)) (now (ready .entry)) (now (vowels .entry)) (now (code .entry)) (now (line .entry))
-        (now (slots .entry), now (room .entry), now (places .entry)) (now (slots .exit), now (room .exit), now (places .exit)) r ⌝ }
-    ensures starts { λ r. ⌜ Began (now (slots .exit)) (now (room .exit)) (size-in (now (line .entry))) (now (starts .exit)) r ⌝ }
+        (now (slots .entry), now (room .entry), now (places .entry)) (now (slots .exit), now (room .exit), now (places .exit)) stretch r ⌝ }
+    ensures starts { λ r. ⌜ BeganTo (now (slots .exit)) (now (room .exit)) (size-in (now (line .entry))) (now (starts .exit)) stretch r ⌝ }
 {
-    let n = words::text_len(line);
-    let mut edges: usize = 0;
-    let mut bytes: usize = 0;
-    let mut s: usize = 0;
+    let n = stretch.to;
+    let mut edges = stretch.count;
+    let mut bytes = stretch.used;
+    let mut s = stretch.from;
     while s < n {
         standing::begin_at(starts, s, edges);
         let filled = Filled {

@@ -24,6 +24,7 @@ pub fn build_lattice<'a>(
         (now (slots .entry), now (room .entry), now (places .entry)) (now (slots .exit), now (room .exit), now (places .exit)) r ⌝ }
     ensures starts { λ r. ⌜ Standing (now (slots .exit)) (now (starts .exit)) r ⌝ }
 {
+    let n = words::text_len(line);
     let done = first_pass::add_romanization(
         rules,
         ready,
@@ -34,6 +35,12 @@ pub fn build_lattice<'a>(
         room,
         places,
         starts,
+        first_pass::Stretch {
+            count: 0,
+            used: 0,
+            from: 0,
+            to: n,
+        },
     );
     match done {
         Added::Fits { count, used } => second_pass::add_rom_fall_back_singles(

@@ -9,7 +9,7 @@ use native.Mathlib.Decide.{decLt}
 use lib.Dec.{eqb, leb}
 use lib.ListN.{length, getD, set, drop, replicate, length-drop}
 use lib.Seq.{drop-drop}
-use borrow.Author.Tests.{eq-eqb, ne-eqb, leb-true, eqb-false, not-true}
+use borrow.Author.Tests.{eq-eqb, ne-eqb, leb-true, le-leb, eqb-true, eqb-false, not-true}
 use Rattle.base.specs.Pick.{pick}
 use Rattle.base.specs.Bools.{and-left, and-right}
 use Rattle.base.specs.Rows.{rows, rows-nil, rows-cons}
@@ -252,3 +252,60 @@ module _ (b : List ℕ) (c : ℕ) where
   entry-begins {x} r k e n h =
       let q : n - 1 ≡ k = omega arith in
       rw q (All-getD Begins x k 0 (subst (All Begins) (sym (r .is)) (begins-all (r .rows))) begins-not e)
+
+-- the least character that a walk from an offset on can find: from the first row on any, else that of the row there
+unfoldable pub low-of : List ℕ → ℕ → ℕ
+low-of b at = pick (eqb at head-bytes) 0 (decomposition-char (drop at b))
+
+pub low-first : (b : List ℕ) (at : ℕ) → eqb at head-bytes ≡ true → low-of b at ≡ 0
+unfolding low-of pick
+low-first b at e = rw e refl
+
+pub low-own : (b : List ℕ) (at : ℕ) → eqb at head-bytes ≡ false → low-of b at ≡ decomposition-char (drop at b)
+unfolding low-of pick
+low-own b at e = rw e refl
+
+-- it is not above that of the row there
+pub low-below : (b : List ℕ) (at : ℕ) → low-of b at ≤ decomposition-char (drop at b)
+low-below b at = go (eqb at head-bytes) refl
+  where
+    go : (f : Bool) → eqb at head-bytes ≡ f → low-of b at ≤ decomposition-char (drop at b)
+    go true e = let z = low-first b at e in omega (arith, z)
+    go false e = let z = low-own b at e in omega (arith, z)
+
+-- A walk to a character may begin there, and one to any other that is not below
+pub record Walks (b : List ℕ) (c at : ℕ) : Type 0 where
+  pub low : low-of b at ≤ c
+  pub begun : (x : ℕ) → low-of b at ≤ x → Begun b x at
+
+pub walks-first : (b : List ℕ) (c : ℕ) → RightRows most-rows 0 (drop head-bytes b) → Walks b c head-bytes
+unfolding low-of pick
+walks-first b c r = record { low = omega arith; begun = λ x l. begun-first b x r }
+
+pub entry-walks : (b : List ℕ) (c : ℕ) {x : List ℕ} → Ready b x → (k : ℕ) → entry-low b c (getD x k 0) ≡ true → (n : ℕ) → n ≡ k + 1
+    → Walks b c (getD x (n - 1) 0)
+unfolding entry-low
+entry-walks b c {x} r k e n h =
+    let q : n - 1 ≡ k = omega arith in
+    rw q (walks (eqb (getD x k 0) head-bytes) refl)
+  where
+    o : ℕ
+    o = getD x k 0
+
+    there : not (eqb o 0) ≡ true
+    there = and-left (not (eqb o 0)) (leb (decomposition-char (drop o b)) c) e
+
+    near : decomposition-char (drop o b) ≤ c
+    near = leb-true (decomposition-char (drop o b)) c (and-right (not (eqb o 0)) (leb (decomposition-char (drop o b)) c) e)
+
+    from : (y : ℕ) → decomposition-char (drop o b) ≤ y → Begun b y o
+    from y l =
+        subst (Begun b y) (ap (λ (i : ℕ). getD x i 0) {x = suc k - 1} {y = k} (omega arith))
+        (entry-begins b y r k (ap (λ (t : Bool). t && leb (decomposition-char (drop o b)) y) there ∙ le-leb (decomposition-char (drop o b)) y l) (suc k) (omega arith))
+
+    walks : (f : Bool) → eqb o head-bytes ≡ f → Walks b c o
+    walks true f = record {
+      low = let z = low-first b o f in omega (arith, z);
+      begun = λ y l. subst (Begun b y) (sym (eqb-true o head-bytes f)) (begun-first b y (r .rows));
+    }
+    walks false f = let z = low-own b o f in record { low = omega (arith, z, near); begun = λ y l. from y (omega (arith, z, l)) }

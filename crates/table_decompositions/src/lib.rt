@@ -1,6 +1,6 @@
 // The decomposition table: its check, its index, and the row of a character.
 ghost use mathlib.Core.Path.{_≡_};
-ghost use Prim.Native.Nat.{_<_, _≤_};
+ghost use Prim.Native.Nat.{_-_, _<_, _≤_};
 ghost use lib.ListN.{length, getD, take, drop, replicate};
 ghost use Rattle.base.specs.Lists.{any};
 ghost use Rattle.definition.specs.Limits.{most-rows};
@@ -12,8 +12,10 @@ ghost use Rattle.definition.specs.DecompositionLaws.{RightRows};
 ghost use Rattle.table_blocks.specs.Faults.{table-means};
 ghost use Rattle.rule_table.specs.Index.{index-entries, entered, indexed};
 ghost use Rattle.table_decompositions.specs.Index.{row-offsets, index-of, Ready};
-ghost use Rattle.table_decompositions.specs.Search.{Begun, entry-low};
+ghost use Rattle.table_decompositions.specs.Search.{Walks, low-of, entry-low};
 ghost use Rattle.table_decompositions.specs.Told.{Found, EdgeFound};
+ghost use Rattle.table_decompositions.specs.Next.{next-form};
+ghost use Rattle.table_decompositions.specs.Gaps.{in-gap, GapAt};
 use table_blocks::TableRead;
 
 // How many rows lie from one entry of the index to the next, and how many entries it has.
@@ -26,6 +28,9 @@ pub const MOST_INTO: u32 = 18;
 
 // The highest tag, which is the one that gives an edge.
 pub const OTHER: u32 = 5;
+
+// The highest number that a line can hold.
+const LAST_NUMBER: u32 = 0xFFFFFFFF;
 
 // U+0020 has no row.
 const SPACE: u32 = 0x20;
@@ -190,7 +195,7 @@ fn is_entry_low(table: &[u8], index: &[u32], k: usize, c: u32) -> bool
 // Where the walk to a character's row begins: at the last row of the index that is not above it, or at the first of all.
 fn walk_start(table: &[u8], index: &[u32], c: u32) -> usize
     requires { ⌜ Ready (now table) (now index) ⌝ }
-    ensures { λ r. ⌜ Begun (now (table .entry)) c r ⌝ }
+    ensures { λ r. ⌜ Walks (now (table .entry)) c r ⌝ }
 {
     let mut low: usize = 0;
     let mut high = index.len();
@@ -300,4 +305,86 @@ pub fn check_decompositions(table: &[u8], index: &mut [u32]) -> TableRead
         TableRead::Fault(o) => TableRead::Fault(o),
         TableRead::Valid => own,
     }
+}
+
+// Characters side by side, the first and the last of them, none of which gives an edge. Where the last is below the first there
+// are none.
+struct Gap {
+    first: u32,
+    last: u32,
+}
+
+fn is_in(gap: Gap, c: u32) -> bool
+    ensures { λ r. ⌜ r ≡ in-gap gap c ⌝ }
+{
+    if c < gap.first {
+        return false;
+    }
+    c <= gap.last
+}
+
+// The least character that a walk from an offset on can find: from the first row on any, else that of the row there.
+fn low_of(table: &[u8], at: usize) -> u32
+    ensures { λ r. ⌜ r ≡ low-of (now (table .entry)) at ⌝ }
+{
+    if at == table_blocks::HEAD_BYTES {
+        return 0;
+    }
+    base::three(table, at, 0)
+}
+
+// The characters between two rows that a character lies among. One that has a row lies alone, or in no gap if it gives an edge.
+fn gap_of(table: &[u8], index: &[u32], c: u32) -> Gap
+    requires { ⌜ Ready (now table) (now index) ⌝ }
+    ensures { λ r. ⌜ GapAt (now (table .entry)) c r ⌝ }
+{
+    let mut at = walk_start(table, index, c);
+    let mut first = low_of(table, at);
+    while at < table.len() {
+        let d = base::three(table, at, 0);
+        if c < d {
+            return Gap { first, last: d - 1 };
+        }
+        if d == c {
+            if base::at(table, at, 3) == OTHER {
+                return Gap { first: 1, last: 0 };
+            }
+            return Gap { first: c, last: c };
+        }
+        first = d + 1;
+        at += size(table, at);
+    }
+    Gap {
+        first,
+        last: LAST_NUMBER,
+    }
+}
+
+// The first position from `p` on, of a text of `n` characters in a line, whose character gives an edge; or `n`. Characters beside
+// each other are mostly of one script, and lie in one gap; spaces between them are below the first row's.
+pub fn next_form(table: &[u8], index: &[u32], line: &[u32], n: usize, p: usize) -> usize
+    requires { ⌜ Ready (now table) (now index) × (p ≤ n) × (n < length (now line)) ⌝ }
+    ensures { λ r. ⌜ r ≡ next-form (decompositions-of (now (table .entry))) (now (line .entry)) (n - p) p ⌝ }
+{
+    let lowest = base::three(table, table_blocks::HEAD_BYTES, 0);
+    let mut gap = Gap { first: 1, last: 0 };
+    let mut q = p;
+    while q < n {
+        let c = line[q + 1];
+        if c < lowest {
+            q += 1;
+        } else {
+            if is_in(gap, c) {
+                q += 1;
+            } else {
+                gap = gap_of(table, index, c);
+                if is_in(gap, c) {
+                    q += 1;
+                } else {
+                    return q;
+                }
+            }
+        }
+    }
+    n
 }

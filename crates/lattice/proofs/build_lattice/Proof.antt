@@ -1,6 +1,6 @@
 -- `lattice::build_lattice`: the fallbacks come behind the first pass; a refusal of either is the whole's.
 use mathlib.Core.Path.{_≡_, sym, ap, _∙_, subst}
-use Prim.Native.Nat.{ℕ, _+_, _*_}
+use Prim.Native.Nat.{ℕ, _+_, _-_, _*_}
 use native.Mathlib.Omega.{arith}
 use denote.Ref.{now}
 use Rattle.definition.specs.Limits.{most-source, most-bytes, most-edges, most-characters}
@@ -16,16 +16,17 @@ use Rattle.passes.specs.Reached.{reached-wide, reached-refused, reached-as, rea
 use Rattle.passes.specs.Starts.{Began}
 use Rattle.second_pass.specs.Starts.{Standing}
 use Rattle.lattice.specs.Lattice.{Lattice}
-use Rattle.lattice.proofs.Whole.{whole-lattice}
+use Rattle.lattice.proofs.Whole.{whole-lattice, whole-ready, whole-began}
 use borrow.Author.Needs.{needs}
 use Rattle.lattice.proofs.build_lattice.Statement.{statement}
 use Rattle.lattice.proofs.build_lattice.Tie as tie
 
--- where the function began, and the first pass as it answered
+-- where the text was measured, where the function began, and the first pass as it answered
+abbrev measured : tie.After-add-romanization → tie.After-text-len
+measured b = b .before .before .before .before .before
+
 abbrev start : tie.After-add-romanization → tie.Start
-start b =
-    let k = b .before .before .before .before .before in
-    k .before .before .before .before .before .before .before .before .before .before
+start b = measured b .before .before .before .before .before .before .before .before .before .before .before
 
 abbrev passed : tie.After-done → tie.After-add-romanization
 passed m = m .before .before .before .before .before .before .before .before .before .before
@@ -39,13 +40,19 @@ Lent-in b w =
 abbrev D : tie.After-add-romanization → World → Tables
 D b w = let a = start b .args in tables-of (w .choices) (now (a .rules)) (w .classes) (now (a .vowels)) (now (a .code))
 
+-- the text's length, as it was measured
+abbrev long : tie.After-add-romanization → ℕ
+long b = measured b .text-len .result
+
 -- what the definition's first pass leads to
 abbrev built : tie.After-add-romanization → World → State
-built b w = each (build (D b w) (w .text)) (size w) 0 (state-of w (now (start b .args .places)))
+built b w = each (build (D b w) (w .text)) (long b - 0) 0 (state-of w (now (start b .args .places)))
 
 -- its second pass from there makes the lattice
 whole : (b : tie.After-add-romanization) (w : World) → Lent-in b w → each (fall (D b w) (w .text)) (size w) 0 (built b w) ≡ rule-lattice (D b w) (w .text)
-whole b w o = whole-lattice (D b w) o (size-in (now (start b .args .line)) + 1) (start b .pre .4) (omega (arith, line-size (o .lent .text)))
+whole b w o =
+    let is = line-size (o .lent .text) in
+    whole-lattice (D b w) o (long b - 0) (size-in (now (start b .args .line)) + 1) (omega (arith, is, measured b .text-len .ensures)) (start b .pre .4) (omega (arith, is))
 
 -- An edge of the first pass that doesn't fit is the whole lattice's refusal.
 stops : (b : tie.After-add-romanization) → Refused (b .add-romanization .result)
@@ -70,13 +77,13 @@ module _ (m : tie.After-done) (w : World) (o : Lent-in (passed m) w) where
 
   fits : Reached (kinds w) (size w) (now (start (passed m) .args .slots)) (now (start (passed m) .args .room))
       (passed m .add-romanization .last .1 .1 .1 .1 .1 .0) (passed m .add-romanization .last .1 .1 .1 .1 .1 .1 .0)
-      (passed m .add-romanization .last .1 .1 .1 .1 .1 .1 .1 .0) (size-in (now (start (passed m) .args .line)) * (most-source * most-bytes))
+      (passed m .add-romanization .last .1 .1 .1 .1 .1 .1 .1 .0) (0 + (long (passed m) - 0) * (most-source * most-bytes))
       (built (passed m) w) (Fits count used)
   fits =
       let b = passed m in
       let a = start b .args in
       let x = b .add-romanization .last .1 .1 .1 .1 .1 in
-      subst (Reached (kinds w) (size w) (now (a .slots)) (now (a .room)) (x .0) (x .1 .0) (x .1 .1 .0) (size-in (now (a .line)) * (most-source * most-bytes)) (built b w))
+      subst (Reached (kinds w) (size w) (now (a .slots)) (now (a .room)) (x .0) (x .1 .0) (x .1 .1 .0) (0 + (long b - 0) * (most-source * most-bytes)) (built b w))
       (m .done .given .1) (b .add-romanization .ensures .0 w o)
 
   -- the second pass is lent them
@@ -87,8 +94,14 @@ module _ (m : tie.After-done) (w : World) (o : Lent-in (passed m) w) where
       let x = passed m .add-romanization .last .1 .1 .1 .1 .1 in
       over-now (o .told) (o .lent .text) (x .0) (x .1 .0) (x .1 .1 .0) (record { count = count; used = used; since = count }) (built (passed m) w) (fits .came .0)
 
+text-len-requires : tie.Need-text-len-requires
+text-len-requires c κs = search needs
+
 add-romanization-requires : tie.Need-add-romanization-requires
-add-romanization-requires c κs = search needs
+add-romanization-requires c κs =
+    let k = c .before .before .before .before in
+    let p = k .before .before .before .before .before .before .before .before .before .before .before .pre in
+    whole-ready (p .0) (p .1) (p .3) (p .5) (k .text-len .result) (k .text-len .ensures)
 
 enum-known-done : tie.Need-enum-known-done
 enum-known-done c = search needs
@@ -101,14 +114,16 @@ add-rom-fall-back-singles-requires c κs =
     let w = p .3 .world in
     let o = p .3 .over in
     let x = b .add-romanization in
+    let n = size-in (now (start b .args .line)) in
+    let is = measured b .text-len .ensures in
     let few = o .lent .text .few in
     let most = fits m w o .came .1 in (
       p .0,
       p .2,
-      omega (arith, most, few, line-size (o .lent .text)),
+      omega (arith, most, few, is, line-size (o .lent .text)),
       record { world = with-edges w (built b w .0); over = over m w o },
-      subst (Began (x .last .1 .1 .1 .1 .1 .0) (x .last .1 .1 .1 .1 .1 .1 .0) (size-in (now (start b .args .line))) (x .last .1 .1 .1 .1 .1 .1 .1 .1 .0))
-          (m .done .given .1) (x .ensures .1),
+      subst (Began (x .last .1 .1 .1 .1 .1 .0) (x .last .1 .1 .1 .1 .1 .1 .0) n (x .last .1 .1 .1 .1 .1 .1 .1 .1 .0)) (m .done .given .1)
+          (whole-began (x .last .1 .1 .1 .1 .1 .0) (x .last .1 .1 .1 .1 .1 .1 .0) (x .last .1 .1 .1 .1 .1 .1 .1 .1 .0) (long b) n is (x .result) (x .ensures .1)),
     )
 
 enum-told : tie.Need-enum-told
@@ -143,7 +158,7 @@ returns c =
           let used = r .came .1 in
           reached-as _
           (ap (λ (n : Mem). each (fall (D b w) (w .text)) (size w) 0 (built b w .0, n)) (r .came .0 .remembered) ∙ whole b w o) (y .result)
-          (reached-wide (most-edges * most-characters * most-bytes) (omega (arith, used, few, line-size (o .lent .text))) (y .result)
+          (reached-wide (most-edges * most-characters * most-bytes) (omega (arith, used, few, measured b .text-len .ensures, line-size (o .lent .text))) (y .result)
           (reached-since (now (a .slots)) (now (a .room)) (r .slots) (r .room) (y .result)
           (y .ensures .0 (now (a .vowels)) (with-edges w (built b w .0)) (over m w o)))),
       y .ensures .1,
@@ -191,6 +206,7 @@ pub build-lattice-spec : {M : Type 1} → statement M
 build-lattice-spec =
     tie.close
     (tie.spec
+    text-len-requires
     add-romanization-requires
     enum-known-done
     add-rom-fall-back-singles-requires

@@ -33,7 +33,7 @@ walk-start-requires : tie.Need-walk-start-requires Inv-loop μ-loop
 walk-start-requires c κs = search needs
 
 loop-holds : tie.Need-loop-holds Inv-loop μ-loop
-loop-holds c = c .walk-start .ensures
+loop-holds c = let w = c .walk-start .ensures in w .begun (c .before .before .before .before .before .args .c) (w .low)
 
 three-requires-2 : tie.Need-three-requires-2 Inv-loop μ-loop
 three-requires-2 c κs = search needs

@@ -5,13 +5,13 @@ use native.Mathlib.Omega.{arith}
 use lib.ListN.{length, getD}
 use denote.Ref.{now}
 use borrow.Author.Needs.{needs}
-use Rattle.table_decompositions.specs.Search.{Begun, begun-first, entry-begins}
+use Rattle.table_decompositions.specs.Search.{Walks, walks-first, entry-walks}
 use Rattle.table_decompositions.proofs.walk_start.Statement.{statement}
 use Rattle.table_decompositions.proofs.walk_start.Tie as tie
 
 abbrev Inv-loop : tie.InvT-loop
 Inv-loop table index c low₀ high₀ low high =
-    (0 < low → Begun table c (getD index (low - 1) 0))
+    (0 < low → Walks table c (getD index (low - 1) 0))
     × (low ≤ high) × (high ≤ length index)
 
 abbrev μ-loop : tie.MeasureT-loop
@@ -39,7 +39,7 @@ loop-again : tie.Need-loop-again Inv-loop μ-loop
 loop-again c =
     let l = c .before .before .before in
     let s = l .before .before .before in (
-      λ k. entry-begins (now (s .args .table)) (s .args .c) (s .pre) _ (sym (c .before .is-entry-low .ensures) ∙ c .if1 .taken) _ (omega arith),
+      λ k. entry-walks (now (s .args .table)) (s .args .c) (s .pre) _ (sym (c .before .is-entry-low .ensures) ∙ c .if1 .taken) _ (omega arith),
       omega arith,
       omega arith,
     )
@@ -51,7 +51,7 @@ loop-again-2 : tie.Need-loop-again-2 Inv-loop μ-loop
 loop-again-2 c = (c .before .before .before .loop .inv .0, omega arith, omega arith)
 
 returns : tie.Need-returns Inv-loop μ-loop
-returns c = let s = c .before .before .before .before .before in begun-first (now (s .args .table)) (s .args .c) (s .pre .rows)
+returns c = let s = c .before .before .before .before .before in walks-first (now (s .args .table)) (s .args .c) (s .pre .rows)
 
 sub-result : tie.Need-sub-result Inv-loop μ-loop
 sub-result c = search needs
