@@ -345,7 +345,7 @@ fn gap_of(table: &[u8], index: &[u32], c: u32) -> Gap
         if c < d {
             return Gap { first, last: d - 1 };
         }
-        if d == c {
+        if c == d {
             if base::at(table, at, 3) == OTHER {
                 return Gap { first: 1, last: 0 };
             }
