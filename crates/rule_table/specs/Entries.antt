@@ -35,7 +35,7 @@ module _ (b : List ℕ) (w : Text) (o : ℕ) where
   unfolding entry-below
   entry-some n = ap (λ c. not c && is-below (order-at b w o)) (sym (ne-eqb o 0 n))
 
--- What holds of the offsets and of what was there, holds of what they are put into
+-- What holds of the offsets and of what was there, holds of what they are put into, in the index of any table
 module _ (P : ℕ → Type 0) where
   set-all : (l : List ℕ) (i o : ℕ) → P o → All P l → All P (set l i o)
   set-all [] i o p h = tt
@@ -50,12 +50,12 @@ module _ (P : ℕ → Type 0) where
       go true = set-all l (n / index-step) o p h
       go false = h
 
-  indexed-all : (n : ℕ) (os l : List ℕ) → All P os → All P l → All P (indexed n os l)
+  pub indexed-all : (n : ℕ) (os l : List ℕ) → All P os → All P l → All P (indexed n os l)
   unfolding indexed
   indexed-all n [] l p h = h
   indexed-all n (o ∷ os) l p h = indexed-all (n + 1) os (entered n o l) (p .1) (entered-all n o l (p .0) h)
 
-  replicate-all : (n o : ℕ) → P o → All P (replicate n o)
+  pub replicate-all : (n o : ℕ) → P o → All P (replicate n o)
   replicate-all zero o p = tt
   replicate-all (suc n) o p = (p, replicate-all n o p)
 

@@ -3,11 +3,11 @@ use mathlib.Core.Bool.{Bool, true, false, not, _&&_, true≢false}
 use mathlib.Core.Path.{_≡_, refl, sym, ap, _∙_, subst}
 use mathlib.Core.List.{List, [], _∷_}
 use mathlib.Core.Option.{Option, none, some}
-use Prim.Native.Nat.{ℕ, zero, suc, _+_, _-_, _/_, _%_, _≤_, _<_}
+use Prim.Native.Nat.{ℕ, zero, suc, _+_, _-_, _≤_, _<_}
 use native.Mathlib.Omega.{arith}
 use native.Mathlib.Decide.{decLt}
 use lib.Dec.{eqb, leb}
-use lib.ListN.{length, getD, set, drop, replicate, length-drop}
+use lib.ListN.{length, getD, drop, replicate, length-drop}
 use lib.Seq.{drop-drop}
 use borrow.Author.Tests.{eq-eqb, ne-eqb, leb-true, le-leb, eqb-true, eqb-false, not-true}
 use Rattle.base.specs.Pick.{pick}
@@ -21,7 +21,8 @@ use Rattle.definition.specs.BlockTurns.{ended, linked, chain-ordered}
 use Rattle.definition.specs.DecompositionRows.{decomposition-char, decomposition-size, decomposition-next, decomposition-right, decomposition-of, decompositions-of}
 use Rattle.definition.specs.Decomposing.{row-of}
 use Rattle.definition.specs.DecompositionLaws.{RightRows, decomposition-moves, decomposition-checked}
-use Rattle.rule_table.specs.Index.{index-step, index-entries, entered, indexed}
+use Rattle.rule_table.specs.Index.{index-entries}
+use Rattle.rule_table.specs.Entries.{indexed-all, replicate-all}
 use Rattle.table_decompositions.specs.Index.{offsets-from, row-offsets, index-of, Ready, offsets-over, offsets-next}
 
 -- the row of a character among those from an offset on
@@ -159,30 +160,6 @@ module _ (b : List ℕ) (c o : ℕ) where
   pub entry-some : (o ≡ 0 → ⊥) → (d : ℕ) → d ≡ decomposition-char (drop o b) → leb d c ≡ entry-low b c o
   unfolding entry-low
   entry-some n d e = rw e (ap (λ t. not t && leb (decomposition-char (drop o b)) c) (sym (ne-eqb o 0 n)))
-
--- What holds of the offsets and of what was there, holds of what they are put into
-module _ (P : ℕ → Type 0) where
-  set-all : (l : List ℕ) (i o : ℕ) → P o → All P l → All P (set l i o)
-  set-all [] i o p h = tt
-  set-all (x ∷ l) zero o p h = (p, h .1)
-  set-all (x ∷ l) (suc i) o p h = (h .0, set-all l i o p (h .1))
-
-  entered-all : (n o : ℕ) (l : List ℕ) → P o → All P l → All P (entered n o l)
-  unfolding entered pick
-  entered-all n o l p h = go (eqb (n % index-step) 0)
-    where
-      go : (c : Bool) → All P (pick c (set l (n / index-step) o) l)
-      go true = set-all l (n / index-step) o p h
-      go false = h
-
-  indexed-all : (n : ℕ) (os l : List ℕ) → All P os → All P l → All P (indexed n os l)
-  unfolding indexed
-  indexed-all n [] l p h = h
-  indexed-all n (o ∷ os) l p h = indexed-all (n + 1) os (entered n o l) (p .1) (entered-all n o l (p .0) h)
-
-  replicate-all : (n o : ℕ) → P o → All P (replicate n o)
-  replicate-all zero o p = tt
-  replicate-all (suc n) o p = (p, replicate-all n o p)
 
 module _ (b : List ℕ) (c : ℕ) where
   abbrev Low : ℕ → Type 0
