@@ -22,7 +22,6 @@ use Rattle.definition.specs.Growth.{all-bytes}
 use Rattle.definition.specs.ClassRows.{classes-of}
 use Rattle.definition.specs.Call.{tables-of}
 use Rattle.table_decompositions.specs.Told.{into-means, EdgeFound}
-use Rattle.rom.specs.Rom.{text-length}
 use Rattle.edge.specs.declared.Filled.{Filled}
 use Rattle.edge.specs.declared.Added.{Added as Answer}
 use Rattle.edge.specs.Stored.{edge-count}
@@ -30,7 +29,7 @@ use Rattle.noting.specs.Keeps.{Keeps}
 use Rattle.words.specs.Given.{World, kinds, size, choices-in}
 use Rattle.passes.specs.Reached.{Over, over-keeps, state-of, Reached, reached-since}
 use Rattle.decomp_text.specs.declared.Beside.{Beside}
-use Rattle.decomp_text.specs.Spelling.{Spells}
+use Rattle.decomp_text.specs.Spelling.{Spells, held-length}
 use Rattle.decomp_text.specs.Reading.{read-as, Besides, read-text}
 use Rattle.decomp.specs.declared.Grew.{Grew}
 use Rattle.decomp.specs.declared.Grew.the-variants.{Fits, NoSlot, NoRoom, TooLong}
@@ -73,8 +72,8 @@ module _ (rules ready line classes vowels decompositions code S R P : List ℕ) 
 
   -- or its row was read, in what was free
   module _ (into : Text) (e : stands-for ds (at (w .text) p) ≡ some into) (b : Beside) (near : Besides (kinds w) (w .text) p b) (k r : ℕ)
-      (k-is : k ≡ length S - filled .count * slot-bytes) (r-is : r ≡ length R - filled .used) (read : RowText)
-      (h : RowRead rules (choices-in ready) classes vowels into b k r read) where
+      (k-is : k ≡ length S - filled .count * slot-bytes) (r-is : r ≡ length R - filled .used) (bytes-read : List ℕ) (read : RowText)
+      (h : RowRead rules (choices-in ready) classes vowels into b k r bytes-read read) where
     -- the tables that it was read by are those of the text, without their code
     abbrev inner : Tables
     inner = tables-of (choices-in ready) rules classes vowels []
@@ -115,16 +114,16 @@ module _ (rules ready line classes vowels decompositions code S R P : List ℕ) 
 
     -- all fits: the text is told, and added unless it is too long
     module _ (z : read .lack ≡ 0) where
-      spelled : Spells (kinds w) (read .spelling) (decomp-text D (w .text) p into)
+      spelled : Spells (kinds w) bytes-read (read .spelling) (decomp-text D (w .text) p into)
       unfolding inner-string inner-lattice tables-of
       spelled =
-          subst (Spells (kinds w) (read .spelling))
+          subst (Spells (kinds w) bytes-read (read .spelling))
           (ap (λ (E : Tables). read-as b (joined (path-of E into (rule-lattice E into)))) uncoded-is ∙ read-text D (w .text) p b near into)
-          (subst (λ (l : List ℕ). Spells (classes-of l) (read .spelling) (read-as b (joined (path-of inner into (rule-lattice inner into))))) (sym same) (h .text z))
+          (subst (λ (l : List ℕ). Spells (classes-of l) bytes-read (read .spelling) (read-as b (joined (path-of inner into (rule-lattice inner into))))) (sym same) (h .text z))
 
       module _ (S₁ R₁ : List ℕ) (stay : Keeps (kinds w) (size w) S₁ R₁ P (filled .count) (filled .used) (state-of w P)) (a : length S₁ ≡ length S) (c : length R₁ ≡ length R)
           (inside : p + 1 ≤ size w) (S′ R′ P′ : List ℕ) (a′ : length S′ ≡ length S) (c′ : length R′ ≡ length R) (g : Grew)
-          (done : TextAdded (S₁, R₁, P) (S′, R′, P′) filled (read .spelling) p g) where
+          (done : TextAdded (S₁, R₁, P) (S′, R′, P′) filled bytes-read (read .spelling) p g) where
         fit : misfit (length S / slot-bytes - length (w .edges)) (length R - all-bytes (w .edges)) (inner-lattice D into .0) ≡ none
         fit = inner-fits none (h .fits z)
 
@@ -145,4 +144,4 @@ module _ (rules ready line classes vowels decompositions code S R P : List ℕ) 
                 let x = told .1 q in
                 subst (Leads S′ R′ P′) (sym (x .2))
                 (step-added D ds (w .text) (kinds w) (size w) S R P (filled .count) (filled .used) p most (state-of w P) (over-keeps o) held before into e S′ R′ P′ a′ c′ fit
-                (omega (arith, ap length (spelled .bytes q), text-length (h .clean), h .clean .fits)) (x .0) (reached-since S R a c (x .0) (x .1)))
+                (omega (arith, ap length (spelled .bytes q), held-length (h .held), h .held .fits)) (x .0) (reached-since S R a c (x .0) (x .1)))

@@ -23,7 +23,6 @@ use Rattle.utf8.specs.Encodings.{Scalars}
 use Rattle.table_classes.specs.Told.{kinds-of}
 use Rattle.table_decompositions.specs.Told.{Placed}
 use Rattle.table_vowels.specs.Told.{FineVowels}
-use Rattle.rom.specs.Rom.{Clean}
 use Rattle.edge.specs.declared.Added.{Added as Answer}
 use Rattle.edge.specs.declared.Added.the-variants as added
 use Rattle.edge.specs.Slots.{edges-of}
@@ -33,15 +32,15 @@ use Rattle.standing.specs.Stands.{Stands}
 use Rattle.words.specs.Given.{World, kinds, size, size-in, choices-in, Prepared, Told, Lined, lined, line-size}
 use Rattle.passes.specs.Reached.{nothing, Over, Reached}
 use Rattle.second_pass.specs.Fallback.{chars-are}
-use Rattle.lattice.specs.Lattice.{Lattice, Buildable}
+use Rattle.lattice.specs.Lattice.{Lattice}
 use Rattle.decomp_line.specs.Rows.{into-scalars, into-few}
 use Rattle.decomp_text.specs.declared.Beside.{Beside}
 use Rattle.decomp_text.specs.declared.Spelling.{Spelling}
-use Rattle.decomp_text.specs.Spelling.{Spells}
+use Rattle.decomp_text.specs.Spelling.{Spells, Held}
 use Rattle.decomp_text.specs.Reading.{read-as}
 use Rattle.decomp_text.specs.Walking.{Lying}
 use Rattle.decomp.specs.First.{first-over}
-use Rattle.decomp.specs.Rows.{Formable, RowRead}
+use Rattle.decomp.specs.Rows.{Formable, RowRead, LineReady}
 use Rattle.decomp.specs.Steps.{reached-fits}
 
 -- The lattice of a world without edges, built in slots and room
@@ -85,37 +84,37 @@ module _ {rules ready line S R P : List ℕ} (vowels : List ℕ) (w : World) (o 
       ruled = subst (All (Ruled (w .text))) (sym (fits .came .0 .edges)) (rule-lattice-ruled D ok (w .text))
 
       -- all fits: the text is spelled
-      pub line-read : (b : Beside) (s : Spelling) → Clean (s .rom)
+      pub line-read : (b : Beside) (bytes : List ℕ) (s : Spelling) → Held bytes s
           → ((v : World) (count : ℕ) → Told v ready → Lined v line → Stands S′ starts count → All (Ruled (v .text)) (edges-of R′ count S′)
-          → Spells (kinds v) s (read-as b (joined (path-from (end-of starts) 0 (edges-of R′ count S′)))))
-          → RowRead rules (w .choices) (w .classes) vowels (w .text) b (length S) (length R) (record { spelling = s; lack = 0 })
+          → Spells (kinds v) bytes s (read-as b (joined (path-from (end-of starts) 0 (edges-of R′ count S′)))))
+          → RowRead rules (w .choices) (w .classes) vowels (w .text) b (length S) (length R) bytes (record { spelling = s; lack = 0 })
       unfolding path-of
-      line-read b s clean h = record {
-        text = λ z. subst (λ (es : List Edge). Spells (kinds w) s (read-as b (joined (path-from (size w) 0 es)))) (fits .came .0 .edges)
-            (subst (λ (k : ℕ). Spells (kinds w) s (read-as b (joined (path-from k 0 (edges-of R′ c S′))))) {x = end-of starts} {y = size w}
+      line-read b bytes s held h = record {
+        text = λ z. subst (λ (es : List Edge). Spells (kinds w) bytes s (read-as b (joined (path-from (size w) 0 es)))) (fits .came .0 .edges)
+            (subst (λ (k : ℕ). Spells (kinds w) bytes s (read-as b (joined (path-from k 0 (edges-of R′ c S′))))) {x = end-of starts} {y = size w}
             (omega (arith, sized, line-size lined-so)) (h w c (o .told) lined-so stands ruled));
-        clean = clean;
+        held = held;
         fits = λ z. reached-fits fits;
         no-slot = λ z. absurd (omega (arith, z));
         no-room = λ y z. absurd (y refl);
       }
 
   -- or there is too little
-  pub line-slot : (b : Beside) (q : ℕ) → a ≡ added.NoSlot q → (s : Spelling) → Clean (s .rom)
-      → RowRead rules (w .choices) (w .classes) vowels (w .text) b (length S) (length R) (record { spelling = s; lack = refused-slots })
-  line-slot b q e s clean = record {
+  pub line-slot : (b : Beside) (q : ℕ) → a ≡ added.NoSlot q → (bytes : List ℕ) (s : Spelling) → Held bytes s
+      → RowRead rules (w .choices) (w .classes) vowels (w .text) b (length S) (length R) bytes (record { spelling = s; lack = refused-slots })
+  line-slot b q e bytes s held = record {
     text = λ z. absurd (omega (arith, z));
-    clean = clean;
+    held = held;
     fits = λ z. absurd (omega (arith, z));
     no-slot = λ z. (q, subst Told-of e came .came);
     no-room = λ y z. absurd (z refl);
   }
 
-  pub line-room : (b : Beside) (q : ℕ) → a ≡ added.NoRoom q → (s : Spelling) → Clean (s .rom)
-      → RowRead rules (w .choices) (w .classes) vowels (w .text) b (length S) (length R) (record { spelling = s; lack = refused-room })
-  line-room b q e s clean = record {
+  pub line-room : (b : Beside) (q : ℕ) → a ≡ added.NoRoom q → (bytes : List ℕ) (s : Spelling) → Held bytes s
+      → RowRead rules (w .choices) (w .classes) vowels (w .text) b (length S) (length R) bytes (record { spelling = s; lack = refused-room })
+  line-room b q e bytes s held = record {
     text = λ z. absurd (omega (arith, z));
-    clean = clean;
+    held = held;
     fits = λ z. absurd (omega (arith, z));
     no-slot = λ z. absurd (omega (arith, z));
     no-room = λ y z. (q, subst Told-of e came .came);
@@ -143,13 +142,15 @@ module _ {rules ready classes vowels decompositions : List ℕ} (f : Formable ru
   pub own-size : size-in line ≡ decomposition-count (drop row decompositions)
   own-size = line-size own-lined ∙ into-length (drop row decompositions)
 
-  pub own-buildable : (bytes S R places starts : List ℕ) → bytes ≡ encoded into → places ≡ replicate (size-in line + 1) 0 → starts ≡ replicate (size-in line + 1) 0
-      → Buildable rules ready vowels bytes line S R places starts
-  own-buildable bytes S R places starts e z y = (
-    f .table,
-    f .inherent,
-    record { bytes = e ∙ ap encoded (sym (chars-are own-lined)); scalars = subst Scalars (sym (chars-are own-lined)) (into-scalars p) },
-    record { world = own; over = first-over own-told own-lined S R places z },
-    z,
-    y,
+  pub own-ready : (bytes S R starts : List ℕ) → bytes ≡ encoded into → starts ≡ replicate (size-in line + 1) 0 → LineReady rules ready vowels bytes line S R starts
+  own-ready bytes S R starts e y = (
+    (
+      f .table,
+      f .inherent,
+      record { bytes = e ∙ ap encoded (sym (chars-are own-lined)); scalars = subst Scalars (sym (chars-are own-lined)) (into-scalars p) },
+      record { world = own; over = first-over own-told own-lined S R (replicate (size-in line + 1) 0) refl },
+      refl,
+      y,
+    ),
+    omega (arith, few, line-size own-lined),
   )

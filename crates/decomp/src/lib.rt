@@ -11,8 +11,7 @@ ghost use Rattle.definition.specs.DecompositionRows.{decomposition-into};
 ghost use Rattle.table_decompositions.specs.Told.{Placed};
 ghost use Rattle.words.specs.Given.{World, kinds, size-in, choices-in, Lined};
 ghost use Rattle.decomp_text.specs.Reading.{Besides};
-ghost use Rattle.lattice.specs.Lattice.{Buildable};
-ghost use Rattle.decomp.specs.Rows.{Formable, RowRead, LineRead};
+ghost use Rattle.decomp.specs.Rows.{Formable, RowRead, LineReady, LineRead};
 ghost use Rattle.decomp.specs.Grown.{GrowsAt};
 ghost use Rattle.decomp.specs.Steps.{AddReady, put-decomp};
 ghost use Rattle.decomp.specs.Adding.{as-grew, TextReady, TextAdded};
@@ -78,7 +77,8 @@ fn beside(line: &[u32], p: usize) -> Beside
     }
 }
 
-// The text of a line: the string of its characters' lattice, which is built in slots and room. It has no language code.
+// The text of a line, put into an array: the string of its characters' lattice, which is built in slots and room. It has no
+// language code.
 fn read_line<'a>(
     rules: &'a [u8],
     ready: &[u32],
@@ -87,14 +87,16 @@ fn read_line<'a>(
     line: &[u32],
     slots: &mut [u8],
     room: &mut [u8],
-    places: &mut [u32],
     starts: &mut [u32],
     beside: Beside,
+    bytes: &mut [u8],
 ) -> RowText
-    requires { ⌜ Buildable (now rules) (now ready) (now vowels) (now text) (now line) (now slots) (now room) (now places) (now starts) ⌝ }
+    requires { ⌜ LineReady (now rules) (now ready) (now vowels) (now text) (now line) (now slots) (now room) (now starts) × (length (now bytes) ≡ most-bytes) ⌝ }
     ensures { λ r. ⌜ LineRead (now (rules .entry)) (now (ready .entry)) (now (vowels .entry)) (now (line .entry)) beside
-        (length (now (slots .entry))) (length (now (room .entry))) r ⌝ }
+        (length (now (slots .entry))) (length (now (room .entry))) (now (bytes .exit)) r ⌝ }
 {
+    let mut places = [0u32; PLACES];
+    let end = starts.len();
     match lattice::build_lattice(
         rules,
         ready,
@@ -104,11 +106,11 @@ fn read_line<'a>(
         line,
         slots,
         room,
-        places,
+        &mut places[..end],
         starts,
     ) {
         Added::Fits { count: _, used: _ } => RowText {
-            spelling: decomp_text::spell(ready, line, slots, room, starts, beside),
+            spelling: decomp_text::spell(ready, line, slots, room, starts, beside, bytes),
             lack: 0,
         },
         Added::NoSlot(_) => RowText {
@@ -122,7 +124,7 @@ fn read_line<'a>(
     }
 }
 
-// The text of a row: its characters are laid out as a line of their own.
+// The text of a row, put into an array: its characters are laid out as a line of their own.
 fn read_row(
     rules: &[u8],
     ready: &[u32],
@@ -133,14 +135,15 @@ fn read_row(
     beside: Beside,
     slots: &mut [u8],
     room: &mut [u8],
+    text: &mut [u8],
 ) -> RowText
-    requires { ⌜ Formable (now rules) (now ready) (now classes) (now vowels) (now decompositions) × Placed (now decompositions) row ⌝ }
+    requires { ⌜ Formable (now rules) (now ready) (now classes) (now vowels) (now decompositions) × Placed (now decompositions) row
+        × (length (now text) ≡ most-bytes) ⌝ }
     ensures { λ r. ⌜ RowRead (now (rules .entry)) (choices-in (now (ready .entry))) (now (classes .entry)) (now (vowels .entry))
-        (decomposition-into (drop row (now (decompositions .entry)))) beside (length (now (slots .entry))) (length (now (room .entry))) r ⌝ }
+        (decomposition-into (drop row (now (decompositions .entry)))) beside (length (now (slots .entry))) (length (now (room .entry))) (now (text .exit)) r ⌝ }
 {
     let mut line = [0u32; LINE];
     let mut bytes = [0u8; BYTES];
-    let mut places = [0u32; PLACES];
     let mut starts = [0u32; PLACES];
     let n = table_decompositions::count(decompositions, row);
     let half = n + 3;
@@ -155,9 +158,9 @@ fn read_row(
         &line[..2 * half],
         slots,
         room,
-        &mut places[..end],
         &mut starts[..end],
         beside,
+        text,
     )
 }
 
@@ -178,18 +181,18 @@ fn add_text(
     room: &mut [u8],
     places: &mut [u32],
     filled: Filled,
+    bytes: &[u8],
     spelling: Spelling,
     p: usize,
 ) -> Grew
-    requires { ⌜ TextReady (now slots) (now room) (now places) filled spelling p ⌝ }
-    ensures { λ r. ⌜ TextAdded (now (slots .entry), now (room .entry), now (places .entry)) (now (slots .exit), now (room .exit), now (places .exit)) filled spelling p r ⌝ }
+    requires { ⌜ TextReady (now slots) (now room) (now places) filled (now bytes) spelling p ⌝ }
+    ensures { λ r. ⌜ TextAdded (now (slots .entry), now (room .entry), now (places .entry)) (now (slots .exit), now (room .exit), now (places .exit))
+        filled (now (bytes .entry)) spelling p r ⌝ }
 {
     if spelling.full {
         return Grew::TooLong(p);
     }
-    let own = spelling.rom;
-    let len = own.len;
-    let bytes = own.bytes;
+    let len = spelling.len;
     let text = &bytes[..len];
     let numbers = Numbers {
         from: p,
@@ -235,6 +238,7 @@ pub fn add_decomp(
     }
     let from = filled.count * edge::SLOT_BYTES;
     let used = filled.used;
+    let mut text = [0u8; rom::MOST_BYTES];
     let read = read_row(
         rules,
         ready,
@@ -245,10 +249,11 @@ pub fn add_decomp(
         beside(line, p),
         &mut slots[from..],
         &mut room[used..],
+        &mut text,
     );
     let lack = read.lack;
     if lack == 0 {
-        return add_text(slots, room, places, filled, read.spelling, p);
+        return add_text(slots, room, places, filled, &text, read.spelling, p);
     }
     if lack == NO_SLOT {
         return Grew::NoSlot(p);

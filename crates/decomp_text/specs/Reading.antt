@@ -39,19 +39,19 @@ pub read-text : (D : Tables) (t : Text) (p : ℕ) (b : Beside) → Besides (D .c
 unfolding read-as decomp-text
 read-text D t p b h w = rw (h .own, h .before, h .after)
 
-nothing-behind : {ks : List Class} {s : Spelling} (t : Text) → Spells ks s t → Spells ks s (t ++ [])
-nothing-behind {ks} {s} t h = subst (Spells ks s) (sym (append-nil t)) h
+nothing-behind : {ks : List Class} {b : List ℕ} {s : Spelling} (t : Text) → Spells ks b s t → Spells ks b s (t ++ [])
+nothing-behind {ks} {b} {s} t h = subst (Spells ks b s) (sym (append-nil t)) h
 
 -- a space put, or none
-module _ {ks : List Class} {s : Spelling} (number beside : Bool) where
-  pub part-space : number ≡ true → beside ≡ true → (t : Text) → Spells ks s (t ++ the-space ∷ []) → Spells ks s (t ++ pick number (parted beside) [])
+module _ {ks : List Class} {b : List ℕ} {s : Spelling} (number beside : Bool) where
+  pub part-space : number ≡ true → beside ≡ true → (t : Text) → Spells ks b s (t ++ the-space ∷ []) → Spells ks b s (t ++ pick number (parted beside) [])
   unfolding parted pick
   part-space e f t h = rw (e, f) h
 
-  pub part-none : beside ≡ false → (t : Text) → Spells ks s t → Spells ks s (t ++ pick number (parted beside) [])
+  pub part-none : beside ≡ false → (t : Text) → Spells ks b s t → Spells ks b s (t ++ pick number (parted beside) [])
   unfolding parted pick
-  part-none f t h = rw f (pick-all (λ (w : Text). Spells ks s (t ++ w)) number (nothing-behind t h) (nothing-behind t h))
+  part-none f t h = rw f (pick-all (λ (w : Text). Spells ks b s (t ++ w)) number (nothing-behind t h) (nothing-behind t h))
 
-  pub part-other : number ≡ false → (t : Text) → Spells ks s t → Spells ks s (t ++ pick number (parted beside) [])
+  pub part-other : number ≡ false → (t : Text) → Spells ks b s t → Spells ks b s (t ++ pick number (parted beside) [])
   unfolding pick
   part-other f t h = rw f (nothing-behind t h)

@@ -5,7 +5,8 @@ use mathlib.Core.Path.{_≡_, refl, sym, ap, _∙_, subst}
 use Prim.Native.Nat.{ℕ, _+_, _-_, _≤_, _<_}
 use native.Mathlib.Omega.{arith}
 use lib.Dec.{eqb, ltb}
-use lib.ListN.{length, length-append, length-reverse}
+use lib.ListN.{length, take, length-append, length-reverse}
+use lib.Seq.{length-take-le}
 use borrow.Author.Tests.{eq-eqb, ne-eqb}
 use Rattle.base.specs.Pick.{pick, pick-all}
 use Rattle.base.specs.Lists.{head, is}
@@ -19,16 +20,23 @@ use Rattle.definition.specs.Tables.{Class}
 use Rattle.definition.specs.Classes.{alpha}
 use Rattle.definition.specs.Decomposing.{slashed}
 use Rattle.utf8.specs.Encodings.{Scalars}
-use Rattle.rom.specs.Rom.{text, rom, Clean, text-length, text-by}
-use Rattle.rom.specs.declared.Rom.{Rom}
+use Rattle.lent_bytes.specs.Puts.{put-at, put-until}
 use Rattle.decomp_text.specs.declared.Spelling.{Spelling}
 
--- a spelling stands for a text: it has its bytes, and knows how it ends; or it says that these are too many
-pub record Spells (ks : List Class) (s : Spelling) (t : Text) : Type 0 where
+-- a spelling in an array stands for a text: it has its bytes, and knows how it ends; or it says that these are too many
+pub record Spells (ks : List Class) (b : List ℕ) (s : Spelling) (t : Text) : Type 0 where
   pub scalars : Scalars t
-  pub bytes : s .full ≡ false → text (s .rom) ≡ encoded t
+  pub bytes : s .full ≡ false → take (s .len) b ≡ encoded t
   pub letter : s .full ≡ false → s .letter ≡ last-is (alpha ks) t
   pub long : s .full ≡ true → most-bytes < length (encoded t)
+
+-- the array has room for the most bytes, and so many stand in it at most
+pub record Held (b : List ℕ) (s : Spelling) : Type 0 where
+  pub long : length b ≡ most-bytes
+  pub fits : s .len ≤ most-bytes
+
+pub held-length : {b : List ℕ} {s : Spelling} → Held b s → length (take (s .len) b) ≡ s .len
+held-length {b} {s} h = length-take-le (s .len) b (omega (arith, h .long, h .fits))
 
 -- a number's text has slashes
 unfoldable pub shaped : Bool → Text → Text
@@ -62,12 +70,12 @@ encoded-some [] h = absurd (omega arith)
 encoded-some (c ∷ w) h = omega arith
 
 -- nothing yet
-pub spells-nothing : (ks : List Class) → Spells ks (record { rom = rom []; letter = false; full = false }) []
-unfolding rom encoded last-is head
-spells-nothing ks = record { scalars = tt; bytes = λ e. refl; letter = λ e. refl; long = λ e. absurd (true≢false (sym e)) }
+pub spells-nothing : (ks : List Class) (b : List ℕ) → Spells ks b (record { len = 0; letter = false; full = false }) []
+unfolding encoded last-is head
+spells-nothing ks b = record { scalars = tt; bytes = λ e. refl; letter = λ e. refl; long = λ e. absurd (true≢false (sym e)) }
 
 -- Some bytes behind
-module _ (ks : List Class) (s : Spelling) (t w : Text) (h : Spells ks s t) (bytes : List ℕ) (e : bytes ≡ encoded w) (ok : Scalars w) where
+module _ (ks : List Class) (b : List ℕ) (s : Spelling) (t w : Text) (h : Spells ks b s t) (bytes : List ℕ) (e : bytes ≡ encoded w) (ok : Scalars w) where
   both : Scalars (t ++ w)
   both = All-append (λ c. scalar c ≡ true) t w (h .scalars) ok
 
@@ -75,12 +83,12 @@ module _ (ks : List Class) (s : Spelling) (t w : Text) (h : Spells ks s t) (byte
   sizes = ap length (encoded-append t w) ∙ length-append (encoded t) (encoded w)
 
   -- none
-  pub spells-none : length bytes ≡ 0 → Spells ks s (t ++ w)
+  pub spells-none : length bytes ≡ 0 → Spells ks b s (t ++ w)
   spells-none z =
-      subst (λ (v : Text). Spells ks s (t ++ v)) (sym (encoded-none w (sym (ap length e) ∙ z))) (subst (Spells ks s) (sym (append-nil t)) h)
+      subst (λ (v : Text). Spells ks b s (t ++ v)) (sym (encoded-none w (sym (ap length e) ∙ z))) (subst (Spells ks b s) (sym (append-nil t)) h)
 
   -- to a text that is too long
-  pub spells-full : s .full ≡ true → Spells ks s (t ++ w)
+  pub spells-full : s .full ≡ true → Spells ks b s (t ++ w)
   spells-full f = record {
     scalars = both;
     bytes = λ z. absurd (true≢false (sym f ∙ z));
@@ -88,13 +96,13 @@ module _ (ks : List Class) (s : Spelling) (t w : Text) (h : Spells ks s t) (byte
     long = λ z. let l = h .long f in omega (arith, l, sizes);
   }
 
-  module _ (clean : Clean (s .rom)) (f : s .full ≡ false) where
-    len-is : length (encoded t) ≡ s .rom .len
-    len-is = ap length (sym (h .bytes f)) ∙ text-length clean
+  module _ (held : Held b s) (f : s .full ≡ false) where
+    len-is : length (encoded t) ≡ s .len
+    len-is = ap length (sym (h .bytes f)) ∙ held-length held
 
     -- too many
-    pub spells-over : most-bytes - s .rom .len < length bytes → (r : Rom) → Spells ks (record { rom = r; letter = false; full = true }) (t ++ w)
-    spells-over l r = record {
+    pub spells-over : most-bytes - s .len < length bytes → Spells ks b (record { len = s .len; letter = false; full = true }) (t ++ w)
+    spells-over l = record {
       scalars = both;
       bytes = λ z. absurd (true≢false z);
       letter = λ z. absurd (true≢false z);
@@ -102,16 +110,15 @@ module _ (ks : List Class) (s : Spelling) (t w : Text) (h : Spells ks s t) (byte
     }
 
     -- and some that fit
-    pub spells-more : (letter : Bool) → letter ≡ last-is (alpha ks) w → 0 < length bytes → s .rom .len + length bytes ≤ most-bytes
-        → (r : Rom) → r ≡ rom (text (s .rom) ++ bytes) → Spells ks (record { rom = r; letter = letter; full = false }) (t ++ w)
-    spells-more letter q some l r d =
-        let both-are = ap (λ (b : List ℕ). b ++ bytes) (h .bytes f) ∙ ap (λ (b : List ℕ). encoded t ++ b) e ∙ sym (encoded-append t w) in
-        record {
-          scalars = both;
-          bytes = λ z. text-by (text (s .rom) ++ bytes) d (omega (arith, l, length-append (text (s .rom)) bytes, text-length clean)) ∙ both-are;
-          letter = λ z. q ∙ sym (last-behind (alpha ks) t w (encoded-some w (omega (arith, some, ap length e))));
-          long = λ z. absurd (true≢false (sym z));
-        }
+    pub spells-more : (letter : Bool) → letter ≡ last-is (alpha ks) w → 0 < length bytes → (b′ : List ℕ) → b′ ≡ put-at (s .len) bytes b
+        → Spells ks b′ (record { len = s .len + length bytes; letter = letter; full = false }) (t ++ w)
+    spells-more letter q some b′ d = record {
+      scalars = both;
+      bytes = λ z. ap (take (s .len + length bytes)) d ∙ put-until (s .len) bytes b (omega (arith, held .long, held .fits))
+          ∙ ap (λ (l : List ℕ). l ++ bytes) (h .bytes f) ∙ ap (_++_ (encoded t)) e ∙ sym (encoded-append t w);
+      letter = λ z. q ∙ sym (last-behind (alpha ks) t w (encoded-some w (omega (arith, some, ap length e))));
+      long = λ z. absurd (true≢false (sym z));
+    }
 
 -- Of ASCII no character is a fraction slash
 pub slashed-low : (w : Text) → All Low w → slashed w ≡ w

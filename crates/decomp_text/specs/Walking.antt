@@ -37,9 +37,9 @@ text-of none = []
 text-of (some x) = x .text
 
 -- so far, and what the rest will be
-pub record Walked (ks : List Class) (number : Bool) (s : Spelling) (rest : List Edge) (whole : Text) : Type 0 where
+pub record Walked (ks : List Class) (number : Bool) (b : List ℕ) (s : Spelling) (rest : List Edge) (whole : Text) : Type 0 where
   pub so-far : Text
-  pub spells : Spells ks s so-far
+  pub spells : Spells ks b s so-far
   pub rest-is : so-far ++ shaped number (joined rest) ≡ whole
 
 shaped-none : (b : Bool) → shaped b [] ≡ []
@@ -53,32 +53,33 @@ joined-join (some x) l = refl
 
 module _ {ks : List Class} {number : Bool} where
   -- at first, with what stands before the path
-  pub walked-first : (s : Spelling) (t : Text) (l : List Edge) → Spells ks s t → Walked ks number s l (t ++ shaped number (joined l))
-  walked-first s t l h = record { so-far = t; spells = h; rest-is = refl }
+  pub walked-first : (b : List ℕ) (s : Spelling) (t : Text) (l : List Edge) → Spells ks b s t → Walked ks number b s l (t ++ shaped number (joined l))
+  walked-first b s t l h = record { so-far = t; spells = h; rest-is = refl }
 
-  pub walked-over : {s : Spelling} {whole : Text} → Walked ks number s [] whole → Spells ks s whole
+  pub walked-over : {b : List ℕ} {s : Spelling} {whole : Text} → Walked ks number b s [] whole → Spells ks b s whole
   unfolding joined
-  walked-over {s} {whole} h =
-      subst (Spells ks s) (sym (ap (_++_ (h .so-far)) (shaped-none number) ∙ append-nil (h .so-far)) ∙ h .rest-is) (h .spells)
+  walked-over {b} {s} {whole} h =
+      subst (Spells ks b s) (sym (ap (_++_ (h .so-far)) (shaped-none number) ∙ append-nil (h .so-far)) ∙ h .rest-is) (h .spells)
 
   -- the best edge at `p` spelled, what is left of the path goes on behind it
-  pub walked-on : {s : Spelling} {whole : Text} (es : List Edge) (o : Option Edge) (k p q : ℕ) → Walked ks number s (path-from (suc k) p es) whole
-      → o ≡ right-best es p → q ≡ next o p → (s′ : Spelling) → ((t : Text) → Spells ks s t → Spells ks s′ (t ++ shaped number (text-of o)))
-      → Walked ks number s′ (path-from k q es) whole
+  pub walked-on : {b : List ℕ} {s : Spelling} {whole : Text} (es : List Edge) (o : Option Edge) (k p q : ℕ) → Walked ks number b s (path-from (suc k) p es) whole
+      → o ≡ right-best es p → q ≡ next o p → (b′ : List ℕ) (s′ : Spelling)
+      → ((t : Text) → Spells ks b s t → Spells ks b′ s′ (t ++ shaped number (text-of o))) → Walked ks number b′ s′ (path-from k q es) whole
   unfolding path-from
-  walked-on {s} {whole} es o k p q h b n s′ f = record {
+  walked-on es o k p q h best n b′ s′ f = record {
     so-far = h .so-far ++ shaped number (text-of o);
     spells = f (h .so-far) (h .spells);
     rest-is =
         append-assoc (h .so-far) (shaped number (text-of o)) (shaped number (joined (path-from k q es)))
         ∙ ap (_++_ (h .so-far)) (sym (shaped-append number (text-of o) (joined (path-from k q es)))
         ∙ ap (shaped number) (sym (joined-join o (path-from k q es))
-        ∙ ap (λ (l : List Edge). joined l) (ap (λ (m : ℕ). join o (path-from k m es)) n ∙ ap (λ (u : Option Edge). join u (path-from k (next u p) es)) b)))
+        ∙ ap (λ (l : List Edge). joined l) (ap (λ (m : ℕ). join o (path-from k m es)) n ∙ ap (λ (u : Option Edge). join u (path-from k (next u p) es)) best)))
         ∙ h .rest-is;
   }
 
 -- where there is none nothing is spelled
-pub spells-not : {ks : List Class} (b : Bool) {s : Spelling} (o : Option Edge) → o ≡ none → (t : Text) → Spells ks s t → Spells ks s (t ++ shaped b (text-of o))
+pub spells-not : {ks : List Class} (number : Bool) {b : List ℕ} {s : Spelling} (o : Option Edge) → o ≡ none → (t : Text) → Spells ks b s t
+    → Spells ks b s (t ++ shaped number (text-of o))
 unfolding text-of
-spells-not {ks} b {s} o e t h =
-    subst (Spells ks s) (sym (ap (λ (u : Option Edge). t ++ shaped b (text-of u)) e ∙ ap (_++_ t) (shaped-none b) ∙ append-nil t)) h
+spells-not {ks} number {b} {s} o e t h =
+    subst (Spells ks b s) (sym (ap (λ (u : Option Edge). t ++ shaped number (text-of u)) e ∙ ap (_++_ t) (shaped-none number) ∙ append-nil t)) h

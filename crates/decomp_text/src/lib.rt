@@ -1,10 +1,12 @@
 // What a character reads that stands for others (`decomp_rom`): the string of their lattice's path, a number's with slashes
 // and parted from the numbers beside it.
+ghost use mathlib.Core.Bool.{false};
 ghost use mathlib.Core.List.{List, [], _++_};
 ghost use mathlib.Core.Path.{_≡_};
 ghost use Prim.Native.Nat.{ℕ, _<_};
 ghost use lib.ListN.{length, drop};
 ghost use Rattle.base.specs.Pick.{pick};
+ghost use Rattle.definition.specs.Limits.{most-bytes};
 ghost use Rattle.base.specs.Alls.{All, Opt};
 ghost use Rattle.definition.specs.Shorts.{Low};
 ghost use Rattle.definition.specs.Texts.{Text, last-is};
@@ -18,22 +20,21 @@ ghost use Rattle.utf8.specs.Encodings.{Scalars};
 ghost use Rattle.edge.specs.Slots.{from-of, edge-of, edges-of};
 ghost use Rattle.edge.specs.Stored.{Slot};
 ghost use Rattle.edge.specs.Best.{best-means};
-ghost use Rattle.rom.specs.Rom.{Clean};
 ghost use Rattle.standing.specs.Starts.{end-of};
 ghost use Rattle.words.specs.Given.{World, kinds, size-in, Told, Lined};
 ghost use Rattle.standing.specs.Stands.{Stands};
-ghost use Rattle.decomp_text.specs.Spelling.{Spells, shaped};
+ghost use Rattle.decomp_text.specs.Spelling.{Spells, Held, shaped};
 ghost use Rattle.decomp_text.specs.Reading.{read-as};
 ghost use Rattle.decomp_text.specs.Walking.{Lying, BestRead, text-of};
 use edge::BestEdge;
-use rom::Rom;
 
 // A fraction slash, which a number's text has as a slash.
 const FRACTION_SLASH: u32 = 0x2044;
 
-// A text that grows: whether it ends in a letter or mark, and whether it is too long. Of one that is, only this is told.
+// Of a text that grows in an array: how many bytes it has, whether it ends in a letter or mark, and whether it is too long. Of
+// one that is, only this is told.
 pub struct Spelling {
-    pub rom: Rom,
+    pub len: usize,
     pub letter: bool,
     pub full: bool,
 }
@@ -47,21 +48,20 @@ pub struct Beside {
 
 // No text.
 pub fn nothing() -> Spelling
-    ensures { λ r. ⌜ ((ks : List Class) → Spells ks r []) × Clean (r .rom) ⌝ }
+    ensures { λ r. ⌜ r ≡ record { len = 0; letter = false; full = false } ⌝ }
 {
-    let none = rom::new();
     Spelling {
-        rom: none,
+        len: 0,
         letter: false,
         full: false,
     }
 }
 
 // A text put behind; `letter` tells whether it ends in a letter or mark.
-fn put(s: Spelling, text: &[u8], letter: bool) -> Spelling
-    requires { ⌜ Clean (s .rom) ⌝ }
-    ensures { λ r. ⌜ ((ks : List Class) (t w : Text) → Spells ks s t → now (text .entry) ≡ encoded w → Scalars w → letter ≡ last-is (alpha ks) w
-        → Spells ks r (t ++ w)) × Clean (r .rom) ⌝ }
+fn put(bytes: &mut [u8], s: Spelling, text: &[u8], letter: bool) -> Spelling
+    requires { ⌜ Held (now bytes) s ⌝ }
+    ensures { λ r. ⌜ ((ks : List Class) (t w : Text) → Spells ks (now (bytes .entry)) s t → now (text .entry) ≡ encoded w → Scalars w → letter ≡ last-is (alpha ks) w
+        → Spells ks (now (bytes .exit)) r (t ++ w)) × Held (now (bytes .exit)) r ⌝ }
 {
     if text.len() == 0 {
         return s;
@@ -69,30 +69,29 @@ fn put(s: Spelling, text: &[u8], letter: bool) -> Spelling
     if s.full {
         return s;
     }
-    let old = s.rom;
-    let len = old.len;
+    let len = s.len;
     if rom::MOST_BYTES - len < text.len() {
         return Spelling {
-            rom: old,
+            len,
             letter: false,
             full: true,
         };
     }
-    let made = rom::append(old, text);
+    lent_bytes::put_at(bytes, len, text);
     Spelling {
-        rom: made,
+        len: len + text.len(),
         letter,
         full: false,
     }
 }
 
 // An ASCII text put behind.
-fn put_ascii(ready: &[u32], s: Spelling, text: &[u8]) -> Spelling
-    requires { ⌜ Clean (s .rom) ⌝ }
-    ensures { λ r. ⌜ ((w : World) (t : Text) → Told w (now (ready .entry)) → All Low (now (text .entry)) → Spells (kinds w) s t
-        → Spells (kinds w) r (t ++ now (text .entry))) × Clean (r .rom) ⌝ }
+fn put_ascii(ready: &[u32], bytes: &mut [u8], s: Spelling, text: &[u8]) -> Spelling
+    requires { ⌜ Held (now bytes) s ⌝ }
+    ensures { λ r. ⌜ ((w : World) (t : Text) → Told w (now (ready .entry)) → All Low (now (text .entry)) → Spells (kinds w) (now (bytes .entry)) s t
+        → Spells (kinds w) (now (bytes .exit)) r (t ++ now (text .entry))) × Held (now (bytes .exit)) r ⌝ }
 {
-    put(s, text, passes::ends_in_letter(ready, text))
+    put(bytes, s, text, passes::ends_in_letter(ready, text))
 }
 
 // The text of one edge put behind: the character itself, or what a rule gives, which is ASCII.
@@ -103,27 +102,29 @@ fn put_edge(
     room: &[u8],
     slot: usize,
     number: bool,
+    bytes: &mut [u8],
     s: Spelling,
 ) -> Spelling
-    requires { ⌜ Clean (s .rom) × Slot (now room) (length (now room)) (drop slot (now slots)) × (from-of (drop slot (now slots)) < size-in (now line)) ⌝ }
-    ensures { λ r. ⌜ ((w : World) (t : Text) → Told w (now (ready .entry)) → Lined w (now (line .entry)) → Spells (kinds w) s t
+    requires { ⌜ Held (now bytes) s × Slot (now room) (length (now room)) (drop slot (now slots)) × (from-of (drop slot (now slots)) < size-in (now line)) ⌝ }
+    ensures { λ r. ⌜ ((w : World) (t : Text) → Told w (now (ready .entry)) → Lined w (now (line .entry)) → Spells (kinds w) (now (bytes .entry)) s t
         → Ruled (w .text) (edge-of (now (room .entry)) (drop slot (now (slots .entry))))
-        → Spells (kinds w) r (t ++ shaped number (edge-of (now (room .entry)) (drop slot (now (slots .entry))) .text))) × Clean (r .rom) ⌝ }
+        → Spells (kinds w) (now (bytes .exit)) r (t ++ shaped number (edge-of (now (room .entry)) (drop slot (now (slots .entry))) .text)))
+        × Held (now (bytes .exit)) r ⌝ }
 {
     let text = edge::edge_text(slots, room, slot);
     let numbers = edge::numbers_at(slots, slot);
     if numbers.note != edge::ORIG {
-        return put_ascii(ready, s, text);
+        return put_ascii(ready, bytes, s, text);
     }
     let place = numbers.from + 1;
     let letter = words::is_alpha_at(line, place);
     if number {
         if words::number_at(line, place) == FRACTION_SLASH {
-            return put_ascii(ready, s, b"/");
+            return put_ascii(ready, bytes, s, b"/");
         }
-        return put(s, text, letter);
+        return put(bytes, s, text, letter);
     }
-    put(s, text, letter)
+    put(bytes, s, text, letter)
 }
 
 // The text of the edge that was found, if any.
@@ -134,15 +135,17 @@ fn put_best(
     room: &[u8],
     best: BestEdge,
     number: bool,
+    bytes: &mut [u8],
     s: Spelling,
 ) -> Spelling
-    requires { ⌜ Clean (s .rom) × BestRead (now line) (now slots) (now room) best ⌝ }
-    ensures { λ r. ⌜ ((w : World) (t : Text) → Told w (now (ready .entry)) → Lined w (now (line .entry)) → Spells (kinds w) s t
+    requires { ⌜ Held (now bytes) s × BestRead (now line) (now slots) (now room) best ⌝ }
+    ensures { λ r. ⌜ ((w : World) (t : Text) → Told w (now (ready .entry)) → Lined w (now (line .entry)) → Spells (kinds w) (now (bytes .entry)) s t
         → Opt (Ruled (w .text)) (best-means (now (room .entry)) (now (slots .entry)) best)
-        → Spells (kinds w) r (t ++ shaped number (text-of (best-means (now (room .entry)) (now (slots .entry)) best)))) × Clean (r .rom) ⌝ }
+        → Spells (kinds w) (now (bytes .exit)) r (t ++ shaped number (text-of (best-means (now (room .entry)) (now (slots .entry)) best))))
+        × Held (now (bytes .exit)) r ⌝ }
 {
     match best {
-        BestEdge::At(slot) => put_edge(ready, line, slots, room, slot, number, s),
+        BestEdge::At(slot) => put_edge(ready, line, slots, room, slot, number, bytes, s),
         BestEdge::Nothing => s,
     }
 }
@@ -155,35 +158,37 @@ fn put_path(
     room: &[u8],
     starts: &[u32],
     number: bool,
+    bytes: &mut [u8],
     s: Spelling,
 ) -> Spelling
-    requires { ⌜ Clean (s .rom) × Lying (now line) (now slots) (now room) (now starts) ⌝ }
-    ensures { λ r. ⌜ ((w : World) (t : Text) (count : ℕ) → Told w (now (ready .entry)) → Lined w (now (line .entry)) → Spells (kinds w) s t
+    requires { ⌜ Held (now bytes) s × Lying (now line) (now slots) (now room) (now starts) ⌝ }
+    ensures { λ r. ⌜ ((w : World) (t : Text) (count : ℕ) → Told w (now (ready .entry)) → Lined w (now (line .entry)) → Spells (kinds w) (now (bytes .entry)) s t
         → Stands (now (slots .entry)) (now (starts .entry)) count
         → All (Ruled (w .text)) (edges-of (now (room .entry)) count (now (slots .entry)))
-        → Spells (kinds w) r (t ++ shaped number (joined (path-from (end-of (now (starts .entry))) 0 (edges-of (now (room .entry)) count (now (slots .entry)))))))
-        × Clean (r .rom) ⌝ }
+        → Spells (kinds w) (now (bytes .exit)) r
+        (t ++ shaped number (joined (path-from (end-of (now (starts .entry))) 0 (edges-of (now (room .entry)) count (now (slots .entry)))))))
+        × Held (now (bytes .exit)) r ⌝ }
 {
     let n = starts.len() - 1;
     let mut made = s;
     let mut p: usize = 0;
     while p < n {
         let best = standing::best_right_neighbor_edge(slots, starts, p);
-        made = put_best(ready, line, slots, room, best, number, made);
+        made = put_best(ready, line, slots, room, best, number, bytes, made);
         p = paths::next_from(slots, best, p);
     }
     made
 }
 
 // A space put behind, where numbers stand side by side.
-fn part(ready: &[u32], s: Spelling, number: bool, beside: bool) -> Spelling
-    requires { ⌜ Clean (s .rom) ⌝ }
-    ensures { λ r. ⌜ ((w : World) (t : Text) → Told w (now (ready .entry)) → Spells (kinds w) s t → Spells (kinds w) r (t ++ pick number (parted beside) []))
-        × Clean (r .rom) ⌝ }
+fn part(ready: &[u32], bytes: &mut [u8], s: Spelling, number: bool, beside: bool) -> Spelling
+    requires { ⌜ Held (now bytes) s ⌝ }
+    ensures { λ r. ⌜ ((w : World) (t : Text) → Told w (now (ready .entry)) → Spells (kinds w) (now (bytes .entry)) s t
+        → Spells (kinds w) (now (bytes .exit)) r (t ++ pick number (parted beside) [])) × Held (now (bytes .exit)) r ⌝ }
 {
     if number {
         if beside {
-            return put_ascii(ready, s, b" ");
+            return put_ascii(ready, bytes, s, b" ");
         }
         return s;
     }
@@ -198,16 +203,17 @@ pub fn spell(
     room: &[u8],
     starts: &[u32],
     beside: Beside,
+    bytes: &mut [u8],
 ) -> Spelling
-    requires { ⌜ Lying (now line) (now slots) (now room) (now starts) ⌝ }
+    requires { ⌜ (length (now bytes) ≡ most-bytes) × Lying (now line) (now slots) (now room) (now starts) ⌝ }
     ensures { λ r. ⌜ ((w : World) (count : ℕ) → Told w (now (ready .entry)) → Lined w (now (line .entry))
         → Stands (now (slots .entry)) (now (starts .entry)) count
         → All (Ruled (w .text)) (edges-of (now (room .entry)) count (now (slots .entry)))
-        → Spells (kinds w) r (read-as beside (joined (path-from (end-of (now (starts .entry))) 0 (edges-of (now (room .entry)) count (now (slots .entry)))))))
-        × Clean (r .rom) ⌝ }
+        → Spells (kinds w) (now (bytes .exit)) r (read-as beside (joined (path-from (end-of (now (starts .entry))) 0 (edges-of (now (room .entry)) count (now (slots .entry)))))))
+        × Held (now (bytes .exit)) r ⌝ }
 {
     let number = beside.number;
-    let front = part(ready, nothing(), number, beside.before);
-    let string = put_path(ready, line, slots, room, starts, number, front);
-    part(ready, string, number, beside.after)
+    let front = part(ready, bytes, nothing(), number, beside.before);
+    let string = put_path(ready, line, slots, room, starts, number, bytes, front);
+    part(ready, bytes, string, number, beside.after)
 }

@@ -42,7 +42,7 @@ unfolding put-at
 put-none a s = ap (λ n. take a s ++ drop n s) (add-zero a) ∙ take-append-drop a s
 
 -- up to the end of what is put there is what stood before, and the new
-put-until : (a : ℕ) (new s : List ℕ) → a ≤ length s → take (a + length new) (put-at a new s) ≡ take a s ++ new
+pub put-until : (a : ℕ) (new s : List ℕ) → a ≤ length s → take (a + length new) (put-at a new s) ≡ take a s ++ new
 put-until a new s h =
     take-add a (length new) (put-at a new s) ∙ ap (λ l. l ++ take (length new) (drop a (put-at a new s))) (put-before a new s h)
     ∙ ap (_++_ (take a s)) (put-there a new s h)

@@ -1,15 +1,14 @@
 -- `decomp::add_decomp`: the row's text is read in what is free behind the edges, which stay as they are; then its edge is added, or what is too
--- little is told, or nothing is done where there is no row.
 use mathlib.Core.List.{List}
 use mathlib.Core.Option.{some}
 use mathlib.Core.Path.{_≡_, sym, ap, _∙_, subst}
 use Prim.Native.Nat.{ℕ, _+_, _-_, _*_, _<_}
 use native.Mathlib.Omega.{arith}
-use lib.ListN.{length, getD, take, drop, length-drop}
+use lib.ListN.{length, getD, take, drop, length-drop, length-replicate}
 use borrow.Rule.Slice.PartMut.{putMid, midOf}
 use denote.Ref.{now}
 use Rattle.base.specs.Loans.{lent-end}
-use Rattle.definition.specs.Limits.{slot-bytes}
+use Rattle.definition.specs.Limits.{slot-bytes, most-bytes}
 use Rattle.definition.specs.Texts.{at}
 use Rattle.definition.specs.Tables.{Choices}
 use Rattle.definition.specs.Decomposing.{stands-for}
@@ -31,7 +30,7 @@ abbrev start : tie.After-edge-row-of → tie.Start
 start e = let k = e .before .before .before .before .before in k .before .before .before .before .before .before .before .before
 
 abbrev found : tie.After-read-row → tie.After-edge-row-of
-found r = r .before .before .before .before .before .before
+found r = r .before .before .before .before .before .before .before
 
 -- The row of the character was looked for.
 module _ (e : tie.After-edge-row-of) where
@@ -102,17 +101,21 @@ module _ (r : tie.After-read-row) where
   room-same : take used room ≡ take used room₁
   room-same = sym (back-front room (r .read-row .last .1 .1 .1 .1 .1 .1 .1 .1 .0) used (stored .within))
 
+  -- its text
+  abbrev text : List ℕ
+  text = r .read-row .last .1 .1 .1 .1 .1 .1 .1 .1 .1 .0
+
   -- there is a row
   some-row : 0 < e .edge-row-of .result
-  some-row = let z = r .before .before .before .before .before .if1 .left in omega (arith, z)
+  some-row = let z = r .before .before .before .before .before .before .if1 .left in omega (arith, z)
 
   read : RowRead (now (start e .args .rules)) (choices-in (ready-in (now (start e .args .prepared)))) (now (start e .args .classes)) (now (start e .args .vowels))
-      (decomposition-into (drop (e .edge-row-of .result) (now (start e .args .decompositions)))) (r .before .before .before .beside .result)
-      (length (midOf from (length slots - from) slots)) (length (midOf used (length room - used) room)) (r .read-row .result)
+      (decomposition-into (drop (e .edge-row-of .result) (now (start e .args .decompositions)))) (r .before .before .before .before .beside .result)
+      (length (midOf from (length slots - from) slots)) (length (midOf used (length room - used) room)) text (r .read-row .result)
   read =
       let a = start e .args in
       subst (λ (c : Choices). RowRead (now (a .rules)) c (now (a .classes)) (now (a .vowels)) (decomposition-into (drop (e .edge-row-of .result) (now (a .decompositions))))
-      (r .before .before .before .beside .result) (length (midOf from (length slots - from) slots)) (length (midOf used (length room - used) room)) (r .read-row .result))
+      (r .before .before .before .before .beside .result) (length (midOf from (length slots - from) slots)) (length (midOf used (length room - used) room)) text (r .read-row .result))
       (ap choices-in (ready-is e)) (r .read-row .ensures)
 
 ready-in-requires : tie.Need-ready-in-requires
@@ -179,20 +182,27 @@ part-read-row-start-2 c = start (c .before .before .before .before) .pre .somewh
 part-read-row-end-2 : tie.Need-part-read-row-end-2
 part-read-row-end-2 c = search needs
 
+slice-aggregate-read-row : tie.Need-slice-aggregate-read-row
+slice-aggregate-read-row c = search needs
+
 read-row-requires : tie.Need-read-row-requires
 read-row-requires c κs =
-    let b = c .before .before .before .before in
+    let b = c .before .before .before .before .before in
     let e = b .before in
     let a = start e .args in
     let z = b .if1 .left in (
       subst (λ (l : List ℕ). Formable (now (a .rules)) l (now (a .classes)) (now (a .vowels)) (now (a .decompositions))) (sym (ready-is e)) (start e .pre .forms),
       e .edge-row-of .ensures .placed (omega (arith, z)),
+      length-replicate {A = ℕ} most-bytes 0,
     )
+
+slice-aggregate-add-text : tie.Need-slice-aggregate-add-text
+slice-aggregate-add-text c = search needs
 
 add-text-requires : tie.Need-add-text-requires
 add-text-requires c κs =
-    let t = c .before .before .before in
-    let r = t .before .before .before .before .before in
+    let t = c .before .before .before .before in
+    let r = t .before .before .before .before .before .before in
     let a = start (e r) .args in
     let p = start (e r) .pre in
     let o = p .somewhere .over in
@@ -204,7 +214,7 @@ add-text-requires c κs =
     record {
       stored = stored-stay (slots₁ r) (room₁ r) (stored r) (slots-same r) (room-same r) (slots-long r) (room-long r);
       fresh = fresh-stay (slots₁ r) (room₁ r) (stored r) (slots-same r) (room-same r) (slots-long r) (room-long r) (p .fresh);
-      clean = read r .clean;
+      held = read r .held;
       bytes = λ q. subst TextBytes (sym (spelled .bytes q)) (encoded-bytes _ (spelled .scalars));
       inside = omega (arith, inside, long, is);
       few = omega (arith, inside, few, is);
@@ -223,8 +233,8 @@ same-length-3 c = search needs
 returns-2 : tie.Need-returns-2
 returns-2 c =
     let x = c .before .before .before .before .before .before in
-    let t = x .before .before .before .before in
-    let r = t .before .before .before .before .before in
+    let t = x .before .before .before .before .before in
+    let r = t .before .before .before .before .before .before in
     let a = start (e r) .args in
     let p = start (e r) .pre in
     let y = x .add-text in
@@ -232,10 +242,10 @@ returns-2 c =
     let inside = p .inside in
     leads-text (now (a .rules)) (ready-in (now (a .prepared))) (line-in (now (a .prepared))) (now (a .classes)) (now (a .vowels)) (now (a .decompositions)) code
     (slots r) (room r) (now (a .places)) (a .filled) (a .p) w same o held before
-    (decomposition-into (drop (e r .edge-row-of .result) (now (a .decompositions)))) (stands (e r) w o (some-row r)) (r .before .before .before .beside .result)
-    (r .before .before .before .beside .ensures w (subst (Lined w) (sym (line-is (e r))) (o .lent .text)))
+    (decomposition-into (drop (e r .edge-row-of .result) (now (a .decompositions)))) (stands (e r) w o (some-row r)) (r .before .before .before .before .beside .result)
+    (r .before .before .before .before .beside .ensures w (subst (Lined w) (sym (line-is (e r))) (o .lent .text)))
     (length (midOf (from r) (length (slots r) - from r) (slots r))) (length (midOf (used r) (length (room r) - used r) (room r))) (slots-free r) (room-free r)
-    (r .read-row .result) (read r) (t .if2 .taken) (slots₁ r) (room₁ r)
+    (text r) (r .read-row .result) (read r) (t .if2 .taken) (slots₁ r) (room₁ r)
     (keeps-stay (slots₁ r) (room₁ r) (stored r) (slots-same r) (room-same r) (slots-long r) (room-long r) (over-keeps o)) (slots-long r) (room-long r)
     (omega (arith, inside, line-size (o .lent .text))) (y .last .0) (y .last .1 .0) (y .last .1 .1 .0)
     (omega (arith, y .kept .0, slots-long r)) (omega (arith, y .kept .1 .0, room-long r)) (y .result) (y .ensures)
@@ -248,15 +258,15 @@ same-length-5 c = search needs
 
 returns-3 : tie.Need-returns-3
 returns-3 c =
-    let r = c .before .before .before .before .before .before in
+    let r = c .before .before .before .before .before .before .before in
     let a = start (e r) .args in
     λ code w same o held before.
     leads-slot (now (a .rules)) (ready-in (now (a .prepared))) (line-in (now (a .prepared))) (now (a .classes)) (now (a .vowels)) (now (a .decompositions)) code
     (slots r) (room r) (now (a .places)) (a .filled) (a .p) w same o held before
-    (decomposition-into (drop (e r .edge-row-of .result) (now (a .decompositions)))) (stands (e r) w o (some-row r)) (r .before .before .before .beside .result)
-    (r .before .before .before .beside .ensures w (subst (Lined w) (sym (line-is (e r))) (o .lent .text)))
+    (decomposition-into (drop (e r .edge-row-of .result) (now (a .decompositions)))) (stands (e r) w o (some-row r)) (r .before .before .before .before .beside .result)
+    (r .before .before .before .before .beside .ensures w (subst (Lined w) (sym (line-is (e r))) (o .lent .text)))
     (length (midOf (from r) (length (slots r) - from r) (slots r))) (length (midOf (used r) (length (room r) - used r) (room r))) (slots-free r) (room-free r)
-    (r .read-row .result) (read r) (slots₁ r) (room₁ r) (slots-long r) (room-long r) (c .if3 .taken)
+    (text r) (r .read-row .result) (read r) (slots₁ r) (room₁ r) (slots-long r) (room-long r) (c .if3 .taken)
 
 same-length-6 : tie.Need-same-length-6
 same-length-6 c = search needs
@@ -266,15 +276,15 @@ same-length-7 c = search needs
 
 returns-4 : tie.Need-returns-4
 returns-4 c =
-    let r = c .before .before .before .before .before .before in
+    let r = c .before .before .before .before .before .before .before in
     let a = start (e r) .args in
     λ code w same o held before.
     leads-room (now (a .rules)) (ready-in (now (a .prepared))) (line-in (now (a .prepared))) (now (a .classes)) (now (a .vowels)) (now (a .decompositions)) code
     (slots r) (room r) (now (a .places)) (a .filled) (a .p) w same o held before
-    (decomposition-into (drop (e r .edge-row-of .result) (now (a .decompositions)))) (stands (e r) w o (some-row r)) (r .before .before .before .beside .result)
-    (r .before .before .before .beside .ensures w (subst (Lined w) (sym (line-is (e r))) (o .lent .text)))
+    (decomposition-into (drop (e r .edge-row-of .result) (now (a .decompositions)))) (stands (e r) w o (some-row r)) (r .before .before .before .before .beside .result)
+    (r .before .before .before .before .beside .ensures w (subst (Lined w) (sym (line-is (e r))) (o .lent .text)))
     (length (midOf (from r) (length (slots r) - from r) (slots r))) (length (midOf (used r) (length (room r) - used r) (room r))) (slots-free r) (room-free r)
-    (r .read-row .result) (read r) (slots₁ r) (room₁ r) (slots-long r) (room-long r) (c .before .if2 .left) (c .if3 .left)
+    (text r) (r .read-row .result) (read r) (slots₁ r) (room₁ r) (slots-long r) (room-long r) (c .before .if2 .left) (c .if3 .left)
 
 pub add-decomp-spec : {M : Type 1} → statement M
 add-decomp-spec =
@@ -295,7 +305,9 @@ add-decomp-spec =
     sub-read-row-2
     part-read-row-start-2
     part-read-row-end-2
+    slice-aggregate-read-row
     read-row-requires
+    slice-aggregate-add-text
     add-text-requires
     same-length
     same-length-2

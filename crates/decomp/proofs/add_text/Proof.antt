@@ -2,7 +2,8 @@
 use mathlib.Core.Bool.{true≢false}
 use mathlib.Core.Path.{refl, sym, _∙_}
 use native.Mathlib.Omega.{arith}
-use Rattle.rom.specs.Rom.{text-length, bytes-length}
+use denote.Ref.{now}
+use Rattle.decomp_text.specs.Spelling.{held-length}
 use Rattle.decomp.specs.Adding.{numbers-at, text-writable, text-new, text-reached}
 use borrow.Author.Needs.{needs}
 use Rattle.decomp.proofs.add_text.Statement.{statement}
@@ -10,36 +11,33 @@ use Rattle.decomp.proofs.add_text.Tie as tie
 
 -- where the function began
 abbrev start : tie.Else1 → tie.Start
-start b = b .before .before .before .before
+start b = b .before .before .before .before .before
 
 returns : tie.Need-returns
 returns c = λ ks n st t k l h. (λ q. refl, λ q. absurd (true≢false (sym (c .if1 .taken) ∙ q)))
 
-array-share-prefix-bytes : tie.Need-array-share-prefix-bytes
-array-share-prefix-bytes c = let k = start (c .before .before) .pre .clean in omega (arith, bytes-length k, k .fits)
-
 slice-aggregate-text : tie.Need-slice-aggregate-text
-slice-aggregate-text c = sym (text-length (start (c .before .before .before) .pre .clean))
+slice-aggregate-text c = sym (held-length (start (c .before) .pre .held))
 
-add-t15 : tie.Need-add-t15
-add-t15 c = search needs
+add-t14 : tie.Need-add-t14
+add-t14 c = search needs
 
 ending-of-requires : tie.Need-ending-of-requires
 ending-of-requires c κs =
-    let b = c .before .before .before in
+    let b = c .before in
     start b .pre .bytes (b .if1 .left)
 
 add-edge-requires : tie.Need-add-edge-requires
 unfolding numbers-at
 add-edge-requires c κs =
-    let b = c .before .before .before .before .before .before .before in
+    let b = c .before .before .before .before .before in
     let a = start b .args in
     let p = start b .pre in (
       (
         p .stored,
-        text-writable (a .p) (a .filled .used) (a .spelling) (p .clean) (p .few) (p .offset) (p .bytes (b .if1 .left)),
+        text-writable (a .p) (a .filled .used) (now (a .bytes)) (a .spelling) (p .held) (p .few) (p .offset) (p .bytes (b .if1 .left)),
         p .fresh .most,
-        text-new (a .p) (a .filled .used) (a .spelling) (p .clean) (p .few) (p .offset) _ _ (a .filled) (p .fresh),
+        text-new (a .p) (a .filled .used) (now (a .bytes)) (a .spelling) (p .held) (p .few) (p .offset) _ _ (a .filled) (p .fresh),
       ),
       omega arith,
       p .inside,
@@ -62,14 +60,14 @@ unfolding numbers-at
 returns-2 c =
     let A = c .before .before .before .before .before .before .before .add-edge in
     let E = c .before .before .before .before .before .before .before .before .before .before .before in
-    let b = E .before .before .before .before in
+    let b = c .before .before .before .before .before .before .before .before .before .before .before .before .before in
     let a = start b .args in
     let p = start b .pre in
     λ ks n st t k l h. (
       λ q. absurd (true≢false (sym q ∙ b .if1 .left)),
       λ q. (
         A .result,
-        text-reached (a .p) (a .filled .used) (a .spelling) (p .clean) (p .few) (p .offset) t h q k l (E .ending-of .result) (E .ending-of .ensures ks)
+        text-reached (a .p) (a .filled .used) (now (a .bytes)) (a .spelling) (p .held) (p .few) (p .offset) t h q k l (E .ending-of .result) (E .ending-of .ensures ks)
             (A .last .0) (A .last .1 .0) (A .last .1 .1 .0) (A .result) (A .ensures .0 .0) (A .ensures .0 .1) (A .ensures .0 .2) (A .ensures .1),
         c .as-grew .ensures,
       ),
@@ -80,9 +78,8 @@ add-text-spec =
     tie.close
     (tie.spec
     returns
-    array-share-prefix-bytes
     slice-aggregate-text
-    add-t15
+    add-t14
     ending-of-requires
     add-edge-requires
     as-grew-requires

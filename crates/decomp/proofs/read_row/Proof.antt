@@ -13,7 +13,7 @@ use Rattle.utf8.specs.Lines.{spaced}
 use Rattle.table_classes.specs.Told.{kinds-of}
 use Rattle.decomp_line.specs.Rows.{into-few}
 use Rattle.words.specs.Given.{size-in}
-use Rattle.decomp.proofs.Rowing.{own, own-lined, own-told, own-size, own-buildable}
+use Rattle.decomp.proofs.Rowing.{own, own-lined, own-told, own-size, own-ready}
 use borrow.Author.Needs.{needs}
 use Rattle.decomp.proofs.read_row.Statement.{statement}
 use Rattle.decomp.proofs.read_row.Tie as tie
@@ -27,7 +27,7 @@ places = most-into + 1
 
 -- where the function began, and how much of the line and of the entries a row takes
 abbrev start : tie.After-count → tie.Start
-start k = k .before .before .before .before .before .before .before .before
+start k = k .before .before .before .before .before .before .before .before .before
 
 abbrev line-end : tie.After-count → ℕ
 line-end k = 2 * (k .count .result + 3)
@@ -121,27 +121,22 @@ array-share-prefix-line c = inside (c .before .before .before .before .before)
 slice-aggregate-read-line-2 : tie.Need-slice-aggregate-read-line-2
 slice-aggregate-read-line-2 c = sym (all-long (c .before .before .before .before .before .before))
 
-array-borrow-prefix-places : tie.Need-array-borrow-prefix-places
-array-borrow-prefix-places c = omega (arith, few (c .before .before .before .before .before .before .before .before .before .before))
+array-borrow-prefix-starts : tie.Need-array-borrow-prefix-starts
+array-borrow-prefix-starts c = omega (arith, few (c .before .before .before .before .before .before .before .before .before .before))
 
 slice-aggregate-read-line-3 : tie.Need-slice-aggregate-read-line-3
 slice-aggregate-read-line-3 c = sym (end-long (c .before .before .before .before .before .before .before .before .before .before .before))
-
-array-borrow-prefix-starts : tie.Need-array-borrow-prefix-starts
-array-borrow-prefix-starts c = omega (arith, few (c .before .before .before .before .before .before .before .before .before .before .before))
-
-slice-aggregate-read-line-4 : tie.Need-slice-aggregate-read-line-4
-slice-aggregate-read-line-4 c = sym (end-long (c .before .before .before .before .before .before .before .before .before .before .before .before))
 
 read-line-requires : tie.Need-read-line-requires
 read-line-requires c κs =
     let m = c .before .before .before .before .before .before .before .before .before .before in
     let y = c .before .before .before .before .before .before .before .put-bytes in
     let a = start (k m) .args in
-    let p = start (k m) .pre in
-    let zeros = take (end (k m)) (replicate {A = ℕ} places 0) in
-    own-buildable (p .0) (a .row) (p .1) (take (line-end (k m)) (all m)) (line-is m) (take (y .result) (y .last .1 .1 .0)) (now (a .slots)) (now (a .room)) zeros zeros
-    (y .ensures .0) (entries m) (entries m)
+    let p = start (k m) .pre in (
+      own-ready (p .0) (a .row) (p .1) (take (line-end (k m)) (all m)) (line-is m) (take (y .result) (y .last .1 .1 .0)) (now (a .slots)) (now (a .room))
+          (take (end (k m)) (replicate {A = ℕ} places 0)) (y .ensures .0) (entries m),
+      p .2,
+    )
 
 same-length : tie.Need-same-length
 same-length c = search needs
@@ -149,14 +144,16 @@ same-length c = search needs
 same-length-2 : tie.Need-same-length-2
 same-length-2 c = search needs
 
+same-length-3 : tie.Need-same-length-3
+same-length-3 c = search needs
+
 returns : tie.Need-returns
 returns c =
-    let m = c .before .before .before .before .before .before .before .before .before .before .before .before .before .before .before .before .before in
+    let m = c .before .before .before .before .before .before .before .before .before .before .before .before .before .before .before .before .before .before in
     let a = start (k m) .args in
     let p = start (k m) .pre in
     let line = take (line-end (k m)) (all m) in
-    c .before .before .before .before .before .before .read-line .ensures (own (p .0) (a .row) (p .1) line (line-is m))
-    (own-told (p .0) (a .row) (p .1) line (line-is m)) (own-lined (p .0) (a .row) (p .1) line (line-is m))
+    c .before .before .before .before .before .before .before .read-line .ensures (own (p .0) (a .row) (p .1) line (line-is m)) (own-told (p .0) (a .row) (p .1) line (line-is m)) (own-lined (p .0) (a .row) (p .1) line (line-is m))
 
 pub read-row-spec : {M : Type 1} → statement M
 read-row-spec =
@@ -176,11 +173,10 @@ read-row-spec =
     mul-line-2
     array-share-prefix-line
     slice-aggregate-read-line-2
-    array-borrow-prefix-places
-    slice-aggregate-read-line-3
     array-borrow-prefix-starts
-    slice-aggregate-read-line-4
+    slice-aggregate-read-line-3
     read-line-requires
     same-length
     same-length-2
+    same-length-3
     returns)
