@@ -16,7 +16,6 @@ ghost use Rattle.definition.specs.Notes.{note-alt, note-alt3};
 ghost use Rattle.definition.specs.RuleRows.{rule-of};
 ghost use Rattle.definition.specs.Paths.{other, join};
 ghost use Rattle.definition.specs.Offers.{offers, found-by};
-ghost use Rattle.rom.specs.Rom.{text as text-of, Clean};
 ghost use Rattle.edge.specs.Slots.{edge-by, edges-of};
 ghost use Rattle.edge.specs.Best.{best-means};
 ghost use Rattle.listing.specs.Sizes.{Countable};
@@ -31,7 +30,6 @@ use edge::BestEdge;
 use edge::Numbers;
 use offers::Asked;
 use offers::Offers;
-use rom::Rom;
 use words::Span;
 
 // An edge with fewer rows than this is offered so little that no filter is kept.
@@ -145,12 +143,12 @@ fn put_offers(
 {
     let o = offers::offers_of(rules, row, e, text);
     let n = offers::offers_count(o);
+    let mut bytes = [0u8; offers::MOST_OFFER];
     let mut to = at;
     let mut k: usize = 0;
     while k < n {
-        let offer = offers::offer_text(rules, row, o, e, text, k);
-        let bytes = offer.bytes;
-        let w = &bytes[..offer.len];
+        let len = offers::put_offer(&mut bytes, rules, row, o, e, text, k);
+        let w = &bytes[..len];
         let new = is_new(rules, code, asked, before, row, e, text, cells, k, w);
         to = put_new(out, to, new, e, note_of(o, k), w);
         marks::mark(cells, w);
@@ -259,12 +257,12 @@ fn put_edge_alternatives(
     places: &mut [u32],
     free: &mut [u8],
     e: Numbers,
-    text: Rom,
+    text: &[u8],
 ) -> usize
-    requires { ⌜ Prepared (now rules) (now ready) × Clean text × Spoken e (text-of text) × (e .from < e .to) × (e .to ≤ size-in (now line))
+    requires { ⌜ Prepared (now rules) (now ready) × Spoken e (now text) × (e .from < e .to) × (e .to ≤ size-in (now line))
         × Countable at edge-bytes ⌝ }
     ensures { λ r. ⌜ Alternatives (now (rules .entry)) (now (ready .entry)) (now (code .entry)) (now (line .entry)) (now (places .entry)) (now (places .exit))
-        (edge-by e (text-of text) ∷ []) (at, now (out .entry)) (r, now (out .exit)) × (r ≤ at + edge-bytes) ⌝ }
+        (edge-by e (now (text .entry)) ∷ []) (at, now (out .entry)) (r, now (out .exit)) × (r ≤ at + edge-bytes) ⌝ }
 {
     let start = words::is_at_start_of_word(line, places, e.from);
     let end = words::is_at_end_of_word(rules, ready, line, e.to);
@@ -279,7 +277,6 @@ fn put_edge_alternatives(
         first: look.first,
     };
     let cells = filter_len(look.count, free.len());
-    let bytes = text.bytes;
     put_filtered(
         out,
         at,
@@ -288,7 +285,7 @@ fn put_edge_alternatives(
         asked,
         look.count,
         e,
-        &bytes[..text.len],
+        text,
         &mut free[..cells],
     )
 }
@@ -314,7 +311,10 @@ fn put_best_alternatives(
     match best {
         BestEdge::At(slot) => {
             let e = edge::numbers_at(slots, slot);
-            let text = rom::bytes_of(edge::edge_text(slots, room, slot));
+            let mut text = [0u8; rom::MOST_BYTES];
+            let own = edge::edge_text(slots, room, slot);
+            let len = own.len();
+            lent_bytes::put_text(&mut text, own);
             let used = listed.used;
             put_edge_alternatives(
                 out,
@@ -326,7 +326,7 @@ fn put_best_alternatives(
                 places,
                 &mut room[used..],
                 e,
-                text,
+                &text[..len],
             )
         }
         BestEdge::Nothing => listed.at,

@@ -22,13 +22,13 @@ use Rattle.definition.specs.Paths.{cored, other}
 use Rattle.definition.specs.Shorts.{Low, Short, short-none}
 use Rattle.definition.specs.ExpandBounds.{Spoken as Worded}
 use Rattle.definition.specs.Alternatives.{edge-vowel}
-use Rattle.definition.specs.Offers.{target-offers, offers}
+use Rattle.definition.specs.Offers.{target-offers}
 use Rattle.utf8.specs.Encodings.{TextBytes, low-bytes, low-decoded, same-decoded}
 use Rattle.rule_row.specs.Others.{others}
 use Rattle.edge.specs.declared.Numbers.{Numbers}
 use Rattle.edge.specs.Slots.{edge-by}
 use Rattle.offers.specs.declared.Offers.{Offers}
-use Rattle.offers.specs.Texts.{texts, Spoken, Tells, count-of, target-there, cored-is, by-other, by-target, text-at, core-own, core-note}
+use Rattle.offers.specs.Texts.{offer-at, Spoken, Tells, count-of, target-there, cored-is, by-other, by-target, text-at, core-own, core-note}
 
 -- An ASCII text against the bytes of another
 pub same-bytes : (w b : List ℕ) → All Low w → TextBytes b → same w (decoded b) ≡ same w b
@@ -170,11 +170,11 @@ module _ (s : List ℕ) (e : Numbers) (b : List ℕ) (o : Offers) (k : ℕ) (h :
   unfolding rule-of
   other-there q = by-other h there k d q .0
 
-  text-other : k < o .others → getD (texts (offers x r)) k [] ≡ getD (others s) k [] ++ edge-vowel x (W s)
+  text-other : k < o .others → offer-at x r k ≡ getD (others s) k [] ++ edge-vowel x (W s)
   unfolding other rule-of
   text-other q = text-at h k d l ∙ ap (λ (c : Edge). c .text) (by-other h there k d q .1)
 
-  pub text-plain : k < o .others → o .cored ≡ false → getD (others s) k [] ≡ getD (texts (offers x r)) k []
+  pub text-plain : k < o .others → o .cored ≡ false → getD (others s) k [] ≡ offer-at x r k
   unfolding pick
   text-plain q z = sym
       (text-other q ∙ ap (λ (y : Bool). getD (others s) k [] ++ pick y (drop (x .core) (x .text)) []) (sym (cored-is h there) ∙ z)
@@ -184,7 +184,7 @@ module _ (s : List ℕ) (e : Numbers) (b : List ℕ) (o : Offers) (k : ℕ) (h :
   note-there q z = core-note q (W s) (sym (cored-is h there) ∙ z)
 
   pub text-cored : Spoken e b → k < o .others → o .cored ≡ true
-      → getD (others s) k [] ++ take (length b - e .core) (drop (e .core) b) ≡ getD (texts (offers x r)) k []
+      → getD (others s) k [] ++ take (length b - e .core) (drop (e .core) b) ≡ offer-at x r k
   unfolding pick edge-by
   text-cored p q z =
       let own = core-own p (note-there p z) in sym
@@ -192,7 +192,7 @@ module _ (s : List ℕ) (e : Numbers) (b : List ℕ) (o : Offers) (k : ℕ) (h :
       ∙ ap (λ l. getD (others s) k [] ++ drop (e .core) l) own
       ∙ ap (λ l. getD (others s) k [] ++ l) (sym (take-all (length b - e .core) (drop (e .core) b) (omega (arith, length-drop (e .core) b)))))
 
-  pub text-target : o .others ≤ k → W s ≡ getD (texts (offers x r)) k []
+  pub text-target : o .others ≤ k → W s ≡ offer-at x r k
   unfolding other count-of pick
   text-target q = sym (text-at h k d l ∙ ap (λ (c : Edge). c .text) (by-target h there k d (last (o .target) refl) l))
     where

@@ -34,6 +34,10 @@ use Rattle.offers.specs.declared.Offers.{Offers}
 abbrev pub texts : List Edge → List Text
 texts l = map (λ c. c .text) l
 
+-- text number `k` of what a rule offers for an edge
+abbrev pub offer-at : Edge → Rule → ℕ → Text
+offer-at x r k = getD (texts (offers x r)) k []
+
 -- A text that an edge has: UTF-8, and ASCII with a core within it where its annotation says so
 pub record Spoken (e : Numbers) (b : List ℕ) : Type 0 where
   pub text : TextBytes b
@@ -163,11 +167,11 @@ module _ {x : Edge} {r : Rule} {o : Offers} (h : Tells x r o) where
   texts-few l = omega (arith, l, texts-count, pick-all (λ n. n ≤ 1) (o .target) {x = 1} {y = 0} (omega arith) (omega arith))
 
   -- the text of each
-  pub text-at : (k : ℕ) (d : Edge) → k < count-of o → getD (texts (offers x r)) k [] ≡ getD (offers x r) k d .text
+  pub text-at : (k : ℕ) (d : Edge) → k < count-of o → offer-at x r k ≡ getD (offers x r) k d .text
   text-at k d l = map-at (λ (c : Edge). c .text) (offers x r) k d [] (omega (arith, l, count-is))
 
   -- Each has the edge's span: first the alternatives of the rule, last its target
-  pub offered-other : (k : ℕ) (d : Edge) → k < o .others → getD (offers x r) k d ≡ other x note-alt (getD (texts (offers x r)) k [])
+  pub offered-other : (k : ℕ) (d : Edge) → k < o .others → getD (offers x r) k d ≡ other x note-alt (offer-at x r k)
   unfolding count-of other
   offered-other k d l =
       let z : k < count-of o = omega arith in
@@ -176,7 +180,7 @@ module _ {x : Edge} {r : Rule} {o : Offers} (h : Tells x r o) where
       p ∙ ap (other x note-alt) (sym (text-at k d z ∙ ap (λ (c : Edge). c .text) p))
 
   pub offered-target : (k : ℕ) (d : Edge) → k ≡ o .others → k < count-of o
-      → getD (offers x r) k d ≡ other x note-alt3 (getD (texts (offers x r)) k [])
+      → getD (offers x r) k d ≡ other x note-alt3 (offer-at x r k)
   unfolding other
   offered-target k d e l =
       let t = target-there (omega arith) in
@@ -235,5 +239,5 @@ module _ {e : Numbers} {b : List ℕ} (h : Spoken e b) where
         go [] a = tt
         go (c ∷ l) a = (a .0, go l (a .1))
 
-    pub text-short : (k : ℕ) → Short most-alternative (getD (texts (offers X r)) k [])
+    pub text-short : (k : ℕ) → Short most-alternative (offer-at X r k)
     text-short k = All-getD (Short most-alternative) (texts (offers X r)) k [] texts-short (short-none most-alternative)

@@ -1,10 +1,9 @@
 // What rules offer as alternatives of an edge (paths.rs, `add_alternatives`), and whether a text was offered before.
 // Nothing is kept of what was found: whether an alternative is new is asked again of the rows before it.
 ghost use mathlib.Core.Bool.{_&&_, _||_};
-ghost use mathlib.Core.List.{[]};
 ghost use mathlib.Core.Path.{_≡_};
 ghost use Prim.Native.Nat.{_≤_, _<_};
-ghost use lib.ListN.{length, getD, take, drop};
+ghost use lib.ListN.{length, take, drop};
 ghost use Rattle.base.specs.Lists.{any, is, same};
 ghost use Rattle.base.specs.Alls.{All};
 ghost use Rattle.definition.specs.Shorts.{Low};
@@ -15,15 +14,17 @@ ghost use Rattle.definition.specs.Rules.{holds-at};
 ghost use Rattle.definition.specs.Paths.{cored};
 ghost use Rattle.definition.specs.Offers.{offers, all-offers};
 ghost use Rattle.utf8.specs.Encodings.{TextBytes};
-ghost use Rattle.rom.specs.Rom.{rom};
+ghost use Rattle.lent_bytes.specs.Puts.{put-at};
 ghost use Rattle.edge.specs.Slots.{edge-by};
 ghost use Rattle.words.specs.Found.{Row, Rows};
-ghost use Rattle.offers.specs.Texts.{texts, Spoken, Tells, most-others, most-offers, count-of, holding};
+ghost use Rattle.offers.specs.Texts.{texts, offer-at, Spoken, Tells, most-others, most-offers, count-of, holding};
 use edge::Numbers;
-use rom::Rom;
 
 // A row offers this many texts at most: its alternatives, whose number is a byte, and its target.
 const MOST_OFFERS: usize = 256;
+
+// Bytes of an offered text, at most.
+pub const MOST_OFFER: usize = 68;
 
 // What was asked of an edge's span: is it at a start of word, at an end of word, and which row of the rule table is its
 // first?
@@ -114,21 +115,37 @@ pub fn offers_count(o: Offers) -> usize
     o.others
 }
 
-// Text number `k` of what a row offers: an alternative, with the edge's vowel where the target is its core, or the target.
-pub fn offer_text(rules: &[u8], row: usize, o: Offers, e: Numbers, text: &[u8], k: usize) -> Rom
-    requires { ⌜ Row (drop row (now rules)) × Spoken e (now text) × Tells (edge-by e (now text)) (rule-of (drop row (now rules))) o × (k < count-of o) ⌝ }
-    ensures { λ r. ⌜ (r ≡ rom (getD (texts (offers (edge-by e (now (text .entry))) (rule-of (drop row (now (rules .entry)))))) k []))
-        × (r .len ≤ most-alternative) ⌝ }
+// Puts text number `k` of what a row offers to the front, and tells its length: an alternative, with the edge's vowel where the
+// target is its core, or the target.
+pub fn put_offer(
+    bytes: &mut [u8],
+    rules: &[u8],
+    row: usize,
+    o: Offers,
+    e: Numbers,
+    text: &[u8],
+    k: usize,
+) -> usize
+    requires { ⌜ (most-alternative ≤ length (now bytes)) × Row (drop row (now rules)) × Spoken e (now text)
+        × Tells (edge-by e (now text)) (rule-of (drop row (now rules))) o × (k < count-of o) ⌝ }
+    ensures { λ r. ⌜ (now (bytes .exit) ≡ put-at 0 (offer-at (edge-by e (now (text .entry))) (rule-of (drop row (now (rules .entry)))) k) (now (bytes .entry)))
+        × (r ≡ length (offer-at (edge-by e (now (text .entry))) (rule-of (drop row (now (rules .entry)))) k)) × (r ≤ most-alternative) ⌝ }
 {
     if k < o.others {
-        let w = rom::bytes_of(rule_row::other_text(rules, row, k));
+        let w = rule_row::other_text(rules, row, k);
+        let len = w.len();
+        lent_bytes::put_text(bytes, w);
         if o.cored {
             let core = e.core as usize;
-            return rom::append(w, lent_bytes::part(text, core, text.len() - core));
+            let vowel = lent_bytes::part(text, core, text.len() - core);
+            lent_bytes::put_at(bytes, len, vowel);
+            return len + vowel.len();
         }
-        return w;
+        return len;
     }
-    rom::bytes_of(rule_row::target_text(rules, row))
+    let w = rule_row::target_text(rules, row);
+    lent_bytes::put_text(bytes, w);
+    w.len()
 }
 
 // Is a text among the first `most` that a row offers?
@@ -139,14 +156,14 @@ pub fn row_offers(rules: &[u8], row: usize, e: Numbers, text: &[u8], most: usize
 {
     let o = offers_of(rules, row, e, text);
     let n = offers_count(o);
+    let mut bytes = [0u8; MOST_OFFER];
     let mut k: usize = 0;
     while k < n {
         if most <= k {
             return false;
         }
-        let u = offer_text(rules, row, o, e, text, k);
-        let b = u.bytes;
-        if lent_bytes::same(w, &b[..u.len]) {
+        let len = put_offer(&mut bytes, rules, row, o, e, text, k);
+        if lent_bytes::same(w, &bytes[..len]) {
             return true;
         }
         k += 1;

@@ -4,14 +4,14 @@ use mathlib.Core.List.{List, [], _∷_}
 use mathlib.Core.Path.{_≡_, refl, sym, ap, _∙_, subst}
 use Prim.Native.Nat.{ℕ, _≤_}
 use native.Mathlib.Omega.{arith}
-use lib.ListN.{length, drop}
+use lib.ListN.{length, take, drop}
+use lib.Seq.{length-take-le}
 use denote.Ref.{now}
 use Rattle.base.specs.Alls.{Opt}
 use Rattle.definition.specs.Limits.{most-bytes}
 use Rattle.definition.specs.Bounds.{Sound}
 use Rattle.definition.specs.Paths.{join}
 use Rattle.definition.specs.Offers.{found-all}
-use Rattle.rom.specs.Rom.{text, text-by, clean-by}
 use Rattle.edge.specs.Slots.{bytes-of, edge-by, edge-of}
 use Rattle.edge.specs.Stored.{Slot}
 use Rattle.edge.specs.Best.{best-means, Found}
@@ -19,7 +19,7 @@ use Rattle.listing.specs.Items.{put-items}
 use Rattle.edge_places.specs.Shows.{memory}
 use Rattle.words.specs.Given.{seen, size, size-in}
 use Rattle.rule_choice.specs.Lent.{lexicon-of}
-use Rattle.alternatives.proofs.Edges.{slot-short, span-inside, spoken-at, edge-at-slot, found-nothing, slot-found, slot-wide, front-stays}
+use Rattle.alternatives.proofs.Edges.{slot-short, span-inside, spoken-at, edge-at-slot, found-nothing, slot-found, slot-wide, front-stays, copied-long, copied-read}
 use borrow.Author.Needs.{needs}
 use Rattle.alternatives.proofs.put_best_alternatives.Statement.{statement}
 use Rattle.alternatives.proofs.put_best_alternatives.Tie as tie
@@ -57,6 +57,22 @@ within m = start m .pre .1 .within
 short : (m : tie.After-numbers-at) → length (bytes-of (R m) (S m)) ≤ most-bytes
 short m = slot-short (R m) (S m) (size-in (now (start m .args .line))) (Used m) (sound m) (there m) (within m)
 
+-- the edge's text, and its copy, which is lent
+abbrev numbers : tie.After-put-text → tie.After-numbers-at
+numbers v = v .before .before .before .before
+
+abbrev Own : tie.After-put-text → List ℕ
+Own v = now (v .before .before .edge-text .result)
+
+abbrev Text : tie.After-put-text → List ℕ
+Text v = take (length (Own v)) (v .put-text .last .0)
+
+long : (v : tie.After-put-text) → length (Own v) ≤ length (v .put-text .last .0)
+long v = copied-long (Own v) _ (v .put-text .last .0) (v .put-text .ensures)
+
+copied : (v : tie.After-put-text) → Text v ≡ bytes-of (R (numbers v)) (S (numbers v))
+copied v = copied-read (Own v) _ (v .put-text .last .0) (v .put-text .ensures) ∙ v .before .before .edge-text .ensures
+
 enum-known-best : tie.Need-enum-known-best
 enum-known-best c = search needs
 
@@ -66,10 +82,13 @@ numbers-at-requires c κs = search needs
 edge-text-requires : tie.Need-edge-text-requires
 edge-text-requires c κs = let m = c .before in slot-wide (R m) (S m) (Used m) (within m) (there m)
 
-bytes-of-requires : tie.Need-bytes-of-requires
-bytes-of-requires c κs =
-    let m = c .before .before in
-    omega (arith, ap length (c .edge-text .ensures), short m)
+slice-aggregate-put-text : tie.Need-slice-aggregate-put-text
+slice-aggregate-put-text c = refl
+
+put-text-requires : tie.Need-put-text-requires
+put-text-requires c κs =
+    let f = c .before in
+    omega (arith, ap length (f .edge-text .ensures), short (f .before .before))
 
 sub-put-edge-alternatives : tie.Need-sub-put-edge-alternatives
 sub-put-edge-alternatives c = search needs
@@ -80,20 +99,24 @@ part-put-edge-alternatives-start c = search needs
 part-put-edge-alternatives-end : tie.Need-part-put-edge-alternatives-end
 part-put-edge-alternatives-end c = search needs
 
+array-share-prefix-text : tie.Need-array-share-prefix-text
+array-share-prefix-text c = long (c .before .before .before .before)
+
+slice-aggregate-put-edge-alternatives : tie.Need-slice-aggregate-put-edge-alternatives
+slice-aggregate-put-edge-alternatives c =
+    let v = c .before .before .before .before .before in
+    sym (length-take-le (length (Own v)) (v .put-text .last .0) (long v))
+
 put-edge-alternatives-requires : tie.Need-put-edge-alternatives-requires
 put-edge-alternatives-requires c κs =
-    let v = c .before .before .before in
-    let m = v .before .before .before in
+    let v = c .before .before .before .before .before in
+    let m = numbers v in
     let q = start m in
     let e = m .numbers-at in
     let n = size-in (now (q .args .line)) in
-    let f = v .before .edge-text in
-    let k : length (now (f .result)) ≤ most-bytes = omega (arith, ap length (f .ensures), short m) in
-    let t = text-by (now (f .result)) (v .bytes-of .ensures) k ∙ f .ensures in
     let i = span-inside (R m) (S m) n (Used m) (sound m) (there m) (within m) (e .result) (e .ensures) in (
       q .pre .0,
-      clean-by (now (f .result)) (v .bytes-of .ensures) k,
-      spoken-at (R m) (S m) n (Used m) (sound m) (there m) (within m) (e .result) (e .ensures) (text (v .bytes-of .result)) t,
+      spoken-at (R m) (S m) n (Used m) (sound m) (there m) (within m) (e .result) (e .ensures) (Text v) (copied v),
       i .0,
       i .1,
       q .pre .4,
@@ -114,18 +137,15 @@ same-length-3 c = search needs
 returns : tie.Need-returns
 returns c =
     let p = c .before .before .before .before .before .before .put-edge-alternatives in
-    let v = c .before .before .before .before .before .before .before .before .before .before in
-    let m = v .before .before .before in
+    let v = c .before .before .before .before .before .before .before .before .before .before .before .before in
+    let m = numbers v in
     let q = start m in
     let a = q .args in
     let b = m .before .before .best .given in
     let e = m .numbers-at in
     let n = size-in (now (a .line)) in
-    let f = v .before .edge-text in
-    let k : length (now (f .result)) ≤ most-bytes = omega (arith, ap length (f .ensures), short m) in
-    let t = text-by (now (f .result)) (v .bytes-of .ensures) k ∙ f .ensures in
-    let is : edge-by (e .result) (text (v .bytes-of .result)) ≡ edge-of (R m) (S m) =
-    edge-at-slot (R m) (S m) n (Used m) (sound m) (there m) (within m) (e .result) (e .ensures) (text (v .bytes-of .result)) t in (
+    let is : edge-by (e .result) (Text v) ≡ edge-of (R m) (S m) =
+    edge-at-slot (R m) (S m) n (Used m) (sound m) (there m) (within m) (e .result) (e .ensures) (Text v) (copied v) in (
       (λ w told lent.
           let L = lexicon-of (now (a .rules)) w (now (a .code)) in
           let m₀ = memory (size w) (now (a .places)) in
@@ -162,10 +182,13 @@ put-best-alternatives-spec =
     enum-known-best
     numbers-at-requires
     edge-text-requires
-    bytes-of-requires
+    slice-aggregate-put-text
+    put-text-requires
     sub-put-edge-alternatives
     part-put-edge-alternatives-start
     part-put-edge-alternatives-end
+    array-share-prefix-text
+    slice-aggregate-put-edge-alternatives
     put-edge-alternatives-requires
     enum-told
     same-length

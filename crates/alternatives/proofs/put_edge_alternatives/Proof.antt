@@ -3,14 +3,12 @@ use mathlib.Core.Bool.{true}
 use mathlib.Core.List.{List}
 use mathlib.Core.Path.{_≡_, sym, ap, _∙_}
 use Prim.Native.Nat.{ℕ, _≤_}
-use native.Mathlib.Omega.{arith}
 use lib.Seq.{length-take-le}
 use denote.Ref.{now}
 use Rattle.base.specs.Lists.{keep}
 use Rattle.definition.specs.Limits.{most-rows}
 use Rattle.definition.specs.RuleRows.{rules-of}
 use Rattle.definition.specs.Rules.{spans}
-use Rattle.rom.specs.Rom.{text, text-length, bytes-length}
 use Rattle.listing.specs.Items.{put-items}
 use Rattle.edge_places.specs.Shows.{memory}
 use Rattle.words.specs.Given.{seen, size}
@@ -23,14 +21,18 @@ use borrow.Author.Needs.{needs}
 use Rattle.alternatives.proofs.put_edge_alternatives.Statement.{statement}
 use Rattle.alternatives.proofs.put_edge_alternatives.Tie as tie
 
+-- where the function begins
+abbrev begin : tie.After-is-at-start-of-word → tie.Start
+begin s = s .before .before .before .before .before .before .before .before .before .before
+
 abbrev Rules : tie.After-look-up → List ℕ
-Rules m = let s = m .before .before .before .before in now (s .before .before .before .before .before .before .before .before .before .args .rules)
+Rules m = let s = m .before .before .before .before in now (begin s .args .rules)
 
 -- the rows that were found
 rows : (m : tie.After-look-up) → Rows (Rules m) (m .look-up .result .first) (m .look-up .result .count) × (m .look-up .result .count ≤ most-rows)
 rows m =
     let s = m .before .before .before .before in
-    let q = s .before .before .before .before .before .before .before .before .before in
+    let q = begin s in
     let r = Rules m in
     let look = m .look-up .result in
     let d = m .look-up .ensures .0 in
@@ -51,33 +53,20 @@ look-up-requires c κs = search needs
 filter-len-requires : tie.Need-filter-len-requires
 filter-len-requires c κs = rows c .1
 
-array-share-prefix-bytes : tie.Need-array-share-prefix-bytes
-array-share-prefix-bytes c =
-    let m = c .before .before .before in
-    let s = m .before .before .before .before in
-    let q = s .before .before .before .before .before .before .before .before .before .pre .1 in
-    omega (arith, bytes-length q, q .fits)
-
-slice-aggregate-put-filtered : tie.Need-slice-aggregate-put-filtered
-slice-aggregate-put-filtered c =
-    let s = c .before .before .before .before .before .before .before .before in
-    sym (text-length (s .before .before .before .before .before .before .before .before .before .pre .1))
-
 slice-relend-prefix-put-filtered : tie.Need-slice-relend-prefix-put-filtered
 slice-relend-prefix-put-filtered c = search needs
 
-slice-aggregate-put-filtered-2 : tie.Need-slice-aggregate-put-filtered-2
-slice-aggregate-put-filtered-2 c =
-    let f = c .before .before .before .before .filter-len in
-    let s = c .before .before .before .before .before .before .before .before .before in
-    sym (length-take-le (f .result) (now (s .before .before .before .before .before .before .before .before .before .args .free)) (f .ensures))
+slice-aggregate-put-filtered : tie.Need-slice-aggregate-put-filtered
+slice-aggregate-put-filtered c =
+    let f = c .before .before .filter-len in
+    let s = c .before .before .before .before .before .before .before in
+    sym (length-take-le (f .result) (now (begin s .args .free)) (f .ensures))
 
 put-filtered-requires : tie.Need-put-filtered-requires
 put-filtered-requires c κs =
-    let m = c .before .before .before .before .before in
-    let s = m .before .before .before .before in
-    let q = s .before .before .before .before .before .before .before .before .before in
-    (rows m .0, rows m .1, q .pre .2, q .pre .5)
+    let m = c .before .before .before in
+    let q = begin (m .before .before .before .before) in
+    (rows m .0, rows m .1, q .pre .1, q .pre .4)
 
 same-length : tie.Need-same-length
 same-length c = search needs
@@ -91,12 +80,12 @@ same-length-3 c = search needs
 returns : tie.Need-returns
 returns c =
     let p = c .before .before .before .before .put-filtered in
-    let m = c .before .before .before .before .before .before .before .before .before .before in
+    let m = c .before .before .before .before .before .before .before .before in
     let look = m .look-up in
     let end = m .before .is-at-end-of-word in
     let s = m .before .before .before .before in
     let start = s .is-at-start-of-word in
-    let q = s .before .before .before .before .before .before .before .before .before in
+    let q = begin s in
     let a = q .args in
     let e = a .e in
     let rules = now (a .rules) in
@@ -112,7 +101,7 @@ returns c =
           looked-are (q .pre .0 .table .accepted) (look .ensures .0) (lent .text)
           ∙ ap (λ s. keep (spans T s (look .result .to)) (rules-of rules)) (look .ensures .1)
           ∙ ap (λ z. keep (spans T (e .from) z) (rules-of rules)) (look .ensures .2) in (
-            p .ensures .0 ∙ ap (λ l. put-items true l (a .at, now (a .out))) (found-edge L T (seen w) m₀ e (text (a .text)) rs
+            p .ensures .0 ∙ ap (λ l. put-items true l (a .at, now (a .out))) (found-edge L T (seen w) m₀ e (now (a .text)) rs
                 (valid-found L T (seen w) m₀ (e .from) (e .to) found are (start .result) (end .result)
                 (start-told L T (seen w) m₀ m₁ (e .from) (start .result) (d .did)) (end .ensures w told (lent .text)))),
             start-recalls L T (seen w) m₀ m₁ (e .from) (start .result) (d .did),
@@ -129,10 +118,8 @@ put-edge-alternatives-spec =
     is-at-end-of-word-requires
     look-up-requires
     filter-len-requires
-    array-share-prefix-bytes
-    slice-aggregate-put-filtered
     slice-relend-prefix-put-filtered
-    slice-aggregate-put-filtered-2
+    slice-aggregate-put-filtered
     put-filtered-requires
     same-length
     same-length-2

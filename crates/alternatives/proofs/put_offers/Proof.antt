@@ -1,10 +1,11 @@
 -- `alternatives::put_offers`: what was written and what is left of the offers leave what all leave.
 use mathlib.Core.Bool.{true}
-use mathlib.Core.List.{List, [], _∷_, _++_, append-nil}
+use mathlib.Core.List.{List, _∷_, _++_, append-nil}
 use mathlib.Core.Path.{_≡_, refl, sym, ap, _∙_, subst}
 use Prim.Native.Nat.{_+_, _-_, _*_, _≤_, _<_}
 use native.Mathlib.Omega.{arith}
-use lib.ListN.{length, getD, take, drop}
+use lib.ListN.{length, take, drop}
+use lib.Seq.{length-take-le}
 use denote.Ref.{now}
 use Rattle.base.specs.Pick.{pick-all}
 use Rattle.base.specs.Alls.{All}
@@ -16,10 +17,10 @@ use Rattle.definition.specs.Edges.{Edge}
 use Rattle.definition.specs.RuleRows.{rule-of}
 use Rattle.definition.specs.Offers.{offers, news}
 use Rattle.edge.specs.Slots.{edge-by}
-use Rattle.rom.specs.Rom.{len-by, text-by, clean-by, bytes-length, text-length}
 use Rattle.listing.specs.Items.{put-items}
 use Rattle.marks.specs.Marked.{Marked}
-use Rattle.offers.specs.Texts.{texts, most-offers, count-of, text-short}
+use Rattle.offers.specs.Texts.{texts, offer-at, most-offers, count-of, text-short}
+use Rattle.offers.specs.Fronts.{front-read, front-length}
 use Rattle.alternatives.specs.News.{offered, earlier, offer-bytes}
 use Rattle.alternatives.proofs.Turns.{offers-over, texts-over, texts-on, offers-on}
 use borrow.Author.Needs.{needs}
@@ -27,16 +28,16 @@ use Rattle.alternatives.proofs.put_offers.Statement.{statement}
 use Rattle.alternatives.proofs.put_offers.Tie as tie
 
 abbrev Inv-loop : tie.InvT-loop
-Inv-loop out₀ at rules code asked before row e text cells₀ o n to₀ k₀ out cells to k =
+Inv-loop out₀ at rules code asked before row e text cells₀ o n bytes₀ to₀ k₀ out cells bytes to k =
     let x = edge-by e text in
     let ws = earlier x code asked rules before in
     let l = offers x (rule-of (drop row rules)) in
     (put-items true (news (ws ++ take k (texts l)) (drop k l)) (to, out) ≡ put-items true (news ws l) (at, out₀))
     × (k ≤ n) × (to ≤ at + offer-bytes * k) × (length out ≡ length out₀) × (length cells ≡ length cells₀)
-    × Marked (offered x code asked rules before ++ take k (texts l)) cells
+    × Marked (offered x code asked rules before ++ take k (texts l)) cells × (length bytes ≡ most-alternative)
 
 abbrev μ-loop : tie.MeasureT-loop
-μ-loop out₀ at rules code asked before row e text cells₀ o n to₀ k₀ out cells to k = n - k
+μ-loop out₀ at rules code asked before row e text cells₀ o n bytes₀ to₀ k₀ out cells bytes to k = n - k
 
 abbrev At : Type 0
 At = tie.At-loop Inv-loop μ-loop
@@ -56,7 +57,7 @@ E l = X l .text ∷ F l
 
 -- the text of this turn
 abbrev U : At → Text
-U l = getD (texts (offers (X l) (R l))) (l .loop .k) []
+U l = offer-at (X l) (R l) (l .loop .k)
 
 few : (l : At) → l .before .offers-count .result ≤ most-offers
 unfolding count-of
@@ -67,6 +68,25 @@ few l =
 
 short : (l : At) → Short most-alternative (U l)
 short l = let q = l .before .before .before .before .before .before .before .before in text-short (q .pre .2) (q .pre .1 .spoken) (l .loop .k)
+
+-- an offer that was put: where that was, how many bytes there are, and which text it is
+abbrev Put : Type 0
+Put = tie.After-put-offer Inv-loop μ-loop
+
+abbrev before : Put → At
+before p = p .before .before .before
+
+long : (p : Put) → length (p .put-offer .last .0) ≡ most-alternative
+long p =
+    let u = p .put-offer in
+    let l = before p in
+    front-length (U l) (l .loop .bytes) (u .last .0) (u .ensures .0) (omega (arith, u .ensures .1, u .ensures .2, l .loop .inv .6)) ∙ l .loop .inv .6
+
+told : (p : Put) → take (p .put-offer .result) (p .put-offer .last .0) ≡ U (before p)
+told p =
+    let u = p .put-offer in
+    let l = before p in
+    front-read (U l) (l .loop .bytes) (u .last .0) (u .result) (u .ensures .0) (u .ensures .1)
 
 offers-of-requires : tie.Need-offers-of-requires Inv-loop μ-loop
 offers-of-requires c κs = search needs
@@ -87,44 +107,44 @@ loop-holds c =
       refl,
       refl,
       subst (λ us. Marked us (now (a .cells))) (sym (append-nil ws)) (q .pre .4),
+      refl,
     )
 
-offer-text-requires : tie.Need-offer-text-requires Inv-loop μ-loop
-offer-text-requires c κs =
-    let l = c .before in
+slice-aggregate-put-offer : tie.Need-slice-aggregate-put-offer Inv-loop μ-loop
+slice-aggregate-put-offer c = let l = c .before .before in sym (l .loop .inv .6)
+
+put-offer-requires : tie.Need-put-offer-requires Inv-loop μ-loop
+put-offer-requires c κs =
+    let l = c .before .before in
     let q = l .before .before .before .before .before .before .before .before in
-    (q .pre .1, q .pre .2, l .before .before .offers-of .ensures .0, omega (arith, c .loop-test, l .before .offers-count .ensures))
+    (omega (arith, l .loop .inv .6), q .pre .1, q .pre .2, l .before .before .offers-of .ensures .0, omega (arith, c .before .loop-test, l .before .offers-count .ensures))
 
 array-share-prefix-bytes : tie.Need-array-share-prefix-bytes Inv-loop μ-loop
-array-share-prefix-bytes c =
-    let l = c .before .before .before in
-    let e = c .before .offer-text .ensures in
-    let q = clean-by (U l) (e .0) (omega (arith, len-by (U l) (e .0), e .1)) in
-    omega (arith, bytes-length q, q .fits)
+array-share-prefix-bytes c = let p = c .before in omega (arith, long p, p .put-offer .ensures .2)
 
 slice-aggregate-w : tie.Need-slice-aggregate-w Inv-loop μ-loop
 slice-aggregate-w c =
-    let l = c .before .before .before .before in
-    let e = c .before .before .offer-text .ensures in
-    sym (text-length (clean-by (U l) (e .0) (omega (arith, len-by (U l) (e .0), e .1))))
+    let p = c .before .before in
+    let u = p .put-offer in
+    sym (length-take-le (u .result) (u .last .0) (omega (arith, long p, u .ensures .2)))
 
 is-new-requires : tie.Need-is-new-requires Inv-loop μ-loop
 is-new-requires c κs =
-    let l = c .before .before .before .before .before in
+    let p = c .before .before .before in
+    let l = before p in
     let q = l .before .before .before .before .before .before .before .before in
-    let e = c .before .before .before .offer-text .ensures in
-    let u = text-by (U l) (e .0) (omega (arith, len-by (U l) (e .0), e .1)) in
-    (q .pre .0, q .pre .1, q .pre .2, subst (All Low) (sym u) (short l .low), l .loop .inv .5)
+    (q .pre .0, q .pre .1, q .pre .2, subst (All Low) (sym (told p)) (short l .low), l .loop .inv .5)
 
 note-of-requires : tie.Need-note-of-requires Inv-loop μ-loop
 note-of-requires c κs = search needs
 
 put-new-requires : tie.Need-put-new-requires Inv-loop μ-loop
 put-new-requires c κs =
-    let l = c .before .before .before .before .before .before .before .before in
-    let e = c .before .before .before .before .before .before .offer-text .ensures in
-    let u = text-by (U l) (e .0) (omega (arith, len-by (U l) (e .0), e .1)) in
-    (omega (arith, few l, l .loop .inv .1, l .loop .inv .2, l .before .before .before .before .before .before .before .before .pre .3), subst (Short most-alternative) (sym u) (short l))
+    let p = c .before .before .before .before .before .before in
+    let l = before p in (
+      omega (arith, few l, l .loop .inv .1, l .loop .inv .2, l .before .before .before .before .before .before .before .before .pre .3),
+      subst (Short most-alternative) (sym (told p)) (short l),
+    )
 
 mark-requires : tie.Need-mark-requires Inv-loop μ-loop
 mark-requires c κs = search needs
@@ -132,13 +152,14 @@ mark-requires c κs = search needs
 add-k : tie.Need-add-k Inv-loop μ-loop
 add-k c =
     let w = c .before .before .before .before .before .before in
-    let l = w .before .before .before .before .before .before .before .before .before in
+    let l = before (w .before .before .before .before .before .before .before) in
     omega (arith, few l, l .loop .inv .1)
 
 loop-less : tie.Need-loop-less Inv-loop μ-loop
 loop-less c =
     let w = c .before .before .before .before .before .before in
-    omega (arith, w .before .before .before .before .before .before .before .before .loop-test)
+    let p = w .before .before .before .before .before .before .before in
+    omega (arith, p .before .before .loop-test)
 
 loop-again : tie.Need-loop-again Inv-loop μ-loop
 loop-again c =
@@ -149,13 +170,12 @@ loop-again c =
     let i = w .before .before .before in
     let n = i .is-new in
     let f = i .before .before .before .before in
-    let e = f .offer-text in
-    let t = f .before .loop-test in
-    let l = f .before .before in
+    let t = f .before .before .loop-test in
+    let l = before f in
     let a = l .before .before .before .before .before .before .before .before .args in
     let o = l .before .before .offers-of in
     let h : l .loop .k < count-of (o .result) = omega (arith, t, l .before .offers-count .ensures) in
-    let u = text-by (U l) (e .ensures .0) (omega (arith, len-by (U l) (e .ensures .0), e .ensures .1)) in (
+    let u = told f in (
       offers-on (a .e) (now (a .text)) (R l) (o .result) (o .ensures .0) (E l) (l .loop .k) h (n .result) (z .result) _
           (p .result, p .last .0) (l .loop .to, l .loop .out) (z .ensures) u (n .ensures) (p .ensures .0) ∙ l .loop .inv .0,
       omega (arith, t),
@@ -164,6 +184,7 @@ loop-again c =
       search needs,
       subst (λ us. Marked us (m .last .0)) (texts-on (a .e) (now (a .text)) (R l) (o .result) (o .ensures .0) (E l) (l .loop .k) h _ u (F l))
           (m .ensures (F l ++ take (l .loop .k) (texts (offers (X l) (R l)))) (l .loop .inv .5)),
+      long f,
     )
 
 same-length : tie.Need-same-length Inv-loop μ-loop
@@ -194,7 +215,8 @@ put-offers-spec =
     offers-of-requires
     offers-count-requires
     loop-holds
-    offer-text-requires
+    slice-aggregate-put-offer
+    put-offer-requires
     array-share-prefix-bytes
     slice-aggregate-w
     is-new-requires

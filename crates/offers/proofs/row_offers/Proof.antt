@@ -1,30 +1,32 @@
 -- `offers::row_offers`: the texts still to come have it where all have.
 use mathlib.Core.Bool.{true, false}
 use mathlib.Core.List.{List, []}
-use mathlib.Core.Path.{_≡_, sym, ap, _∙_}
+use mathlib.Core.Path.{_≡_, refl, sym, ap, _∙_}
 use Prim.Native.Nat.{ℕ, _-_, _≤_}
 use native.Mathlib.Omega.{arith}
 use lib.ListN.{length, getD, take, drop}
+use lib.Seq.{length-take-le}
 use denote.Ref.{now}
 use Rattle.base.specs.Lists.{any, same}
+use Rattle.definition.specs.Limits.{most-alternative}
 use Rattle.definition.specs.Texts.{Text}
 use Rattle.definition.specs.RuleRows.{rule-of}
 use Rattle.definition.specs.Offers.{offers}
 use Rattle.edge.specs.Slots.{edge-by}
-use Rattle.rom.specs.Rom.{len-by, text-by, clean-by, bytes-length, text-length}
 use Rattle.offers.specs.Texts.{most-offers, texts, texts-count, texts-few}
+use Rattle.offers.specs.Fronts.{front-read, front-length}
 use Rattle.offers.proofs.Seeking.{left-of, left-over, left-none, left-turn}
 use borrow.Author.Needs.{needs}
 use Rattle.offers.proofs.row_offers.Statement.{statement}
 use Rattle.offers.proofs.row_offers.Tie as tie
 
 abbrev Inv-loop : tie.InvT-loop
-Inv-loop rules row e text most w o n k₀ k =
+Inv-loop rules row e text most w o n bytes₀ k₀ bytes k =
     let l = texts (offers (edge-by e text) (rule-of (drop row rules))) in
-    left-of w l most k ≡ any (same w) (take most l)
+    (left-of w l most k ≡ any (same w) (take most l)) × (length bytes ≡ most-alternative)
 
 abbrev μ-loop : tie.MeasureT-loop
-μ-loop rules row e text most w o n k₀ k = n - k
+μ-loop rules row e text most w o n bytes₀ k₀ bytes k = n - k
 
 abbrev At : Type 0
 At = tie.At-loop Inv-loop μ-loop
@@ -44,6 +46,27 @@ few l = texts-few (l .before .before .offers-of .ensures .0) (l .before .before 
 within : (l : At) → length (L l) ≡ l .before .offers-count .result
 within l = texts-count (l .before .before .offers-of .ensures .0) ∙ sym (l .before .offers-count .ensures)
 
+-- an offer that was put: where that was, how many bytes there are, and which text it is
+abbrev Put : Type 0
+Put = tie.After-put-offer Inv-loop μ-loop
+
+abbrev before : Put → At
+before p = p .before .before .before .before
+
+abbrev T : Put → Text
+T p = getD (L (before p)) (before p .loop .k) []
+
+long : (p : Put) → length (p .put-offer .last .0) ≡ most-alternative
+long p =
+    let u = p .put-offer in
+    let l = before p .loop in
+    front-length (T p) (l .bytes) (u .last .0) (u .ensures .0) (omega (arith, u .ensures .1, u .ensures .2, l .inv .1)) ∙ l .inv .1
+
+told : (p : Put) → take (p .put-offer .result) (p .put-offer .last .0) ≡ T p
+told p =
+    let u = p .put-offer in
+    front-read (T p) (before p .loop .bytes) (u .last .0) (u .result) (u .ensures .0) (u .ensures .1)
+
 offers-of-requires : tie.Need-offers-of-requires Inv-loop μ-loop
 offers-of-requires c κs = search needs
 
@@ -55,44 +78,40 @@ loop-holds c =
     let a = c .before .before .before .before .before .args in
     let l = texts (offers (edge-by (a .e) (now (a .text))) (rule-of (drop (a .row) (now (a .rules))))) in
     let z : a .most - 0 ≡ a .most = omega arith in
-    ap (λ n. any (same (now (a .w))) (take n l)) z
+    (ap (λ n. any (same (now (a .w))) (take n l)) z, refl)
 
 returns : tie.Need-returns Inv-loop μ-loop
 returns c =
     let l = c .before .before in
-    (left-none (W l) (L l) (M l) (l .loop .k) (omega arith) ∙ l .loop .inv, few l)
+    (left-none (W l) (L l) (M l) (l .loop .k) (omega arith) ∙ l .loop .inv .0, few l)
 
-offer-text-requires : tie.Need-offer-text-requires Inv-loop μ-loop
-offer-text-requires c κs =
-    let l = c .before .before in
+slice-aggregate-put-offer : tie.Need-slice-aggregate-put-offer Inv-loop μ-loop
+slice-aggregate-put-offer c = let l = c .before .before .before in sym (l .loop .inv .1)
+
+put-offer-requires : tie.Need-put-offer-requires Inv-loop μ-loop
+put-offer-requires c κs =
+    let l = c .before .before .before in
     let k = l .before .before .before .before .before .before in
-    (k .pre .0, k .pre .1, l .before .before .offers-of .ensures .0, omega (arith, l .before .offers-count .ensures))
+    (omega (arith, l .loop .inv .1), k .pre .0, k .pre .1, l .before .before .offers-of .ensures .0, omega (arith, l .before .offers-count .ensures))
 
-array-share-prefix-b : tie.Need-array-share-prefix-b Inv-loop μ-loop
-array-share-prefix-b c =
-    let l = c .before .before .before .before in
-    let T = getD (L l) (l .loop .k) [] in
-    let e = c .before .offer-text .ensures in
-    let q = clean-by T (e .0) (omega (arith, len-by T (e .0), e .1)) in
-    omega (arith, bytes-length q, q .fits)
+array-share-prefix-bytes : tie.Need-array-share-prefix-bytes Inv-loop μ-loop
+array-share-prefix-bytes c = let p = c .before in omega (arith, long p, p .put-offer .ensures .2)
 
 slice-aggregate-same : tie.Need-slice-aggregate-same Inv-loop μ-loop
 slice-aggregate-same c =
-    let l = c .before .before .before .before .before in
-    let T = getD (L l) (l .loop .k) [] in
-    let e = c .before .before .offer-text .ensures in
-    sym (text-length (clean-by T (e .0) (omega (arith, len-by T (e .0), e .1))))
+    let p = c .before .before in
+    let u = p .put-offer in
+    sym (length-take-le (u .result) (u .last .0) (omega (arith, long p, u .ensures .2)))
 
 same-requires : tie.Need-same-requires Inv-loop μ-loop
 same-requires c κs = search needs
 
 returns-2 : tie.Need-returns-2 Inv-loop μ-loop
 returns-2 c =
-    let l = c .before .before .before .before .before .before .before in
-    let T = getD (L l) (l .loop .k) [] in
-    let e = c .before .before .before .before .offer-text .ensures in
-    let u = text-by T (e .0) (omega (arith, len-by T (e .0), e .1)) in
-    let t = left-turn (W l) (L l) (M l) (l .loop .k) (omega (arith, within l)) (omega arith) true (sym (c .if2 .taken) ∙ c .before .same .ensures ∙ ap (same (W l)) u) ∙ l .loop .inv in
+    let p = c .before .before .before .before in
+    let l = before p in
+    let t = left-turn (W l) (L l) (M l) (l .loop .k) (omega (arith, within l)) (omega arith) true
+    (sym (c .if2 .taken) ∙ c .before .same .ensures ∙ ap (same (W l)) (told p)) ∙ l .loop .inv .0 in
     (t, few l)
 
 add-k : tie.Need-add-k Inv-loop μ-loop
@@ -103,17 +122,16 @@ loop-less c = search needs
 
 loop-again : tie.Need-loop-again Inv-loop μ-loop
 loop-again c =
-    let l = c .before .before .before .before .before .before .before in
-    let T = getD (L l) (l .loop .k) [] in
-    let e = c .before .before .before .before .offer-text .ensures in
-    let u = text-by T (e .0) (omega (arith, len-by T (e .0), e .1)) in
-    let t = left-turn (W l) (L l) (M l) (l .loop .k) (omega (arith, within l)) (omega arith) false (sym (c .if2 .left) ∙ c .before .same .ensures ∙ ap (same (W l)) u) ∙ l .loop .inv in
-    t
+    let p = c .before .before .before .before in
+    let l = before p in
+    let t = left-turn (W l) (L l) (M l) (l .loop .k) (omega (arith, within l)) (omega arith) false
+    (sym (c .if2 .left) ∙ c .before .same .ensures ∙ ap (same (W l)) (told p)) ∙ l .loop .inv .0 in
+    (t, long p)
 
 returns-3 : tie.Need-returns-3 Inv-loop μ-loop
 returns-3 c =
     let l = c .before in
-    (left-over (W l) (L l) (M l) (l .loop .k) (omega (arith, within l)) ∙ l .loop .inv, few l)
+    (left-over (W l) (L l) (M l) (l .loop .k) (omega (arith, within l)) ∙ l .loop .inv .0, few l)
 
 pub row-offers-spec : {M : Type 1} → statement M
 row-offers-spec =
@@ -125,8 +143,9 @@ row-offers-spec =
     offers-count-requires
     loop-holds
     returns
-    offer-text-requires
-    array-share-prefix-b
+    slice-aggregate-put-offer
+    put-offer-requires
+    array-share-prefix-bytes
     slice-aggregate-same
     same-requires
     returns-2

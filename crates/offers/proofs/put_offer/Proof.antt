@@ -1,0 +1,173 @@
+-- `offers::put_offer`: an alternative, with the vowel put behind it or without, or the target.
+use mathlib.Core.List.{List, [], _++_}
+use mathlib.Core.Path.{_≡_, refl, sym, ap, _∙_}
+use Prim.Native.Nat.{ℕ, _+_, _-_, _≤_}
+use native.Mathlib.Omega.{arith}
+use lib.ListN.{length, getD, drop, length-append}
+use denote.Ref.{now}
+use Rattle.base.specs.ListLaws.{take-most}
+use Rattle.definition.specs.Limits.{most-target, most-alternative}
+use Rattle.definition.specs.Notes.{note-core}
+use Rattle.definition.specs.RuleRows.{rule-of}
+use Rattle.definition.specs.Texts.{Text}
+use Rattle.lent_bytes.specs.Puts.{put-at, put-next}
+use Rattle.rule_row.specs.Others.{others}
+use Rattle.edge.specs.Slots.{edge-by}
+use Rattle.offers.specs.Texts.{offer-at, text-short}
+use Rattle.offers.specs.Fronts.{put-front, front-length}
+use Rattle.offers.proofs.Telling.{target-short, other-short, flag-there, other-there, note-there, text-plain, text-cored, text-target}
+use borrow.Author.Needs.{needs}
+use Rattle.offers.proofs.put_offer.Statement.{statement}
+use Rattle.offers.proofs.put_offer.Tie as tie
+
+-- the row, the edge's text, the bytes before, and the text asked for
+abbrev S : tie.Start → List ℕ
+S q = drop (q .args .row) (now (q .args .rules))
+
+abbrev B : tie.Start → List ℕ
+B q = now (q .args .text)
+
+abbrev Old : tie.Start → List ℕ
+Old q = now (q .args .bytes)
+
+abbrev T : tie.Start → Text
+T q = offer-at (edge-by (q .args .e) (B q)) (rule-of (S q)) (q .args .k)
+
+text-fits : (q : tie.Start) → length (T q) ≤ most-alternative
+text-fits q = text-short (q .pre .2) (q .pre .1 .spoken) (q .args .k) .long
+
+-- where the function begins, and the alternative that was read
+abbrev start : tie.After-other-text → tie.Start
+start m = m .before .before .before .before .before .before
+
+abbrev W : tie.After-other-text → List ℕ
+W m = now (m .other-text .result)
+
+other-fits : (m : tie.After-other-text) → length (W m) ≤ most-target
+other-fits m = let q = start m in omega (arith, ap length (m .other-text .ensures), other-short (S q) (q .pre .1 .spoken) (q .args .k) .long)
+
+-- an edge with this vowel has a core
+core-there : (t : tie.Then2) → let q = start (t .before .before .before .before .before) in q .args .e .note ≡ note-core
+core-there t =
+    let q = start (t .before .before .before .before .before) in
+    note-there (S q) (q .args .e) (B q) (q .args .o) (q .args .k) (q .pre .3) (q .pre .4) (q .pre .2) (t .if2 .taken)
+
+other-text-requires : tie.Need-other-text-requires
+other-text-requires c κs =
+    let q = c .before .before .before .before .before in
+    let a = q .args in
+    record { placed = q .pre .1 .placed; there = other-there (S q) (a .e) (B q) (a .o) (a .k) (q .pre .3) (q .pre .4) (omega arith) }
+
+put-text-requires : tie.Need-put-text-requires
+put-text-requires c κs = let m = c .before in omega (arith, other-fits m, start m .pre .0)
+
+cast-core : tie.Need-cast-core
+cast-core c = search needs
+
+sub-part : tie.Need-sub-part
+sub-part c =
+    let t = c .before in
+    start (t .before .before .before .before .before) .pre .2 .core (core-there t) .1
+
+part-requires : tie.Need-part-requires
+part-requires c κs =
+    let t = c .before in
+    let z = start (t .before .before .before .before .before) .pre .2 .core (core-there t) .1 in
+    omega (arith, z)
+
+put-at-requires : tie.Need-put-at-requires
+put-at-requires c κs =
+    let f = c .before .before .before .before .before .before in
+    let m = f .before .before in
+    let q = start m in
+    let z = other-fits m in
+    let g = q .pre .2 .core (core-there (c .before .before .before)) in
+    let e = put-front (W m) (W m) (Old q) (f .put-text .last .0) (f .put-text .ensures) refl in
+    let l = front-length (W m) (Old q) (f .put-text .last .0) e (omega (arith, z, q .pre .0)) in
+    let n = length (B q) - q .args .e .core in
+    omega (arith, z, q .pre .0, l, g .2, ap length (c .before .part .ensures), take-most n (drop (q .args .e .core) (B q)))
+
+add-result : tie.Need-add-result
+add-result c = search needs
+
+same-length : tie.Need-same-length
+same-length c = search needs
+
+returns : tie.Need-returns
+returns c =
+    let t = c .before .before .before .before .before .before in
+    let f = t .before .before .before in
+    let m = f .before .before in
+    let q = start m in
+    let a = q .args in
+    let v = c .before .before .before .before .part in
+    let first = put-front (W m) (W m) (Old q) (f .put-text .last .0) (f .put-text .ensures) refl in
+    let both : W m ++ now (v .result) ≡ T q =
+    ap (λ l. l ++ now (v .result)) (m .other-text .ensures) ∙ ap (λ l. getD (others (S q)) (a .k) [] ++ l) (v .ensures)
+    ∙ text-cored (S q) (a .e) (B q) (a .o) (a .k) (q .pre .3) (q .pre .4) (q .pre .2) (omega arith) (t .if2 .taken) in
+    let e = sym (length-append (W m) (now (v .result))) ∙ ap length both in (
+      c .before .before .put-at .ensures
+          ∙ put-next 0 (length (W m)) (W m) (now (v .result)) (Old q) (f .put-text .last .0) (omega arith) (omega arith) first
+          ∙ ap (λ l. put-at 0 l (Old q)) both,
+      e,
+      omega (arith, e, text-fits q),
+    )
+
+same-length-2 : tie.Need-same-length-2
+same-length-2 c = search needs
+
+returns-2 : tie.Need-returns-2
+returns-2 c =
+    let f = c .before .before .before in
+    let m = f .before .before in
+    let q = start m in
+    let a = q .args in
+    let own : W m ≡ T q =
+    m .other-text .ensures ∙ text-plain (S q) (a .e) (B q) (a .o) (a .k) (q .pre .3) (q .pre .4) (omega arith) (c .if2 .left) in
+    (put-front (W m) (T q) (Old q) (f .put-text .last .0) (f .put-text .ensures) own, ap length own, omega (arith, ap length own, text-fits q))
+
+target-text-requires : tie.Need-target-text-requires
+target-text-requires c κs =
+    let q = c .before .before .before .before .before in
+    let a = q .args in
+    (q .pre .1 .placed, flag-there (S q) (a .e) (B q) (a .o) (a .k) (q .pre .3) (q .pre .4))
+
+put-text-requires-2 : tie.Need-put-text-requires-2
+put-text-requires-2 c κs =
+    let q = c .before .before .before .before .before .before .before in
+    let a = q .args in
+    let z = target-short (S q) (q .pre .1 .spoken) (flag-there (S q) (a .e) (B q) (a .o) (a .k) (q .pre .3) (q .pre .4)) .long in
+    omega (arith, ap length (c .before .target-text .ensures), z, q .pre .0)
+
+same-length-3 : tie.Need-same-length-3
+same-length-3 c = search needs
+
+returns-3 : tie.Need-returns-3
+returns-3 c =
+    let f = c .before .before in
+    let w = f .before .before .target-text in
+    let q = f .before .before .before .before .before .before .before .before in
+    let a = q .args in
+    let own : now (w .result) ≡ T q =
+    w .ensures ∙ text-target (S q) (a .e) (B q) (a .o) (a .k) (q .pre .3) (q .pre .4) (omega arith) in
+    (put-front (now (w .result)) (T q) (Old q) (f .put-text2 .last .0) (f .put-text2 .ensures) own, ap length own, omega (arith, ap length own, text-fits q))
+
+pub put-offer-spec : {M : Type 1} → statement M
+put-offer-spec =
+    tie.close
+    (tie.spec
+    other-text-requires
+    put-text-requires
+    cast-core
+    sub-part
+    part-requires
+    put-at-requires
+    add-result
+    same-length
+    returns
+    same-length-2
+    returns-2
+    target-text-requires
+    put-text-requires-2
+    same-length-3
+    returns-3)
