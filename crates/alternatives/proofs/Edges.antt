@@ -7,7 +7,7 @@ use Prim.Native.Nat.{ℕ, zero, suc, _+_, _-_, _≤_, _<_}
 use native.Mathlib.Omega.{arith}
 use native.Mathlib.Decide.{decLt}
 use lib.ListN.{length, take, drop, length-append}
-use lib.Seq.{length-take-le, take-take, take-at, take-append-le}
+use lib.Seq.{length-take-le, take-take, take-append-le}
 use borrow.Rule.Slice.PartMut.{putMid}
 use Rattle.base.specs.Loans.{back-end}
 use Rattle.base.specs.Lists.{put, keep, same}
@@ -221,11 +221,3 @@ pub front-stays : (room : List ℕ) (used : ℕ) (ys : List ℕ) → used ≤ le
 front-stays room used ys l =
     ap (take used) (back-end room used ys) ∙ take-append-le used (take used room) ys (omega (arith, length-take-le used room l))
     ∙ take-take used used room (omega arith)
-
--- A text was copied to the front
-module _ (w r t : List ℕ) (h : t ≡ w ++ r) where
-  pub copied-long : length w ≤ length t
-  copied-long = omega (arith, ap length h, length-append w r)
-
-  pub copied-read : take (length w) t ≡ w
-  copied-read = ap (take (length w)) h ∙ take-at w r (length w) refl

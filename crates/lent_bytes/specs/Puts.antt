@@ -77,3 +77,20 @@ put-whole x s h =
     let l = put-length 0 x s (omega arith) in
     ap (λ t. t ++ replicate (length (put-at 0 x s) - length x) 0) e
     ∙ ap (λ n. x ++ replicate (n - length x) 0) l
+
+-- A text copied to the front, known by an equation: it is put there
+pub put-front : (w u s t : List ℕ) → t ≡ w ++ drop (length w) s → w ≡ u → t ≡ put-at 0 u s
+unfolding put-at
+put-front w u s t h e =
+    let z : length u ≡ 0 + length u = omega arith in
+    h ∙ ap (λ l. l ++ drop (length l) s) e ∙ ap (λ n. u ++ drop n s) z
+
+-- it is read again
+pub front-read : (u s t : List ℕ) (n : ℕ) → t ≡ put-at 0 u s → n ≡ length u → take n t ≡ u
+front-read u s t n h e =
+    let z : take (length u) (put-at 0 u s) ≡ u = put-there 0 u s (omega arith) in
+    ap (take n) h ∙ ap (λ m. take m (put-at 0 u s)) e ∙ z
+
+-- and the bytes stay as many
+pub front-length : (u s t : List ℕ) → t ≡ put-at 0 u s → length u ≤ length s → length t ≡ length s
+front-length u s t h l = ap length h ∙ put-length 0 u s (omega arith)

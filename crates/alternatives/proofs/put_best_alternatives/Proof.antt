@@ -4,7 +4,7 @@ use mathlib.Core.List.{List, [], _∷_}
 use mathlib.Core.Path.{_≡_, refl, sym, ap, _∙_, subst}
 use Prim.Native.Nat.{ℕ, _≤_}
 use native.Mathlib.Omega.{arith}
-use lib.ListN.{length, take, drop}
+use lib.ListN.{length, take, drop, replicate}
 use lib.Seq.{length-take-le}
 use denote.Ref.{now}
 use Rattle.base.specs.Alls.{Opt}
@@ -12,6 +12,7 @@ use Rattle.definition.specs.Limits.{most-bytes}
 use Rattle.definition.specs.Bounds.{Sound}
 use Rattle.definition.specs.Paths.{join}
 use Rattle.definition.specs.Offers.{found-all}
+use Rattle.lent_bytes.specs.Puts.{put-at, put-front, front-read, front-length}
 use Rattle.edge.specs.Slots.{bytes-of, edge-by, edge-of}
 use Rattle.edge.specs.Stored.{Slot}
 use Rattle.edge.specs.Best.{best-means, Found}
@@ -19,7 +20,7 @@ use Rattle.listing.specs.Items.{put-items}
 use Rattle.edge_places.specs.Shows.{memory}
 use Rattle.words.specs.Given.{seen, size, size-in}
 use Rattle.rule_choice.specs.Lent.{lexicon-of}
-use Rattle.alternatives.proofs.Edges.{slot-short, span-inside, spoken-at, edge-at-slot, found-nothing, slot-found, slot-wide, front-stays, copied-long, copied-read}
+use Rattle.alternatives.proofs.Edges.{slot-short, span-inside, spoken-at, edge-at-slot, found-nothing, slot-found, slot-wide, front-stays}
 use borrow.Author.Needs.{needs}
 use Rattle.alternatives.proofs.put_best_alternatives.Statement.{statement}
 use Rattle.alternatives.proofs.put_best_alternatives.Tie as tie
@@ -67,11 +68,19 @@ Own v = now (v .before .before .edge-text .result)
 abbrev Text : tie.After-put-text → List ℕ
 Text v = take (length (Own v)) (v .put-text .last .0)
 
+-- it stands at the front of an array of the most bytes
+put : (v : tie.After-put-text) → v .put-text .last .0 ≡ put-at 0 (Own v) (replicate {A = ℕ} most-bytes 0)
+put v = put-front (Own v) (Own v) (replicate {A = ℕ} most-bytes 0) (v .put-text .last .0) (v .put-text .ensures) refl
+
+fits : (v : tie.After-put-text) → length (Own v) ≤ most-bytes
+fits v = omega (arith, ap length (v .before .before .edge-text .ensures), short (numbers v))
+
 long : (v : tie.After-put-text) → length (Own v) ≤ length (v .put-text .last .0)
-long v = copied-long (Own v) _ (v .put-text .last .0) (v .put-text .ensures)
+long v = omega (arith, front-length (Own v) (replicate {A = ℕ} most-bytes 0) (v .put-text .last .0) (put v) (fits v), fits v)
 
 copied : (v : tie.After-put-text) → Text v ≡ bytes-of (R (numbers v)) (S (numbers v))
-copied v = copied-read (Own v) _ (v .put-text .last .0) (v .put-text .ensures) ∙ v .before .before .edge-text .ensures
+copied v =
+    front-read (Own v) (replicate {A = ℕ} most-bytes 0) (v .put-text .last .0) (length (Own v)) (put v) refl ∙ v .before .before .edge-text .ensures
 
 enum-known-best : tie.Need-enum-known-best
 enum-known-best c = search needs

@@ -16,11 +16,11 @@ use Rattle.definition.specs.Tables.{Rule}
 use Rattle.definition.specs.Edges.{Edge}
 use Rattle.definition.specs.RuleRows.{rule-of}
 use Rattle.definition.specs.Offers.{offers, news}
+use Rattle.lent_bytes.specs.Puts.{front-read, front-length}
 use Rattle.edge.specs.Slots.{edge-by}
 use Rattle.listing.specs.Items.{put-items}
 use Rattle.marks.specs.Marked.{Marked}
 use Rattle.offers.specs.Texts.{texts, offer-at, most-offers, count-of, text-short}
-use Rattle.offers.specs.Fronts.{front-read, front-length}
 use Rattle.alternatives.specs.News.{offered, earlier, offer-bytes}
 use Rattle.alternatives.proofs.Turns.{offers-over, texts-over, texts-on, offers-on}
 use borrow.Author.Needs.{needs}

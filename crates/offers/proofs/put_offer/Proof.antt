@@ -10,11 +10,10 @@ use Rattle.definition.specs.Limits.{most-target, most-alternative}
 use Rattle.definition.specs.Notes.{note-core}
 use Rattle.definition.specs.RuleRows.{rule-of}
 use Rattle.definition.specs.Texts.{Text}
-use Rattle.lent_bytes.specs.Puts.{put-at, put-next}
+use Rattle.lent_bytes.specs.Puts.{put-at, put-next, put-front, front-length}
 use Rattle.rule_row.specs.Others.{others}
 use Rattle.edge.specs.Slots.{edge-by}
 use Rattle.offers.specs.Texts.{offer-at, text-short}
-use Rattle.offers.specs.Fronts.{put-front, front-length}
 use Rattle.offers.proofs.Telling.{target-short, other-short, flag-there, other-there, note-there, text-plain, text-cored, text-target}
 use borrow.Author.Needs.{needs}
 use Rattle.offers.proofs.put_offer.Statement.{statement}

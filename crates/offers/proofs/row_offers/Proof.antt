@@ -12,9 +12,9 @@ use Rattle.definition.specs.Limits.{most-alternative}
 use Rattle.definition.specs.Texts.{Text}
 use Rattle.definition.specs.RuleRows.{rule-of}
 use Rattle.definition.specs.Offers.{offers}
+use Rattle.lent_bytes.specs.Puts.{front-read, front-length}
 use Rattle.edge.specs.Slots.{edge-by}
 use Rattle.offers.specs.Texts.{most-offers, texts, texts-count, texts-few}
-use Rattle.offers.specs.Fronts.{front-read, front-length}
 use Rattle.offers.proofs.Seeking.{left-of, left-over, left-none, left-turn}
 use borrow.Author.Needs.{needs}
 use Rattle.offers.proofs.row_offers.Statement.{statement}
