@@ -123,7 +123,7 @@ typedef struct {
 
 /* Bytes of stack that are enough for a call, on x86-64 as the library is built there, whatever text and tables: nothing in it is
  * recursive. It has room for the dynamic linker, which may run at the first call of memcpy, memmove or memset. */
-#define JETTYFIG_STACK 28672
+#define JETTYFIG_STACK 25600
 
 /* The call. Each slice is a pointer and a length in bytes. Rules, classes, vowels, decompositions, code and text are read only.
  * Slots and room are working rooms: what stands in them before is of no matter, and both are all zeros afterwards, whatever

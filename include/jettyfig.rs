@@ -133,7 +133,7 @@ pub const fn all_edges_for(n: usize) -> usize {
 }
 
 /// Bytes of stack that are enough for a call, on x86-64 as the library is built there, whatever text and tables.
-pub const STACK: usize = 28672;
+pub const STACK: usize = 25600;
 
 /// What a call may choose; all of it is off by default.
 #[derive(Clone, Copy, Debug, Default, PartialEq, Eq)]

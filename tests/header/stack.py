@@ -1,7 +1,8 @@
 #!/usr/bin/env python3
-"""How much stack can a call take? Adds up the frames of the library's machine code along its deepest chain of calls, whatever
-the inputs, and compares with JETTYFIG_STACK. Fails too where that can't be told: on recursion, on a call through a pointer, on
-a frame whose size is not a constant, and on a call of anything but three functions of the C library.
+"""How much stack can a call take? Follows the stack pointer through the library's machine code, whatever the inputs, along each
+chain of calls, and compares the deepest with JETTYFIG_STACK. Fails too where that can't be told: on recursion, on a call through
+a pointer, where the stack pointer is set otherwise than by a constant or two ways meet at different depths, and on a call of
+anything but three functions of the C library.
 
 usage: stack.py LIBRARY"""
 import pathlib
@@ -20,51 +21,111 @@ WORD = 8
 
 
 def functions(listing):
-    """for each function its frame, with the return address, and what it calls or jumps to"""
+    """for each function its instructions: address, operation, operands, and what is called or jumped to, where that is another function"""
     found, name = {}, None
-    lines = listing.split("\n")
-    for line, behind in zip(lines, lines[1:] + [""]):
+    for line in listing.split("\n"):
         start = re.match(r"[0-9a-f]+ <(.*)>:$", line)
+        instruction = re.match(r" *([0-9a-f]+):\t(\S+) *(.*)$", line)
         if start:
             name = start.group(1)
-            found[name] = [WORD, set()]
-        elif name and re.search(r"\tpush\b", line):
-            found[name][0] += WORD
-        elif name and re.search(r"\tsub +\$0x[0-9a-f]+,%rsp", line):
-            found[name][0] += int(re.search(r"\$(0x[0-9a-f]+)", line).group(1), 16)
-        elif name and re.search(r"\t(sub|and|lea)\b.*,%rsp", line) or re.search(r"\tadd +\$0xf{8}.*,%rsp", line):
-            sys.exit("%s: a frame that is no constant: %s" % (name, line.strip()))
-        elif name and re.search(r"\tcall", line) and "R_X86_64_PLT32" not in behind:
-            sys.exit("%s: a call of what is not named: %s" % (name, line.strip()))
-        called = re.search(r"R_X86_64_PLT32\t(?:\.text\.)?(.*)-0x0*4$", line)
-        if name and called:
-            found[name][1].add(called.group(1))
+            found[name] = []
+        elif instruction and name:
+            found[name].append([int(instruction.group(1), 16), *instruction.group(2, 3), None])
         elif "R_X86_64_PLT32" in line:
-            sys.exit("%s: a call into the midst of something: %s" % (name, line.strip()))
+            called = re.search(r"R_X86_64_PLT32\t(?:\.text\.)?(.*)-0x0*4$", line)
+            if not called:
+                sys.exit("%s: a call into the midst of something: %s" % (name, line.strip()))
+            found[name][-1][3] = called.group(1)
     return found
 
 
-def deepest(found, name, above=()):
-    """bytes of the deepest chain of calls from a function on, and the chain"""
+def moved(name, operation, operands):
+    """by how many bytes an instruction deepens the stack"""
+    if operation.startswith("push"):
+        return WORD
+    if operation.startswith("pop"):
+        return -WORD
+    if not operands.endswith(",%rsp") or operation in ("cmp", "test"):
+        return 0
+    by = re.match(r"\$(0x[0-9a-f]+),", operands)
+    if operation not in ("sub", "add") or not by:
+        sys.exit("%s: a stack pointer that is no constant: %s %s" % (name, operation, operands))
+    number = int(by.group(1), 16)
+    number -= (number >> 63) << 64
+    return number if operation == "sub" else -number
+
+
+def walk(name, code):
+    """a function's own depth, its return address in it, and each function that it calls with the depth there"""
+    places = {instruction[0]: i for i, instruction in enumerate(code)}
+    depths, deepest, calls, by_table = [None] * len(code), WORD, [], set()
+    ways = [(0, WORD)]
+    while ways:
+        i, depth = ways.pop()
+        while True:
+            if i == len(code):
+                sys.exit("%s runs past its end" % name)
+            if depths[i] is not None:
+                if depths[i] != depth:
+                    sys.exit("%s: two depths at %x" % (name, code[i][0]))
+                break
+            depths[i] = depth
+            _, operation, operands, other = code[i]
+            depth += moved(name, operation, operands)
+            deepest = max(deepest, depth)
+            if operation.startswith("call"):
+                if not other:
+                    sys.exit("%s: a call of what is not named: %s" % (name, operands))
+                calls.append((other, depth))
+            elif operation.startswith("ret") or operation == "ud2":
+                break
+            elif operation == "jmp" and other:
+                calls.append((other, depth - WORD))
+                break
+            elif operation == "jmp" and operands.startswith("*"):
+                by_table.add(depth)
+                break
+            elif operation.startswith("j"):
+                to = places[int(operands.split()[0], 16)]
+                if operation == "jmp":
+                    i = to
+                    continue
+                ways.append((to, depth))
+            i += 1
+        # what no way has reached is entered by a table of jumps; if it had another depth, two ways would meet
+        left = next((i for i, depth in enumerate(depths) if depth is None and not code[i][1].startswith("nop")), None)
+        if not ways and left is not None and by_table:
+            if len(by_table) > 1:
+                sys.exit("%s: tables of jumps at different depths" % name)
+            ways.append((left, *by_table))
+    return deepest, calls
+
+
+def deepest(walked, name, above=()):
+    """bytes of the deepest chain of calls from a function on, and the chain, with the depth of each"""
     if name in above:
         sys.exit("recursion: " + ", ".join(above + (name,)))
     if name in OUTSIDE:
-        return OUTSIDE[name], [name]
-    if name not in found:
+        return OUTSIDE[name], [(name, OUTSIDE[name])]
+    if name not in walked:
         sys.exit("%s is called, and is not in the library" % name)
-    frame, called = found[name]
-    depth, chain = max((deepest(found, other, above + (name,)) for other in called), default=(0, []))
-    return frame + depth, [name, *chain]
+    own, calls = walked[name]
+    chains = [(own, [(name, own)])]
+    for other, depth in calls:
+        below, chain = deepest(walked, other, above + (name,))
+        chains.append((depth + below, [(name, depth), *chain]))
+    return max(chains)
 
 
 def main(library):
     listing = subprocess.run([*OBJDUMP, library], capture_output=True, text=True, check=True).stdout
-    found = functions(listing)
-    depth, chain = deepest(found, ENTRY)
-    own, _ = deepest({name: [frame, called - OUTSIDE.keys()] for name, (frame, called) in found.items()}, ENTRY)
+    walked = {name: walk(name, code) for name, code in functions(listing).items()}
+    own = {name: (depth, [call for call in calls if call[0] not in OUTSIDE]) for name, (depth, calls) in walked.items()}
+    depth, chain = deepest(own, ENTRY)
+    print("%d bytes of stack in the library's own frames: %s" % (depth, ", ".join("%s %d" % part for part in chain)))
+    depth, chain = deepest(walked, ENTRY)
     stated = int(re.search(r"#define JETTYFIG_STACK (\d+)", HEADER.read_text(encoding="utf-8")).group(1))
-    print("%d bytes of stack in the library's own frames, %d with what it calls (%s); JETTYFIG_STACK is %d"
-          % (own, depth, ", ".join(chain), stated))
+    print("%d with what it calls (%s); JETTYFIG_STACK is %d" % (depth, ", ".join(name for name, _ in chain), stated))
     return depth > stated
 
 
