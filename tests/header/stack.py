@@ -83,6 +83,8 @@ def walk(name, code):
                 calls.append((other, depth - WORD))
                 break
             elif operation == "jmp" and operands.startswith("*"):
+                if depth == WORD:
+                    sys.exit("%s: a jump that may leave it: %s" % (name, operands))
                 by_table.add(depth)
                 break
             elif operation.startswith("j"):

@@ -1,10 +1,10 @@
 -- Some bytes put at a place of others: what stands there, what stays, and one put after another.
-use Prim.Native.Nat.{ℕ, _+_, _-_, _≤_}
+use Prim.Native.Nat.{ℕ, _+_, _≤_}
 use mathlib.Core.List.{List, [], _++_, append-assoc}
 use mathlib.Core.Path.{_≡_, refl, sym, ap, _∙_}
 use native.Mathlib.Omega.{arith}
 use native.Mathlib.Nat.{add-zero}
-use lib.ListN.{length, take, drop, replicate, length-drop, length-append, take-append-drop}
+use lib.ListN.{length, take, drop, length-drop, length-append, take-append-drop}
 use lib.Seq.{drop-drop, take-add, take-at, drop-at, drop-append-seam, length-take-le}
 
 unfoldable pub put-at : ℕ → List ℕ → List ℕ → List ℕ
@@ -67,16 +67,6 @@ pub put-next : (a n : ℕ) (x y s t : List ℕ) → n ≡ a + length x → a ≤
     → put-at n y t ≡ put-at a (x ++ y) s
 put-next a n x y s t k h e =
     ap (put-at n y) e ∙ ap (λ m. put-at m y (put-at a x s)) k ∙ put-put a x y s h
-
--- bytes put at the front, and zeros from their end on
-pub put-whole : (x s : List ℕ) → length x ≤ length s
-    → take (length x) (put-at 0 x s) ++ replicate (length (put-at 0 x s) - length x) 0
-    ≡ x ++ replicate (length s - length x) 0
-put-whole x s h =
-    let e : take (length x) (put-at 0 x s) ≡ x = put-there 0 x s (omega arith) in
-    let l = put-length 0 x s (omega arith) in
-    ap (λ t. t ++ replicate (length (put-at 0 x s) - length x) 0) e
-    ∙ ap (λ n. x ++ replicate (n - length x) 0) l
 
 -- A text copied to the front, known by an equation: it is put there
 pub put-front : (w u s t : List ℕ) → t ≡ w ++ drop (length w) s → w ≡ u → t ≡ put-at 0 u s
