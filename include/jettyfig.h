@@ -19,8 +19,8 @@ extern "C" {
 #endif
 
 /* The version of this header and its library: as text, and as a number that rises. */
-#define JETTYFIG_VERSION "4.0.0"
-#define JETTYFIG_VERSION_NUMBER 40000 /* 10000 for the first part, 100 for the second, 1 for the third */
+#define JETTYFIG_VERSION "4.0.1"
+#define JETTYFIG_VERSION_NUMBER 40001 /* 10000 for the first part, 100 for the second, 1 for the third */
 
 /* What a call shows: its argument `mode`. */
 enum jettyfig_show {
@@ -123,7 +123,7 @@ typedef struct {
 
 /* Bytes of stack that are enough for a call, on x86-64 as the library is built there, whatever text and tables: nothing in it is
  * recursive. It has room for the dynamic linker, which may run at the first call of memcpy, memmove or memset. */
-#define JETTYFIG_STACK 25600
+#define JETTYFIG_STACK 21504
 
 /* The call. Each slice is a pointer and a length in bytes. Rules, classes, vowels, decompositions, code and text are read only.
  * Slots and room are working rooms: what stands in them before is of no matter, and both are all zeros afterwards, whatever

@@ -5,8 +5,8 @@
 #![allow(dead_code)]
 
 /// The version of this file and its library: as text, and as a number that rises.
-pub const VERSION: &str = "4.0.0";
-pub const VERSION_NUMBER: u32 = 40000;
+pub const VERSION: &str = "4.0.1";
+pub const VERSION_NUMBER: u32 = 40001;
 
 /// What a call shows: its mode. The string, the path, the path and its alternatives, all edges.
 pub const SHOW_STRING: u8 = 0;
@@ -133,7 +133,7 @@ pub const fn all_edges_for(n: usize) -> usize {
 }
 
 /// Bytes of stack that are enough for a call, on x86-64 as the library is built there, whatever text and tables.
-pub const STACK: usize = 25600;
+pub const STACK: usize = 21504;
 
 /// What a call may choose; all of it is off by default.
 #[derive(Clone, Copy, Debug, Default, PartialEq, Eq)]

@@ -1,9 +1,8 @@
--- A romanization over its span, before anything was expanded.
+-- A text over its span, before anything was expanded.
 use Rattle.definition.specs.Notes.{note-none}
+use Rattle.definition.specs.Texts.{Text}
 use Rattle.definition.specs.Expansion.{Work, work}
-use Rattle.rom.specs.declared.Rom.{Rom}
-use Rattle.rom.specs.Rom.{text}
 use Rattle.words.specs.declared.Span.{Span}
 
-abbrev pub over : Span → Rom → Work
-over span r = work (text r) (span .from) (span .to) note-none
+abbrev pub over : Span → Text → Work
+over span w = work w (span .from) (span .to) note-none

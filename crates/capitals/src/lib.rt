@@ -1,15 +1,13 @@
 // When the capitalizing step of the expansion acts (romanize.rs), as the Python has it: over one character before a
-// lower-case one, on a romanization in upper case. What it does is `rom::capitalized`.
+// lower-case one, on a romanization in upper case. What it does is `rom::make_small`.
 ghost use mathlib.Core.Path.{_≡_};
 ghost use Prim.Native.Nat.{_+_, _/_, _<_, _≤_};
 ghost use lib.ListN.{length};
 ghost use Rattle.base.specs.Bits.{flagged};
 ghost use Rattle.definition.specs.Expansion.{upper-case, capitalizes};
-ghost use Rattle.rom.specs.Rom.{Clean};
 ghost use Rattle.words.specs.Given.{World, kinds, size-in, kind-in, Lined};
 ghost use Rattle.words.specs.Choosing.{choices-of};
 ghost use Rattle.capitals.specs.Spans.{over};
-use rom::Rom;
 use words::Choices;
 use words::Span;
 
@@ -40,10 +38,10 @@ fn is_lower_at(line: &[u32], i: usize) -> bool
     table_classes::class_flag(words::kind_at(line, i), table_classes::LOWERCASE)
 }
 
-// Do the later letters of a span's romanization become small? Behind the text stands a space, which is not lower case.
-pub fn capitalizes(line: &[u32], choices: Choices, r: Rom, span: Span) -> bool
-    requires { ⌜ Clean r × (span .to ≤ size-in (now line)) × (span .from < span .to) ⌝ }
-    ensures { λ b. ⌜ ((x : World) → Lined x (now (line .entry)) → b ≡ capitalizes (choices-of choices) (kinds x) (x .text) (over span r)) ⌝ }
+// Do the later letters of a span's text become small? Behind the line's text stands a space, which is not lower case.
+pub fn makes_small(line: &[u32], choices: Choices, text: &[u8], span: Span) -> bool
+    requires { ⌜ (span .to ≤ size-in (now line)) × (span .from < span .to) ⌝ }
+    ensures { λ b. ⌜ ((x : World) → Lined x (now (line .entry)) → b ≡ capitalizes (choices-of choices) (kinds x) (x .text) (over span (now (text .entry)))) ⌝ }
 {
     if choices.capitals != 1 {
         return false;
@@ -52,9 +50,7 @@ pub fn capitalizes(line: &[u32], choices: Choices, r: Rom, span: Span) -> bool
         return false;
     }
     if is_lower_at(line, span.to + 1) {
-        let n = r.len;
-        let bytes = r.bytes;
-        return is_upper_case(&bytes[..n]);
+        return is_upper_case(text);
     }
     false
 }

@@ -1,5 +1,4 @@
 // What the vowel step asks of a romanization's bytes: where its two patterns lie, as positions, and the form chosen by them.
-use rom::Rom;
 ghost use mathlib.Core.Path.{_≡_};
 ghost use mathlib.Core.List.{[], _∷_};
 ghost use Prim.Native.Nat.{_+_, _≤_};
@@ -10,7 +9,7 @@ ghost use Rattle.base.specs.Lists.{any};
 ghost use Rattle.definition.specs.Limits.{most-bytes};
 ghost use Rattle.definition.specs.Texts.{Text, consonants, vowels};
 ghost use Rattle.definition.specs.Vowels.{bases, consonant-only, before-yo};
-ghost use Rattle.rom.specs.Rom.{text, rom, Clean};
+ghost use Rattle.rom.specs.Rom.{rom, held, Clean};
 ghost use Rattle.ends.specs.Back.{run};
 ghost use Rattle.ends.specs.Ends.{inherent, y-from, stem, kept};
 ghost use Rattle.ends.specs.Shown.{Within, unmatched, shown, form-means};
@@ -217,27 +216,18 @@ pub fn stays_before_yo(s: &[u8], from: usize, to: usize) -> bool
     n == 2 && (c == 110 && base::byte(s, from + 1) == 103)
 }
 
-// The romanization from one position to another.
-fn part(r: Rom, from: usize, to: usize) -> Rom
-    requires { ⌜ Clean r × (from ≤ to) × (to ≤ r .len) ⌝ }
-    ensures { λ q. ⌜ q ≡ rom (slice from to (text r)) ⌝ }
-{
-    let b = r.bytes;
-    rom::bytes_of(&b[from..to])
-}
-
-// The romanization in the form that was chosen.
-pub fn shaped(r: Rom, f: Forms, w: Which, vowel: &[u8]) -> Rom
-    requires { ⌜ Clean r × Within (r .len) f × (r .len + length (now vowel) ≤ most-bytes) ⌝ }
-    ensures { λ q. ⌜ q ≡ rom (form-means w (shown (text r) (now (vowel .entry)) f)) ⌝ }
+// The first `n` bytes of an array, put into the form that was chosen; their new number is told.
+pub fn shape(bytes: &mut [u8], n: usize, f: Forms, w: Which, vowel: &[u8]) -> usize
+    requires { ⌜ Clean (held (now bytes) n) × Within n f × (n + length (now vowel) ≤ most-bytes) ⌝ }
+    ensures { λ q. ⌜ held (now (bytes .exit)) q ≡ rom (form-means w (shown (take n (now (bytes .entry))) (now (vowel .entry)) f)) ⌝ }
 {
     match w {
-        Which::Rom => part(r, 0, f.rom),
-        Which::Base => part(r, f.from, f.to),
+        Which::Rom => rom::keep(bytes, n, 0, f.rom),
+        Which::Base => rom::keep(bytes, n, f.from, f.to),
         Which::Plus => {
-            let plus = part(r, f.from, f.end);
+            let plus = rom::keep(bytes, n, f.from, f.end);
             if f.add {
-                return rom::append(plus, vowel);
+                return rom::put_behind(bytes, plus, vowel);
             }
             plus
         }

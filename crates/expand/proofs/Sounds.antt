@@ -1,6 +1,6 @@
 -- How a text ends, by its last bytes: beside O ang, and before a small ya.
-use mathlib.Core.Bool.{Bool, true, false, _&&_, and-false, true≢false}
-use mathlib.Core.List.{[], _∷_, reverse}
+use mathlib.Core.Bool.{Bool, false, _&&_, and-false}
+use mathlib.Core.List.{[], _∷_}
 use mathlib.Core.Option.{Option, none, some}
 use mathlib.Core.Path.{_≡_, refl, sym, ap, _∙_}
 use Prim.Native.Nat.{ℕ, _-_, _≤_, _<_}
@@ -11,12 +11,10 @@ use borrow.Author.Tests.{eq-eqb, ne-eqb}
 use Rattle.base.specs.Lists.{all, head, tail, is, same}
 use Rattle.definition.specs.Texts.{Text, consonants, letter-i}
 use Rattle.definition.specs.Expansion.{o-ang-side}
-use Rattle.rom.specs.declared.Rom.{Rom}
-use Rattle.rom.specs.Rom.{text, Clean, bytes-length}
 use Rattle.rom.specs.Sets.{member, o-ang-side-set, in-o-ang-side, all-as}
-use Rattle.rom.proofs.Backwards.{back-cons}
+use Rattle.rom.proofs.Backwards.{back-all, back-cons}
 use Rattle.rule_choice.specs.Chosen.{or-nothing}
-use Rattle.expand.specs.Sides.{beside}
+use Rattle.expand.specs.Sides.{beside, after-consonant}
 
 -- one or more of them
 pub none-beside : (w : Text) → length w ≡ 0 → false ≡ beside w
@@ -36,40 +34,30 @@ beside-text none = refl
 beside-text (some w) = refl
 
 -- an i after a consonant
-abbrev pub after-consonant : Text → Bool
-after-consonant w = is (eqb letter-i) (head (reverse w)) && is consonants (head (tail (reverse w)))
-
 pub too-short : (w : Text) → length w < 2 → false ≡ after-consonant w
 unfolding head
 too-short [] h = refl
 too-short (c ∷ []) h = sym (and-false (eqb letter-i c))
 too-short (c ∷ d ∷ w) h = absurd (omega arith)
 
-module _ (r : Rom) (c : Clean r) (h : 2 ≤ r .len) where
+module _ (w : Text) (h : 2 ≤ length w) where
   abbrev last : ℕ
-  last = getD (r .bytes) (r .len - 1) 0
+  last = getD w (length w - 1) 0
 
   abbrev second : ℕ
-  second = getD (r .bytes) (r .len - 2) 0
+  second = getD w (length w - 2) 0
 
-  by-two : after-consonant (text r) ≡ (eqb letter-i last && consonants second)
+  by-two : after-consonant w ≡ (eqb letter-i last && consonants second)
   unfolding head
   by-two =
-      let l = bytes-length c in
-      let f = c .fits in
-      let n : r .len - 1 - 1 ≡ r .len - 2 = omega arith in
-      ap (λ (w : Text). is (eqb letter-i) (head w) && is consonants (head (tail w)))
-      (back-cons (r .bytes) (r .len) (omega arith) (omega arith) ∙ ap (λ (w : Text). last ∷ w) (back-cons (r .bytes) (r .len - 1) (omega arith) (omega arith)))
-      ∙ ap (λ (i : ℕ). eqb letter-i last && consonants (getD (r .bytes) i 0)) n
+      let n : length w - 1 - 1 ≡ length w - 2 = omega arith in
+      ap (λ (u : Text). is (eqb letter-i) (head u) && is consonants (head (tail u)))
+      (sym (back-all w) ∙ back-cons w (length w) (omega arith) (omega arith)
+      ∙ ap (λ (u : Text). last ∷ u) (back-cons w (length w - 1) (omega arith) (omega arith)))
+      ∙ ap (λ (i : ℕ). eqb letter-i last && consonants (getD w i 0)) n
 
-  pub other-last : (last ≡ letter-i → ⊥) → false ≡ after-consonant (text r)
+  pub other-last : (last ≡ letter-i → ⊥) → false ≡ after-consonant w
   other-last e = sym (by-two ∙ ap (λ (b : Bool). b && consonants second) (ne-eqb letter-i last (λ k. e (sym k))))
 
-  pub i-last : last ≡ letter-i → consonants second ≡ after-consonant (text r)
+  pub i-last : last ≡ letter-i → consonants second ≡ after-consonant w
   i-last e = sym (by-two ∙ ap (λ (b : Bool). b && consonants second) (eq-eqb letter-i last (sym e)))
-
--- a text with a last letter is not empty
-pub not-empty : (q : ℕ → Bool) (w : Text) → is q (head (reverse w)) ≡ true → 0 < length w
-unfolding head
-not-empty q [] e = absurd (true≢false (sym e))
-not-empty q (c ∷ w) e = omega arith

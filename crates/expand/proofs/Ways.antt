@@ -21,8 +21,7 @@ use Rattle.definition.specs.ExpandBounds.{space-not-small}
 use Rattle.definition.specs.Expansion.{Work, o-ang-side, between, silent, small-ya, small-target}
 use Rattle.rule_choice.specs.Chosen.{or-nothing}
 use Rattle.expand.specs.Tests.{has-grave}
-use Rattle.expand.specs.Sides.{beside, small-here}
-use Rattle.expand.proofs.Sounds.{after-consonant}
+use Rattle.expand.specs.Sides.{beside, after-consonant, small-here}
 
 -- what is there, and what is not
 pub told : (o : Option Text) → has o ≡ true → o ≡ some (or-nothing o)
@@ -48,9 +47,9 @@ none-so true f = absurd (f refl)
 none-so false f = refl
 
 -- a grave and a small ya stand within the text
-pub no-grave-past : (ks : List Class) (t : Text) (w : Work) → length t ≤ w .to → false ≡ has-grave ks t w
+pub no-grave-past : (ks : List Class) (t : Text) (p : ℕ) → length t ≤ p → false ≡ has-grave ks t p
 unfolding has-grave
-no-grave-past ks t w h = none-so (has-grave ks t w) (λ e. omega (arith, inner t (w .to) (λ c. eqb c coptic-grave) refl (and-left _ _ e)))
+no-grave-past ks t p h = none-so (has-grave ks t p) (λ e. omega (arith, inner t p (λ c. eqb c coptic-grave) refl (and-left _ _ e)))
 
 pub no-small-past : (ks : List Class) (t : Text) (p : ℕ) → length t ≤ p → false ≡ small-here ks t p
 unfolding small-here

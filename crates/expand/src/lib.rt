@@ -1,30 +1,33 @@
 // The expansion (`expand_rom_with_special_chars`): its steps in the file's order.
 ghost use mathlib.Core.Bool.{true, _&&_};
-ghost use mathlib.Core.List.{[], _∷_, _++_, reverse};
+ghost use mathlib.Core.List.{[], _∷_, _++_};
 ghost use mathlib.Core.Path.{_≡_};
 ghost use Prim.Native.Nat.{_+_, _<_, _≤_};
 ghost use lib.Dec.{eqb};
-ghost use Rattle.base.specs.Lists.{has, head, tail, is};
+ghost use lib.ListN.{length, take};
+ghost use Rattle.base.specs.Lists.{has, is};
 ghost use Rattle.definition.specs.Limits.{most-bytes, most-target, most-vowel};
-ghost use Rattle.definition.specs.Texts.{consonants, without-last, letter-e, letter-i, at, prev};
+ghost use Rattle.definition.specs.Texts.{Text, without-last, letter-e, at, prev};
 ghost use Rattle.definition.specs.Tables.{script-thai};
 ghost use Rattle.definition.specs.Notes.{note-exp};
 ghost use Rattle.definition.specs.RuleRows.{rules-of};
 ghost use Rattle.definition.specs.Classes.{script};
 ghost use Rattle.definition.specs.Rules.{first-rule};
-ghost use Rattle.definition.specs.Expansion.{work, capitalize, double, between, silent, small-ya, small-target, grave, small-y, rest, o-ang-step, thai, by-script, expand};
-ghost use Rattle.rom.specs.Rom.{text, Clean};
+ghost use Rattle.definition.specs.Expansion.{work, capitalize, double, between, silent, small-ya, small-target, grave, small-y, rest, thai, by-script, expand};
+ghost use Rattle.rom.specs.Rom.{text, held, Clean};
 ghost use Rattle.words.specs.Given.{World, kinds, seen, size-in, Prepared, Lined, Lent};
 ghost use Rattle.rule_choice.specs.Lent.{Answers};
 ghost use Rattle.rule_choice.specs.Chosen.{chosen-means, Said, or-nothing};
 ghost use Rattle.words.specs.Choosing.{choices-of};
 ghost use Rattle.capitals.specs.Spans.{over};
-ghost use Rattle.steps.specs.Works.{work-of};
+ghost use Rattle.steps.specs.Works.{work-of, work-in, Held};
 ghost use Rattle.expand.specs.Tests.{has-grave};
-ghost use Rattle.expand.specs.Sides.{beside, small-here};
-ghost use Rattle.expand.specs.Steps.{Workable};
+ghost use Rattle.expand.specs.Sides.{beside, after-consonant, small-here};
+ghost use Rattle.expand.specs.Steps.{Workable, Opens};
 use rom::Rom;
 use rule_choice::Chosen;
+use steps::Growing;
+use steps::Tried;
 use steps::Work;
 use words::Choices;
 use words::Span;
@@ -34,6 +37,9 @@ const GRAVE: u32 = 0x0300;
 
 // U+0E2D, O ang.
 const O_ANG: u32 = 0x0E2D;
+
+// The letter i.
+const LETTER_I: u32 = 105;
 
 // U+3083, U+3085 and U+3087, small ya, yu and yo of hiragana, and those of katakana.
 const HIRAGANA_YA: u32 = 0x3083;
@@ -48,15 +54,14 @@ const KATAKANA_YU: u32 = 0x30E5;
 
 const KATAKANA_YO: u32 = 0x30E7;
 
-// Does a grave stand over a Coptic character, the last of the span? None does past the text.
-fn has_grave(line: &[u32], w: Work) -> bool
-    requires { ⌜ (0 < w .to) × (w .to ≤ size-in (now line)) ⌝ }
-    ensures { λ r. ⌜ ((x : World) → Lined x (now (line .entry)) → r ≡ has-grave (kinds x) (x .text) (work-of w))
-        × (r ≡ true → w .to < size-in (now (line .entry))) ⌝ }
+// Does a grave stand over a Coptic character, the last before `to`? None does past the text.
+fn has_grave(line: &[u32], to: usize) -> bool
+    requires { ⌜ (0 < to) × (to ≤ size-in (now line)) ⌝ }
+    ensures { λ r. ⌜ ((x : World) → Lined x (now (line .entry)) → r ≡ has-grave (kinds x) (x .text) to) × (r ≡ true → to < size-in (now (line .entry))) ⌝ }
 {
-    if w.to < words::text_len(line) {
-        if words::number_at(line, w.to + 1) == GRAVE {
-            return table_classes::script(words::kind_at(line, w.to)) == table_classes::COPTIC;
+    if to < words::text_len(line) {
+        if words::number_at(line, to + 1) == GRAVE {
+            return table_classes::script(words::kind_at(line, to)) == table_classes::COPTIC;
         }
         return false;
     }
@@ -64,16 +69,15 @@ fn has_grave(line: &[u32], w: Work) -> bool
 }
 
 // An e put in front, over the grave after the span, up to `to`.
-fn put_grave(w: Work, to: usize) -> Work
-    requires { ⌜ Clean (w .rom) × (w .rom .len < most-bytes) ⌝ }
-    ensures { λ r. ⌜ (work-of r ≡ work (letter-e ∷ text (w .rom)) (w .from) to note-exp)
-        × Clean (r .rom) × (r .rom .len ≡ w .rom .len + 1) × (r .from ≡ w .from) × (r .to ≡ to) ⌝ }
+fn put_grave(bytes: &mut [u8], g: Growing, to: usize) -> Growing
+    requires { ⌜ Held (now bytes) g × (g .len < most-bytes) ⌝ }
+    ensures { λ r. ⌜ (work-in (now (bytes .exit)) r ≡ work (letter-e ∷ take (g .len) (now (bytes .entry))) (g .from) to note-exp)
+        × Held (now (bytes .exit)) r × (r .len ≡ g .len + 1) × (r .from ≡ g .from) × (r .to ≡ to) ⌝ }
 {
-    let old = w.rom;
-    let made = rom::insert_front(old, b"e");
-    Work {
-        rom: made,
-        from: w.from,
+    let len = rom::put_front(bytes, g.len, b'e');
+    Growing {
+        len,
+        from: g.from,
         to,
         note: edge::EXPANDED,
     }
@@ -86,16 +90,17 @@ fn grave(
     code: &[u8],
     line: &[u32],
     places: &mut [u32],
+    bytes: &mut [u8],
     o: usize,
-    w: Work,
-) -> Work
-    requires { ⌜ Prepared (now rules) (now ready) × Clean (w .rom) × (w .rom .len < most-bytes) × (o ≤ w .to) × (0 < w .to) × (w .to ≤ size-in (now line)) ⌝ }
+    g: Growing,
+) -> Growing
+    requires { ⌜ Prepared (now rules) (now ready) × Held (now bytes) g × (g .len < most-bytes) × (o ≤ g .to) × (0 < g .to) × (g .to ≤ size-in (now line)) ⌝ }
     ensures { λ r. ⌜ Answers (now (rules .entry)) (now (ready .entry)) (now (code .entry)) (now (line .entry)) (now (places .entry)) (now (places .exit))
-        (λ L t v. grave L t v o (work-of w)) (work-of r)
-        × Clean (r .rom) × (r .rom .len ≤ w .rom .len + 1) × (r .from ≡ w .from) × (w .to ≤ r .to) × (r .to ≤ size-in (now (line .entry))) ⌝ }
+        (λ L t v. grave L t v o (work-in (now (bytes .entry)) g)) (work-in (now (bytes .exit)) r)
+        × Held (now (bytes .exit)) r × (r .len ≤ g .len + 1) × (r .from ≡ g .from) × (g .to ≤ r .to) × (r .to ≤ size-in (now (line .entry))) ⌝ }
 {
-    if has_grave(line, w) {
-        let to = w.to + 1;
+    if has_grave(line, g.to) {
+        let to = g.to + 1;
         let ruled = rule_choice::simple_top_romanization_candidate_for_span(
             rules,
             ready,
@@ -105,11 +110,11 @@ fn grave(
             Span { from: o, to },
         );
         if rule_choice::is_told(ruled) {
-            return w;
+            return g;
         }
-        return put_grave(w, to);
+        return put_grave(bytes, g, to);
     }
-    w
+    g
 }
 
 // Small ya, yu or yo.
@@ -134,48 +139,45 @@ fn is_small_ya(c: u32) -> bool
     c == KATAKANA_YO
 }
 
-// Does a small ya, yu or yo follow the span, of the script of its last character? None does past the text.
-fn is_small_next(line: &[u32], w: Work) -> bool
-    requires { ⌜ (0 < w .to) × (w .to ≤ size-in (now line)) ⌝ }
-    ensures { λ r. ⌜ ((x : World) → Lined x (now (line .entry)) → r ≡ small-here (kinds x) (x .text) (w .to))
-        × (r ≡ true → w .to < size-in (now (line .entry))) ⌝ }
+// Does a small ya, yu or yo stand at `to`, of the script of the character before it? None does past the text.
+fn is_small_next(line: &[u32], to: usize) -> bool
+    requires { ⌜ (0 < to) × (to ≤ size-in (now line)) ⌝ }
+    ensures { λ r. ⌜ ((x : World) → Lined x (now (line .entry)) → r ≡ small-here (kinds x) (x .text) to) × (r ≡ true → to < size-in (now (line .entry))) ⌝ }
 {
-    if w.to < words::text_len(line) {
-        if is_small_ya(words::number_at(line, w.to + 1)) {
-            let script = table_classes::script(words::kind_at(line, w.to));
-            return script == table_classes::script(words::kind_at(line, w.to + 1));
+    if to < words::text_len(line) {
+        if is_small_ya(words::number_at(line, to + 1)) {
+            let script = table_classes::script(words::kind_at(line, to));
+            return script == table_classes::script(words::kind_at(line, to + 1));
         }
         return false;
     }
     false
 }
 
-// Does a romanization end in an i after a consonant?
-fn ends_in_i(r: Rom) -> bool
-    requires { ⌜ Clean r ⌝ }
-    ensures { λ b. ⌜ b ≡ (is (eqb letter-i) (head (reverse (text r))) && is consonants (head (tail (reverse (text r))))) ⌝ }
+// Does a text end in an i after a consonant?
+fn ends_in_i(text: &[u8]) -> bool
+    ensures { λ b. ⌜ b ≡ after-consonant (now (text .entry)) ⌝ }
 {
-    let n = r.len;
+    let n = text.len();
     if n < 2 {
         return false;
     }
-    let bytes = r.bytes;
-    if bytes[n - 1] == b'i' {
-        return rom::is_in(rom::CONSONANTS, bytes[n - 2] as u32);
+    if base::byte(text, n - 1) == LETTER_I {
+        return rom::is_in(rom::CONSONANTS, base::byte(text, n - 2));
     }
     false
 }
 
 // What stands in the i's place: the first rule of the small ya.
-fn small_target(rules: &[u8], ready: &[u32], line: &[u32], w: Work) -> Chosen
-    requires { ⌜ Prepared (now rules) (now ready) × Clean (w .rom) × (0 < w .to) × (w .to ≤ size-in (now line)) ⌝ }
+fn small_target(rules: &[u8], ready: &[u32], line: &[u32], text: &[u8], g: Growing) -> Chosen
+    requires { ⌜ Prepared (now rules) (now ready) × (0 < g .to) × (g .to ≤ size-in (now line)) ⌝ }
     ensures { λ r. ⌜ ((x : World) → Lined x (now (line .entry))
-        → chosen-means (now (rules .entry)) r ≡ small-target (rules-of (now (rules .entry))) (kinds x) (x .text) (work-of w))
-        × Said (now (rules .entry)) r × (has (chosen-means (now (rules .entry)) r) ≡ true → (w .to < size-in (now (line .entry))) × (0 < w .rom .len)) ⌝ }
+        → chosen-means (now (rules .entry)) r ≡ small-target (rules-of (now (rules .entry))) (kinds x) (x .text) (work (now (text .entry)) (g .from) (g .to) (g .note)))
+        × Said (now (rules .entry)) r × (has (chosen-means (now (rules .entry)) r) ≡ true → (g .to < size-in (now (line .entry))) × (0 < length (now (text .entry)))) ⌝ }
 {
-    if is_small_next(line, w) {
-        if ends_in_i(w.rom) {
-            let small = words::number_at(line, w.to + 1);
+    if is_small_next(line, g.to) {
+        if ends_in_i(text) {
+            let small = words::number_at(line, g.to + 1);
             return rule_choice::romanization_by_first_rule(rules, ready, &[small]);
         }
         return Chosen::Untold;
@@ -184,17 +186,17 @@ fn small_target(rules: &[u8], ready: &[u32], line: &[u32], w: Work) -> Chosen
 }
 
 // A target in the place of the last letter, over the character after the span, up to `to`.
-fn put_small(rules: &[u8], target: Chosen, w: Work, to: usize) -> Work
-    requires { ⌜ Said (now rules) target × Clean (w .rom) × (0 < w .rom .len) × (w .rom .len + most-target ≤ most-bytes) ⌝ }
-    ensures { λ r. ⌜ (work-of r ≡ work (without-last (text (w .rom)) ++ or-nothing (chosen-means (now (rules .entry)) target)) (w .from) to note-exp)
-        × Clean (r .rom) × (r .rom .len < most-bytes) × (r .from ≡ w .from) × (r .to ≡ to) ⌝ }
+fn put_small(rules: &[u8], target: Chosen, bytes: &mut [u8], g: Growing, to: usize) -> Growing
+    requires { ⌜ Said (now rules) target × Held (now bytes) g × (0 < g .len) × (g .len + most-target ≤ most-bytes) ⌝ }
+    ensures { λ r. ⌜ (work-in (now (bytes .exit)) r
+        ≡ work (without-last (take (g .len) (now (bytes .entry))) ++ or-nothing (chosen-means (now (rules .entry)) target)) (g .from) to note-exp)
+        × Held (now (bytes .exit)) r × (r .len < most-bytes) × (r .from ≡ g .from) × (r .to ≡ to) ⌝ }
 {
-    let old = w.rom;
-    let short = rom::without_last(old);
-    let made = rom::append(short, rule_choice::chosen_text(rules, target));
-    Work {
-        rom: made,
-        from: w.from,
+    let short = rom::keep(bytes, g.len, 0, g.len - 1);
+    let len = rom::put_behind(bytes, short, rule_choice::chosen_text(rules, target));
+    Growing {
+        len,
+        from: g.from,
         to,
         note: edge::EXPANDED,
     }
@@ -207,18 +209,19 @@ fn small_y(
     code: &[u8],
     line: &[u32],
     places: &mut [u32],
+    bytes: &mut [u8],
     o: usize,
-    w: Work,
-) -> Work
-    requires { ⌜ Workable (w .rom .len + most-target ≤ most-bytes) (now rules) (now ready) (now line) o w ⌝ }
+    g: Growing,
+) -> Growing
+    requires { ⌜ Workable (g .len + most-target ≤ most-bytes) (now rules) (now ready) (now line) o (now bytes) g ⌝ }
     ensures { λ r. ⌜ Answers (now (rules .entry)) (now (ready .entry)) (now (code .entry)) (now (line .entry)) (now (places .entry)) (now (places .exit))
-        (λ L t v. small-y L t v o (work-of w)) (work-of r)
-        × Clean (r .rom) × (r .rom .len < most-bytes) × (r .from ≡ w .from) × (w .to ≤ r .to) × (r .to ≤ size-in (now (line .entry))) ⌝ }
+        (λ L t v. small-y L t v o (work-in (now (bytes .entry)) g)) (work-in (now (bytes .exit)) r)
+        × Held (now (bytes .exit)) r × (r .len < most-bytes) × (r .from ≡ g .from) × (g .to ≤ r .to) × (r .to ≤ size-in (now (line .entry))) ⌝ }
 {
-    let target = small_target(rules, ready, line, w);
+    let target = small_target(rules, ready, line, &bytes[..g.len], g);
     if rule_choice::is_told(target) {
-        let from = w.from;
-        let to = w.to + 1;
+        let from = g.from;
+        let to = g.to + 1;
         let ruled = rule_choice::simple_top_romanization_candidate_for_span(
             rules,
             ready,
@@ -228,7 +231,7 @@ fn small_y(
             Span { from: o, to },
         );
         if rule_choice::is_told(ruled) {
-            return w;
+            return g;
         }
         let here = rule_choice::simple_top_romanization_candidate_for_span(
             rules,
@@ -239,11 +242,11 @@ fn small_y(
             Span { from, to },
         );
         if rule_choice::is_told(here) {
-            return w;
+            return g;
         }
-        return put_small(rules, target, w, to);
+        return put_small(rules, target, bytes, g, to);
     }
-    w
+    g
 }
 
 // Grave and small ya, and what ends the expansion.
@@ -253,16 +256,17 @@ fn rest(
     code: &[u8],
     line: &[u32],
     places: &mut [u32],
+    bytes: &mut [u8],
     o: usize,
-    w: Work,
-) -> Work
-    requires { ⌜ Workable (w .rom .len + most-target < most-bytes) (now rules) (now ready) (now line) o w ⌝ }
+    g: Growing,
+) -> Growing
+    requires { ⌜ Workable (g .len + most-target < most-bytes) (now rules) (now ready) (now line) o (now bytes) g ⌝ }
     ensures { λ r. ⌜ Answers (now (rules .entry)) (now (ready .entry)) (now (code .entry)) (now (line .entry)) (now (places .entry)) (now (places .exit))
-        (λ L t v. rest L t v o (work-of w)) (work-of r) × Clean (r .rom) ⌝ }
+        (λ L t v. rest L t v o (work-in (now (bytes .entry)) g)) (work-in (now (bytes .exit)) r) × Held (now (bytes .exit)) r ⌝ }
 {
-    let u = grave(rules, ready, code, line, places, o, w);
-    let x = small_y(rules, ready, code, line, places, o, u);
-    steps::finish(line, x)
+    let u = grave(rules, ready, code, line, places, bytes, o, g);
+    let x = small_y(rules, ready, code, line, places, bytes, o, u);
+    steps::ending(line, bytes, x)
 }
 
 // Is a text one or more of the consonants beside which O ang is spoken?
@@ -285,26 +289,26 @@ fn starts_beside(rules: &[u8], ready: &[u32], c: u32) -> bool
 }
 
 // Are both neighbours of the span Thai?
-fn is_in_thai(line: &[u32], w: Work) -> bool
-    requires { ⌜ (w .from ≤ w .to) × (w .to ≤ size-in (now line)) × (1 ≤ w .to) ⌝ }
+fn is_in_thai(line: &[u32], g: Growing) -> bool
+    requires { ⌜ (g .from ≤ g .to) × (g .to ≤ size-in (now line)) × (1 ≤ g .to) ⌝ }
     ensures { λ r. ⌜ ((x : World) → Lined x (now (line .entry))
-        → r ≡ (eqb (script (kinds x) (prev (x .text) (w .from))) script-thai && eqb (script (kinds x) (at (x .text) (w .to))) script-thai)) ⌝ }
+        → r ≡ (eqb (script (kinds x) (prev (x .text) (g .from))) script-thai && eqb (script (kinds x) (at (x .text) (g .to))) script-thai)) ⌝ }
 {
-    if table_classes::script(words::kind_at(line, w.from)) == table_classes::THAI {
-        return table_classes::script(words::kind_at(line, w.to + 1)) == table_classes::THAI;
+    if table_classes::script(words::kind_at(line, g.from)) == table_classes::THAI {
+        return table_classes::script(words::kind_at(line, g.to + 1)) == table_classes::THAI;
     }
     false
 }
 
 // Does the span stand between Thai consonants?
-fn is_between(rules: &[u8], ready: &[u32], line: &[u32], places: &[u32], w: Work) -> bool
-    requires { ⌜ Prepared (now rules) (now ready) × (w .from ≤ w .to) × (w .to ≤ size-in (now line)) × (1 ≤ w .to) ⌝ }
-    ensures { λ r. ⌜ ((x : World) → Lent x (now (line .entry)) (now (places .entry))
-        → r ≡ between (rules-of (now (rules .entry))) (kinds x) (x .text) (seen x) (work-of w)) ⌝ }
+fn is_between(rules: &[u8], ready: &[u32], line: &[u32], places: &[u32], g: Growing) -> bool
+    requires { ⌜ Prepared (now rules) (now ready) × (g .from ≤ g .to) × (g .to ≤ size-in (now line)) × (1 ≤ g .to) ⌝ }
+    ensures { λ r. ⌜ ((x : World) (w : Text) → Lent x (now (line .entry)) (now (places .entry))
+        → r ≡ between (rules-of (now (rules .entry))) (kinds x) (x .text) (seen x) (work w (g .from) (g .to) (g .note))) ⌝ }
 {
-    if is_in_thai(line, w) {
-        if edge_places::is_after_side(places, 0, w.from) {
-            return starts_beside(rules, ready, words::number_at(line, w.to + 1));
+    if is_in_thai(line, g) {
+        if edge_places::is_after_side(places, 0, g.from) {
+            return starts_beside(rules, ready, words::number_at(line, g.to + 1));
         }
         return false;
     }
@@ -312,14 +316,21 @@ fn is_between(rules: &[u8], ready: &[u32], line: &[u32], places: &[u32], w: Work
 }
 
 // O ang alone is silent unless it stands between Thai consonants.
-fn is_silent(rules: &[u8], ready: &[u32], line: &[u32], places: &[u32], o: usize, w: Work) -> bool
-    requires { ⌜ Prepared (now rules) (now ready) × (w .from ≤ w .to) × (w .to ≤ size-in (now line)) × (1 ≤ w .to) × (o ≤ size-in (now line)) ⌝ }
-    ensures { λ r. ⌜ ((x : World) → Lent x (now (line .entry)) (now (places .entry))
-        → r ≡ silent (rules-of (now (rules .entry))) (kinds x) (x .text) (seen x) o (work-of w)) ⌝ }
+fn is_silent(
+    rules: &[u8],
+    ready: &[u32],
+    line: &[u32],
+    places: &[u32],
+    o: usize,
+    g: Growing,
+) -> bool
+    requires { ⌜ Prepared (now rules) (now ready) × (g .from ≤ g .to) × (g .to ≤ size-in (now line)) × (1 ≤ g .to) × (o ≤ size-in (now line)) ⌝ }
+    ensures { λ r. ⌜ ((x : World) (w : Text) → Lent x (now (line .entry)) (now (places .entry))
+        → r ≡ silent (rules-of (now (rules .entry))) (kinds x) (x .text) (seen x) o (work w (g .from) (g .to) (g .note))) ⌝ }
 {
     if words::number_at(line, o + 1) == O_ANG {
-        if w.from + 1 == w.to {
-            if is_between(rules, ready, line, places, w) {
+        if g.from + 1 == g.to {
+            if is_between(rules, ready, line, places, g) {
                 return false;
             }
             return true;
@@ -329,100 +340,130 @@ fn is_silent(rules: &[u8], ready: &[u32], line: &[u32], places: &[u32], o: usize
     false
 }
 
-// A silent O ang is deleted.
-fn o_ang_step(
-    rules: &[u8],
-    ready: &[u32],
-    code: &[u8],
-    line: &[u32],
-    places: &mut [u32],
-    o: usize,
-    w: Work,
-) -> Work
-    requires { ⌜ Workable (w .rom .len + most-target < most-bytes) (now rules) (now ready) (now line) o w ⌝ }
-    ensures { λ r. ⌜ Answers (now (rules .entry)) (now (ready .entry)) (now (code .entry)) (now (line .entry)) (now (places .entry)) (now (places .exit))
-        (λ L t v. o-ang-step L t v o (work-of w)) (work-of r) × Clean (r .rom) ⌝ }
-{
-    if is_silent(rules, ready, line, places, o, w) {
-        return Work {
-            rom: rom::new(),
-            from: w.from,
-            to: w.to,
-            note: edge::DELETED,
-        };
-    }
-    rest(rules, ready, code, line, places, o, w)
-}
-
-// Thai: the pattern ends the expansion; else the vowel written before, then O ang.
+// Thai: the pattern ends the expansion; else comes the vowel written before, and then a silent O ang is deleted, which ends it too.
 fn thai(
     rules: &[u8],
     ready: &[u32],
-    code: &[u8],
     line: &[u32],
-    places: &mut [u32],
+    places: &[u32],
+    bytes: &mut [u8],
     o: usize,
-    w: Work,
-) -> Work
-    requires { ⌜ Workable (w .rom .len + most-target + most-target < most-bytes) (now rules) (now ready) (now line) o w ⌝ }
-    ensures { λ r. ⌜ Answers (now (rules .entry)) (now (ready .entry)) (now (code .entry)) (now (line .entry)) (now (places .entry)) (now (places .exit))
-        (λ L t v. thai L t v o (work-of w)) (work-of r) × Clean (r .rom) ⌝ }
+    g: Growing,
+) -> Tried
+    requires { ⌜ Workable (g .len + most-target + most-target < most-bytes) (now rules) (now ready) (now line) o (now bytes) g ⌝ }
+    ensures { λ r. ⌜ Opens (now (rules .entry)) (now (ready .entry)) (now (line .entry)) (now (places .entry)) o
+        (λ L t v. thai L t v o (work-in (now (bytes .entry)) g)) (now (bytes .exit)) r ⌝ }
 {
-    let tried = steps::around(rules, ready, line, w);
+    let tried = steps::vowel_around(rules, ready, line, bytes, g);
     if tried.done {
-        return tried.work;
+        return tried;
     }
-    let u = steps::before(rules, ready, line, w);
-    o_ang_step(rules, ready, code, line, places, o, u)
+    let u = steps::vowel_before(rules, ready, line, bytes, g);
+    if is_silent(rules, ready, line, places, o, u) {
+        let growing = Growing {
+            len: rom::keep(bytes, u.len, 0, 0),
+            from: u.from,
+            to: u.to,
+            note: edge::DELETED,
+        };
+        return Tried {
+            growing,
+            done: true,
+        };
+    }
+    Tried {
+        growing: u,
+        done: false,
+    }
 }
 
-// By the script of the span's first character, at `o`.
+// What the script of the span's first character, at `o`, asks for before the rest.
 fn by_script(
     rules: &[u8],
     ready: &[u32],
-    code: &[u8],
     line: &[u32],
-    places: &mut [u32],
+    places: &[u32],
+    bytes: &mut [u8],
     o: usize,
-    w: Work,
-) -> Work
-    requires { ⌜ Workable (w .rom .len + most-target + most-target < most-bytes) (now rules) (now ready) (now line) o w ⌝ }
-    ensures { λ r. ⌜ Answers (now (rules .entry)) (now (ready .entry)) (now (code .entry)) (now (line .entry)) (now (places .entry)) (now (places .exit))
-        (λ L t v. by-script L t v o (work-of w)) (work-of r) × Clean (r .rom) ⌝ }
+    g: Growing,
+) -> Tried
+    requires { ⌜ Workable (g .len + most-target + most-target < most-bytes) (now rules) (now ready) (now line) o (now bytes) g ⌝ }
+    ensures { λ r. ⌜ Opens (now (rules .entry)) (now (ready .entry)) (now (line .entry)) (now (places .entry)) o
+        (λ L t v. by-script L t v o (work-in (now (bytes .entry)) g)) (now (bytes .exit)) r ⌝ }
 {
     if table_classes::script(words::kind_at(line, o + 1)) == table_classes::THAI {
-        return thai(rules, ready, code, line, places, o, w);
+        return thai(rules, ready, line, places, bytes, o, g);
     }
-    rest(rules, ready, code, line, places, o, w)
-}
-
-// A romanization over its span, not expanded yet.
-fn untouched(r: Rom, span: Span) -> Work
-    requires { ⌜ Clean r ⌝ }
-    ensures { λ w. ⌜ (work-of w ≡ over span r) × Clean (w .rom) × (w .rom .len ≡ r .len) × (w .from ≡ span .from) × (w .to ≡ span .to) ⌝ }
-{
-    Work {
-        rom: r,
-        from: span.from,
-        to: span.to,
-        note: edge::UNTOUCHED,
+    Tried {
+        growing: g,
+        done: false,
     }
 }
 
 // The first steps: capitals, or else doubling. A romanization in upper case begins with no letter that is doubled.
-fn first_steps(line: &[u32], choices: Choices, r: Rom, span: Span) -> Work
-    requires { ⌜ Clean r × (r .len < most-bytes) × (span .from < span .to) × (span .to ≤ size-in (now line)) ⌝ }
-    ensures { λ w. ⌜ ((x : World) → Lined x (now (line .entry))
-        → work-of w ≡ double (kinds x) (x .text) (span .from) (capitalize (choices-of choices) (kinds x) (x .text) (over span r)))
-        × Clean (w .rom) × (w .rom .len ≤ r .len + 1) × (w .from ≤ span .from) × (w .to ≡ span .to) ⌝ }
+fn first_steps(line: &[u32], choices: Choices, bytes: &mut [u8], n: usize, span: Span) -> Growing
+    requires { ⌜ Clean (held (now bytes) n) × (n < most-bytes) × (span .from < span .to) × (span .to ≤ size-in (now line)) ⌝ }
+    ensures { λ r. ⌜ ((x : World) → Lined x (now (line .entry)) → work-in (now (bytes .exit)) r
+        ≡ double (kinds x) (x .text) (span .from) (capitalize (choices-of choices) (kinds x) (x .text) (over span (take n (now (bytes .entry))))))
+        × Held (now (bytes .exit)) r × (r .len ≤ n + 1) × (r .from ≤ span .from) × (r .to ≡ span .to) ⌝ }
 {
-    if capitals::capitalizes(line, choices, r, span) {
-        return untouched(rom::capitalized(r), span);
+    let g = Growing {
+        len: n,
+        from: span.from,
+        to: span.to,
+        note: edge::UNTOUCHED,
+    };
+    if capitals::makes_small(line, choices, &bytes[..n], span) {
+        rom::make_small(bytes, n);
+        return g;
     }
-    steps::double(line, span.from, untouched(r, span))
+    steps::doubling(line, span.from, bytes, g)
 }
 
-// An empty romanization is not expanded.
+// All steps, on the first `n` bytes of an array. No bytes are not expanded.
+fn all_steps(
+    choices: Choices,
+    rules: &[u8],
+    ready: &[u32],
+    code: &[u8],
+    line: &[u32],
+    places: &mut [u32],
+    bytes: &mut [u8],
+    n: usize,
+    span: Span,
+) -> Growing
+    requires { ⌜ Prepared (now rules) (now ready) × Clean (held (now bytes) n) × (n ≤ most-target + most-vowel)
+        × (span .from < span .to) × (span .to ≤ size-in (now line)) ⌝ }
+    ensures { λ r. ⌜ Answers (now (rules .entry)) (now (ready .entry)) (now (code .entry)) (now (line .entry)) (now (places .entry)) (now (places .exit))
+        (λ L t v. expand L t v (choices-of choices) (take n (now (bytes .entry))) (span .from) (span .to)) (work-in (now (bytes .exit)) r)
+        × Held (now (bytes .exit)) r ⌝ }
+{
+    if n == 0 {
+        return Growing {
+            len: n,
+            from: span.from,
+            to: span.to,
+            note: edge::UNTOUCHED,
+        };
+    }
+    let g = first_steps(line, choices, bytes, n, span);
+    let tried = by_script(rules, ready, line, places, bytes, span.from, g);
+    if tried.done {
+        return tried.growing;
+    }
+    rest(
+        rules,
+        ready,
+        code,
+        line,
+        places,
+        bytes,
+        span.from,
+        tried.growing,
+    )
+}
+
+// A romanization over its span through the expansion.
 pub fn expand_rom_with_special_chars(
     choices: Choices,
     rules: &[u8],
@@ -438,9 +479,22 @@ pub fn expand_rom_with_special_chars(
     ensures { λ w. ⌜ Answers (now (rules .entry)) (now (ready .entry)) (now (code .entry)) (now (line .entry)) (now (places .entry)) (now (places .exit))
         (λ L t v. expand L t v (choices-of choices) (text r) (span .from) (span .to)) (work-of w) × Clean (w .rom) ⌝ }
 {
-    if r.len == 0 {
-        return untouched(r, span);
+    let mut bytes = r.bytes;
+    let g = all_steps(
+        choices,
+        rules,
+        ready,
+        code,
+        line,
+        places,
+        &mut bytes,
+        r.len,
+        span,
+    );
+    Work {
+        rom: Rom { bytes, len: g.len },
+        from: g.from,
+        to: g.to,
+        note: g.note,
     }
-    let w = first_steps(line, choices, r, span);
-    by_script(rules, ready, code, line, places, span.from, w)
 }

@@ -6,6 +6,7 @@ use mathlib.Core.List.{List}
 use mathlib.Core.Option.{Option, some}
 use mathlib.Core.Path.{_≡_, refl, sym, ap, _∙_}
 use native.Mathlib.Omega.{arith}
+use lib.ListN.{take}
 use Rattle.definition.specs.Limits.{most-bytes}
 use Rattle.definition.specs.Texts.{Text, last-is}
 use Rattle.definition.specs.Tables.{Tables}
@@ -19,7 +20,6 @@ use Rattle.definition.specs.Near.{Near}
 use Rattle.definition.specs.Promises.{tables-bounded}
 use Rattle.definition.specs.Call.{tables-of}
 use Rattle.table_vowels.specs.Told.{FineVowels}
-use Rattle.rom.specs.Rom.{text}
 use Rattle.edge.specs.declared.Filled.{Filled}
 use Rattle.edge.specs.declared.Added.{Added as Answer}
 use Rattle.edge.specs.declared.Added.the-variants.{Fits}
@@ -44,13 +44,13 @@ use Rattle.first_pass.specs.Spelling.{found-not, spelt-writable, spelt-e
 use Rattle.first_pass.specs.Fresh.{Fresh}
 
 module _ (rules vowels code : List ℕ) {ready line S R P P₁ : List ℕ} {w : World} {filled : Filled} (o : Over w ready line S R P filled)
-    (table : Prepared rules ready) (fine : FineVowels vowels) {look : Look} (d : Looked rules line look) (r : Spanned)
-    (asked : Asked w (span-edge (tables-of (w .choices) rules (w .classes) vowels code) (w .text) (seen w) (look .from) (look .to)) P P₁ (found r)) where
+    (table : Prepared rules ready) (fine : FineVowels vowels) {look : Look} (d : Looked rules line look) (b : List ℕ) (r : Spanned)
+    (asked : Asked w (span-edge (tables-of (w .choices) rules (w .classes) vowels code) (w .text) (seen w) (look .from) (look .to)) P P₁ (found b r)) where
   abbrev D : Tables
   D = tables-of (w .choices) rules (w .classes) vowels code
 
   abbrev bytes : Text
-  bytes = text (r .rom)
+  bytes = take (r .len) b
 
   inside : look .to ≤ size w
   inside = omega (arith, line-size (o .lent .text), d .inside)
@@ -64,7 +64,7 @@ module _ (rules vowels code : List ℕ) {ready line S R P P₁ : List ℕ} {w : 
   unfolding tables-of add
   span-none h =
       reached-as _ (put-in-did (λ es. span-edge D (w .text) (view (D .classes) es) (look .from) (look .to)) (w .edges) (memory (size w) P)
-      (did-by (sym (found-not r h)) (asked .did))) _
+      (did-by (sym (found-not b r h)) (asked .did))) _
       (reached-here (filled .used + most-bytes) keeps (omega arith))
 
   module _ (h : r .there ≡ true) (u : filled .used < addressable) where
@@ -72,16 +72,16 @@ module _ (rules vowels code : List ℕ) {ready line S R P P₁ : List ℕ} {w : 
     ok = tables-bounded (w .choices) rules (w .classes) vowels code (table .table .accepted) (o .lent .text .fine) fine
 
     pub spelt : Sound (size w) (edge-with (r .numbers) bytes) × Short most-bytes bytes
-    spelt = span-spelt r D ok (w .text) (seen w) (look .from) (look .to) (memory (size w) P) (d .forward) inside (asked .did) h
+    spelt = span-spelt b r D ok (w .text) (seen w) (look .from) (look .to) (memory (size w) P) (d .forward) inside (asked .did) h
 
     near : Near (look .from) (edge-with (r .numbers) bytes)
-    near = span-near r D (w .text) (seen w) (look .from) (look .to) (memory (size w) P) (asked .did) h
+    near = span-near b r D (w .text) (seen w) (look .from) (look .to) (memory (size w) P) (asked .did) h
 
     pub span-writable : Writable (filled .used) (r .numbers) bytes
-    span-writable = spelt-writable r (size w) (filled .used) (o .lent .text .few) u spelt
+    span-writable = spelt-writable b r (size w) (filled .used) (o .lent .text .few) u spelt
 
     spelt-is : edge-by (r .numbers) bytes ≡ edge-with (r .numbers) bytes
-    spelt-is = spelt-edge r (size w) (filled .used) (o .lent .text .few) u spelt
+    spelt-is = spelt-edge b r (size w) (filled .used) (o .lent .text .few) u spelt
 
     pub span-new : Fresh (look .from) S R filled → there (edges-of R (filled .since) S) (edge-by (r .numbers) bytes) ≡ false
     unfolding edge-by
@@ -101,6 +101,6 @@ module _ (rules vowels code : List ℕ) {ready line S R P P₁ : List ℕ} {w : 
         (spelt .0 .forward) (spelt .0 .inside) S′ R′ P′ a q s t p in
         reached-as _
         (ap (λ (x : Edge). (add (w .edges) (some x), memory (size w) P₁)) spelt-is
-        ∙ ap (λ (o : Option Edge). (add (w .edges) o, memory (size w) P₁)) (sym (found-there r h))
+        ∙ ap (λ (o : Option Edge). (add (w .edges) o, memory (size w) P₁)) (sym (found-there b r h))
         ∙ put-in-did (λ es. span-edge D (w .text) (view (D .classes) es) (look .from) (look .to)) (w .edges) (memory (size w) P) (asked .did)) a
         (reached-wide (filled .used + most-bytes) (omega arith) a written)

@@ -5,7 +5,7 @@ use mathlib.Core.List.{List}
 use mathlib.Core.Option.{none}
 use mathlib.Core.Path.{_≡_, sym, ap, _∙_, subst}
 use native.Mathlib.Omega.{arith}
-use lib.ListN.{length}
+use lib.ListN.{length, take}
 use Rattle.base.specs.Pick.{pick}
 use Rattle.base.specs.Alls.{Opt}
 use Rattle.definition.specs.Limits.{most-characters, most-bytes}
@@ -20,18 +20,17 @@ use Rattle.definition.specs.Building.{span-edge}
 use Rattle.words.specs.Did.{Did}
 use Rattle.definition.specs.Tables.{Tables}
 use Rattle.utf8.specs.Encodings.{low-bytes, low-decoded}
-use Rattle.rom.specs.Rom.{text}
 use Rattle.edge.specs.Slots.{four-bytes, edge-by}
 use Rattle.edge.specs.Adding.{Writable}
 use Rattle.spans.specs.declared.Spanned.{Spanned}
 use Rattle.spans.specs.Spans.{edge-with, found}
 use Rattle.spans.specs.Ways.{found-there}
 
-module _ (r : Spanned) where
+module _ (b : List ℕ) (r : Spanned) where
   abbrev w : List ℕ
-  w = text (r .rom)
+  w = take (r .len) b
 
-  pub found-not : r .there ≡ false → found r ≡ none
+  pub found-not : r .there ≡ false → found b r ≡ none
   unfolding found pick
   found-not h = rw h
 
@@ -49,11 +48,11 @@ module _ (r : Spanned) where
 
   -- it is what the definition finds
   pub span-spelt : (D : Tables) → Bounded D → (t : Text) (v : View) (s e : ℕ) (m : Mem) {m₁ : Mem} → s < e → e ≤ length t
-      → Did (span-edge D t v s e m) (found r) m₁ → r .there ≡ true → Sound (length t) (edge-with (r .numbers) w) × Short most-bytes w
+      → Did (span-edge D t v s e m) (found b r) m₁ → r .there ≡ true → Sound (length t) (edge-with (r .numbers) w) × Short most-bytes w
   span-spelt D ok t v s e m l k d h =
-      let y = subst (Opt (Spelt D ok t)) (sym (d .value) ∙ found-there r h) (bounds.span-spelt D ok t v s e l k .gives m) in (y .0, y .1)
+      let y = subst (Opt (Spelt D ok t)) (sym (d .value) ∙ found-there b r h) (bounds.span-spelt D ok t v s e l k .gives m) in (y .0, y .1)
 
   -- and starts near
   pub span-near : (D : Tables) (t : Text) (v : View) (s e : ℕ) (m : Mem) {m₁ : Mem}
-      → Did (span-edge D t v s e m) (found r) m₁ → r .there ≡ true → Near s (edge-with (r .numbers) w)
-  span-near D t v s e m d h = subst (Opt (Near s)) (sym (d .value) ∙ found-there r h) (nearness.span-near D t v s e .gives m)
+      → Did (span-edge D t v s e m) (found b r) m₁ → r .there ≡ true → Near s (edge-with (r .numbers) w)
+  span-near D t v s e m d h = subst (Opt (Near s)) (sym (d .value) ∙ found-there b r h) (nearness.span-near D t v s e .gives m)

@@ -46,10 +46,10 @@ fn add_span(
         (now (slots .entry), now (room .entry), now (places .entry)) (now (slots .exit), now (room .exit), now (places .exit))
         filled (filled .used + most-bytes) (λ D t. put-span D t (look .from) (look .to)) r ⌝ }
 {
-    let found = spans::span_edge(rules, ready, vowels, code, line, places, look);
+    let mut bytes = [0u8; rom::MOST_BYTES];
+    let found = spans::put_span_edge(rules, ready, vowels, code, line, places, look, &mut bytes);
     if found.there {
-        let bytes = found.rom.bytes;
-        let text = &bytes[..found.rom.len];
+        let text = &bytes[..found.len];
         let end = noting::ending_of(text, passes::ends_in_letter(ready, text));
         return noting::add_edge(slots, room, places, filled, found.numbers, text, end);
     }

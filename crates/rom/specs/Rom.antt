@@ -14,6 +14,10 @@ text r = take (r .len) (r .bytes)
 abbrev pub zeros : ℕ → List ℕ
 zeros n = replicate n 0
 
+-- the first `n` bytes of an array as a romanization
+abbrev pub held : List ℕ → ℕ → Rom
+held b n = record { bytes = b; len = n }
+
 unfoldable pub rom : List ℕ → Rom
 rom w = record { bytes = w ++ zeros (most-bytes - length w); len = length w }
 

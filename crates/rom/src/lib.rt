@@ -1,13 +1,14 @@
-// A growing romanization by value, questions about lent bytes, and sets of small letters.
+// A growing romanization, questions about lent bytes, and sets of small letters.
 ghost use mathlib.Core.Path.{_≡_};
-ghost use mathlib.Core.List.{_++_, _∷_, []};
+ghost use mathlib.Core.List.{_++_, _∷_};
 ghost use Prim.Native.Nat.{_+_, _<_, _≤_};
-ghost use lib.ListN.{length};
-ghost use Rattle.base.specs.Lists.{any, all, tail, is, starts};
+ghost use lib.ListN.{length, take, getD};
+ghost use lib.Seq.{slice};
+ghost use Rattle.base.specs.Lists.{any, all, starts};
 ghost use Rattle.definition.specs.Limits.{most-bytes};
-ghost use Rattle.definition.specs.Texts.{lower, last-is, without-last};
+ghost use Rattle.definition.specs.Texts.{lower, last-is};
 ghost use Rattle.definition.specs.Expansion.{capitalized};
-ghost use Rattle.rom.specs.Rom.{text, rom, Clean};
+ghost use Rattle.rom.specs.Rom.{rom, held, Clean};
 ghost use Rattle.rom.specs.Sets.{member, between};
 
 // Sets of small letters, bit k for the letter k places after a: a e i o u.
@@ -40,85 +41,66 @@ pub struct Rom {
     pub len: usize,
 }
 
-// No text.
-pub fn new() -> Rom
-    ensures { λ r. ⌜ r ≡ rom [] ⌝ }
-{
-    Rom {
-        bytes: [0u8; MOST_BYTES],
-        len: 0,
-    }
-}
-
-// A romanization with a byte put behind it.
-pub fn push(mut r: Rom, b: u8) -> Rom
-    requires { ⌜ Clean r × (r .len < most-bytes) ⌝ }
-    ensures { λ q. ⌜ q ≡ rom (text r ++ b ∷ []) ⌝ }
-{
-    let n = r.len;
-    r.bytes[n] = b;
-    r.len = n + 1;
-    r
-}
-
-// A romanization with a text put behind it.
-pub fn append(mut r: Rom, s: &[u8]) -> Rom
-    requires { ⌜ Clean r × (r .len + length (now s) ≤ most-bytes) ⌝ }
-    ensures { λ q. ⌜ q ≡ rom (text r ++ now (s .entry)) ⌝ }
-{
-    let n = r.len;
-    let mut i: usize = 0;
-    while i < s.len() {
-        r.bytes[n + i] = s[i];
-        i += 1;
-    }
-    r.len = n + i;
-    r
-}
-
 // The romanization of a lent text.
 pub fn bytes_of(s: &[u8]) -> Rom
     requires { ⌜ length (now s) ≤ most-bytes ⌝ }
     ensures { λ q. ⌜ q ≡ rom (now (s .entry)) ⌝ }
 {
-    append(new(), s)
-}
-
-// A romanization with a text put in front of it.
-pub fn insert_front(r: Rom, s: &[u8]) -> Rom
-    requires { ⌜ Clean r × (r .len + length (now s) ≤ most-bytes) ⌝ }
-    ensures { λ q. ⌜ q ≡ rom (now (s .entry) ++ text r) ⌝ }
-{
-    let n = r.len;
-    let b = r.bytes;
-    append(bytes_of(s), &b[..n])
-}
-
-// A romanization without its first byte, if there is one.
-pub fn without_first(r: Rom) -> Rom
-    requires { ⌜ Clean r ⌝ }
-    ensures { λ q. ⌜ q ≡ rom (tail (text r)) ⌝ }
-{
-    let n = r.len;
-    if n == 0 {
-        return r;
+    let mut bytes = [0u8; MOST_BYTES];
+    lent_bytes::put_text(&mut bytes, s);
+    Rom {
+        bytes,
+        len: s.len(),
     }
-    let b = r.bytes;
-    bytes_of(&b[1..n])
 }
 
-// A romanization without its last byte, if there is one.
-pub fn without_last(mut r: Rom) -> Rom
-    requires { ⌜ Clean r ⌝ }
-    ensures { λ q. ⌜ q ≡ rom (without-last (text r)) ⌝ }
+// A text put behind a romanization in its place, the first `n` bytes of an array that is lent whole; the new length is told.
+pub fn put_behind(bytes: &mut [u8], n: usize, s: &[u8]) -> usize
+    requires { ⌜ Clean (held (now bytes) n) × (n + length (now s) ≤ most-bytes) ⌝ }
+    ensures { λ q. ⌜ held (now (bytes .exit)) q ≡ rom (take n (now (bytes .entry)) ++ now (s .entry)) ⌝ }
 {
-    let n = r.len;
-    if n == 0 {
-        return r;
+    lent_bytes::put_at(bytes, n, s);
+    n + s.len()
+}
+
+// A letter put in front of the first `n` bytes of an array, each of which takes the place of the next; the new length is told.
+pub fn put_front(bytes: &mut [u8], n: usize, letter: u8) -> usize
+    requires { ⌜ Clean (held (now bytes) n) × (n < most-bytes) ⌝ }
+    ensures { λ q. ⌜ held (now (bytes .exit)) q ≡ rom (letter ∷ take n (now (bytes .entry))) ⌝ }
+{
+    let mut next = letter;
+    let mut i: usize = 0;
+    while i <= n {
+        let old = bytes[i];
+        bytes[i] = next;
+        next = old;
+        i += 1;
     }
-    r.bytes[n - 1] = 0;
-    r.len = n - 1;
-    r
+    n + 1
+}
+
+// The byte at a place before `to`; zero elsewhere.
+fn byte_before(bytes: &[u8], to: usize, at: usize) -> u8
+    requires { ⌜ to ≤ length (now bytes) ⌝ }
+    ensures { λ r. ⌜ r ≡ getD (take to (now (bytes .entry))) at 0 ⌝ }
+{
+    if at < to {
+        return bytes[at];
+    }
+    0
+}
+
+// Of the first `n` bytes of an array those from one place to another, moved to the front, and zeros behind; their number is told.
+pub fn keep(bytes: &mut [u8], n: usize, from: usize, to: usize) -> usize
+    requires { ⌜ Clean (held (now bytes) n) × (from ≤ to) × (to ≤ n) ⌝ }
+    ensures { λ q. ⌜ held (now (bytes .exit)) q ≡ rom (slice from to (take n (now (bytes .entry)))) ⌝ }
+{
+    let mut i: usize = 0;
+    while i < n {
+        bytes[i] = byte_before(bytes, to, from + i);
+        i += 1;
+    }
+    to - from
 }
 
 // A capital letter made small.
@@ -134,25 +116,22 @@ pub fn lower(c: u8) -> u8
     c
 }
 
-// A romanization whose first byte stays and whose later letters are small.
-pub fn capitalized(mut r: Rom) -> Rom
-    requires { ⌜ Clean r ⌝ }
-    ensures { λ q. ⌜ q ≡ rom (capitalized (text r)) ⌝ }
+// Of the first `n` bytes of an array the first stays, and later letters become small.
+pub fn make_small(bytes: &mut [u8], n: usize)
+    requires { ⌜ Clean (held (now bytes) n) ⌝ }
+    ensures { λ _. ⌜ held (now (bytes .exit)) n ≡ rom (capitalized (take n (now (bytes .entry)))) ⌝ }
 {
-    let n = r.len;
     if n == 0 {
-        return r;
+        return;
     }
     let mut i: usize = 1;
     while i < n {
-        let c = lower(r.bytes[i]);
-        r.bytes[i] = c;
+        bytes[i] = lower(bytes[i]);
         i += 1;
     }
-    r
 }
 
-// Does a text start with another; does it end with it?
+// Does a text start with another?
 pub fn starts_with(s: &[u8], w: &[u8]) -> bool
     ensures { λ r. ⌜ r ≡ starts (now (w .entry)) (now (s .entry)) ⌝ }
 {

@@ -1,10 +1,11 @@
 -- The edge of a span as it is answered, and the text of a fallback.
-use mathlib.Core.Bool.{true}
+use mathlib.Core.Bool.{true, false}
 use mathlib.Core.Option.{Option, none, some}
 use mathlib.Core.List.{List}
 use mathlib.Core.Path.{_≡_}
 use Prim.Native.Nat.{ℕ}
 use lib.Dec.{eqb}
+use lib.ListN.{take}
 use Rattle.base.specs.Pick.{pick}
 use Rattle.base.specs.Lists.{tail, maybe}
 use Rattle.definition.specs.Texts.{Text}
@@ -13,12 +14,16 @@ use Rattle.definition.specs.Tables.{category-Mn, category-Cf, category-Co, cate
 use Rattle.definition.specs.Edges.{Edge, View, M}
 use Rattle.definition.specs.Tables.{Tables}
 use Rattle.definition.specs.Call.{tables-of}
+use Rattle.definition.specs.Expansion.{Work, work, expand}
 use Rattle.definition.specs.Building.{fallback-plus}
-use Rattle.rom.specs.Rom.{text, Clean}
+use Rattle.rom.specs.Rom.{held, Clean}
+use Rattle.words.specs.declared.Span.{Span}
 use Rattle.words.specs.Did.{Asked}
 use Rattle.words.specs.Given.{World, seen, Told, Lent}
+use Rattle.rule_choice.specs.Lent.{lexicon-of}
 use Rattle.edge.specs.declared.Numbers.{Numbers}
 use Rattle.spans.specs.declared.Spanned.{Spanned}
+use Rattle.spans.specs.declared.Expanded.{Expanded}
 
 -- What a step that asks all tables answers: of every world that the lent slices stand for, what the definition does
 abbrev pub Finds : {A : Type 0} → List ℕ → List ℕ → List ℕ → List ℕ → List ℕ → List ℕ → List ℕ → (Tables → Text → View → M A) → A → Type 0
@@ -29,14 +34,29 @@ Finds rules ready vowels code line before after f r =
 abbrev pub edge-with : Numbers → Text → Edge
 edge-with e w = record { from = e .from; to = e .to; note = e .note; core = e .core; text = w }
 
--- what was answered, where it is there
-unfoldable pub found : Spanned → Option Edge
-found r = pick (r .there) (some (edge-with (r .numbers) (text (r .rom)))) none
+-- what was answered, where it is there, with its text in the array `b`
+unfoldable pub found : List ℕ → Spanned → Option Edge
+found b r = pick (r .there) (some (edge-with (r .numbers) (take (r .len) b))) none
 
--- An edge is found, that of the definition's `f`, and its romanization is clean
-abbrev pub FindsEdge : List ℕ → List ℕ → List ℕ → List ℕ → List ℕ → List ℕ → List ℕ → (Tables → Text → View → M Edge) → Spanned → Type 0
-FindsEdge rules ready vowels code line before after f r =
-    Finds rules ready vowels code line before after f (edge-with (r .numbers) (text (r .rom))) × (r .there ≡ true) × Clean (r .rom)
+-- An edge is found, that of the definition's `f`, and its text in the array `b` is clean
+abbrev pub FindsEdge : List ℕ → List ℕ → List ℕ → List ℕ → List ℕ → List ℕ → List ℕ → (Tables → Text → View → M Edge) → List ℕ → Spanned → Type 0
+FindsEdge rules ready vowels code line before after f b r =
+    Finds rules ready vowels code line before after f (edge-with (r .numbers) (take (r .len) b)) × (r .there ≡ true) × Clean (held b (r .len))
+
+-- What is left in the array: a clean text where there is an edge, and else what was in it
+pub record Leaves (before after : List ℕ) (r : Spanned) : Type 0 where
+  pub clean : r .there ≡ true → Clean (held after (r .len))
+  pub kept : r .there ≡ false → after ≡ before
+
+-- what the expansion made, with its text in the array `b`
+abbrev pub expanded : List ℕ → Expanded → Work
+expanded b x = work (take (x .len) b) (x .from) (x .to) (x .note)
+
+-- The expansion with the call's choices, of every world that the lent slices stand for
+abbrev pub Expands : List ℕ → List ℕ → List ℕ → List ℕ → List ℕ → List ℕ → Text → Span → Work → Type 0
+Expands rules ready code line before after w span x =
+    (u : World) → Told u ready → Lent u line before
+    → Asked u (expand (lexicon-of rules u code) (u .text) (seen u) (u .choices) w (span .from) (span .to)) before after x
 
 -- a target without its plus before m, n, g or r
 unfoldable pub plus-dropped : Text → Text

@@ -1,23 +1,22 @@
 -- The edge of a span: one law for each way out, and the bytes of what full search answers.
 use mathlib.Core.Bool.{Bool, true, false}
-use mathlib.Core.List.{[], _∷_}
+use mathlib.Core.List.{List, [], _∷_}
 use mathlib.Core.Option.{Option, none, some}
 use mathlib.Core.Path.{_≡_, refl, sym, ap, _∙_}
 use Prim.Native.Nat.{ℕ, _≤_}
 use native.Mathlib.Omega.{arith}
-use lib.ListN.{length}
+use lib.ListN.{length, take}
 use borrow.Author.Tests.{eq-eqb, ne-eqb}
 use Rattle.base.specs.Pick.{pick, pick-all}
 use Rattle.base.specs.Lists.{tail, has, maybe}
 use Rattle.definition.specs.Notes.{note-none, note-rom, note-core, note-tail}
 use Rattle.definition.specs.Texts.{Text}
-use Rattle.definition.specs.Tables.{Choices, Tables, lexicon}
+use Rattle.definition.specs.Tables.{Tables, lexicon}
 use Rattle.definition.specs.Edges.{Edge, View, Mem, ret, _>>=_}
 use Rattle.definition.specs.Syllables.{full}
 use Rattle.definition.specs.Vowels.{vowel-step}
 use Rattle.definition.specs.Expansion.{Work, work, expand}
 use Rattle.definition.specs.Building.{is-tail, without-plus, grown, as-edge, edge-of, span-edge}
-use Rattle.rom.specs.Rom.{text}
 use Rattle.words.specs.Did.{Did, did, did-by, outcome}
 use Rattle.rule_choice.specs.Chosen.{or-nothing}
 use Rattle.spans.specs.Spans.{edge-with, found}
@@ -48,9 +47,9 @@ module _ (tail : Bool) (rom new w : Text) (s e n : ℕ) where
       as-plain b = simp (eq-eqb n note-none a, g, b)
 
 -- what was answered, where it is there
-pub found-there : (r : Spanned) → r .there ≡ true → found r ≡ some (edge-with (r .numbers) (text (r .rom)))
+pub found-there : (b : List ℕ) (r : Spanned) → r .there ≡ true → found b r ≡ some (edge-with (r .numbers) (take (r .len) b))
 unfolding found pick
-found-there r e = rw e
+found-there b r e = rw e
 
 -- a text that is there, and none
 there-is : (o : Option Text) → has o ≡ true → o ≡ some (or-nothing o)
@@ -63,15 +62,11 @@ none-there (some w) e = absurd (let z : _≡_ {A = ℕ} 0 1 = cc in omega arith)
 
 module _ (D : Tables) (t : Text) (v : View) where
   -- vowel step, then expansion
-  pub edge-done : (tail : Bool) (rom from new : Text) (x : Work) (s e : ℕ) (m : Mem) {m₁ m₂ : Mem} → from ≡ rom → (c : Choices) → c ≡ D .choices
-      → Did (vowel-step (lexicon D) t v (D .vowels) tail from s e m) new m₁ → Did (expand (lexicon D) t v c new s e m₁) x m₂
+  pub edge-done : (tail : Bool) (rom new : Text) (x : Work) (s e : ℕ) (m : Mem) {m₁ m₂ : Mem}
+      → Did (vowel-step (lexicon D) t v (D .vowels) tail rom s e m) new m₁ → Did (expand (lexicon D) t v (D .choices) new s e m₁) x m₂
       → Did (edge-of D t v tail rom s e m) (as-edge tail rom new x) m₂
   unfolding edge-of ret _>>=_
-  edge-done tail rom from new x s e m {m₁} a c q d f =
-      did (rw (
-        ap (λ (y : Text). vowel-step (lexicon D) t v (D .vowels) tail y s e m) (sym a) ∙ outcome d,
-        ap (λ (k : Choices). expand (lexicon D) t v k new s e m₁) (sym q) ∙ outcome f,
-      ))
+  edge-done tail rom new x s e m d f = did (rw (outcome d, outcome f))
 
   -- by what full search answers
   module _ (s e : ℕ) (m : Mem) {m₁ : Mem} (o : Option Text) (d : Did (full (lexicon D) t v s e m) o m₁) where

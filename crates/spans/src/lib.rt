@@ -3,19 +3,23 @@
 ghost use mathlib.Core.Path.{_≡_};
 ghost use Prim.Native.Nat.{_+_, _<_, _≤_};
 ghost use lib.ListN.{length, take, drop};
-ghost use Rattle.definition.specs.Limits.{most-target};
+ghost use Rattle.definition.specs.Limits.{most-bytes, most-target, most-vowel};
 ghost use Rattle.definition.specs.Texts.{Text};
+ghost use Rattle.definition.specs.VowelRows.{vowels-of};
+ghost use Rattle.definition.specs.Vowels.{vowel-step};
 ghost use Rattle.definition.specs.Expansion.{work};
 ghost use Rattle.definition.specs.Building.{is-tail, without-plus, grown, as-edge, edge-of, span-edge, fallback-plus};
 ghost use Rattle.table_vowels.specs.Told.{FineVowels};
-ghost use Rattle.rom.specs.Rom.{text, Clean};
+ghost use Rattle.rom.specs.Rom.{text, held, rom, Clean};
 ghost use Rattle.words.specs.Given.{size-in, Prepared};
 ghost use Rattle.words.specs.Looks.{Looked};
 ghost use Rattle.rule_choice.specs.Chosen.{chosen-means, Said};
-ghost use Rattle.spans.specs.Spans.{Finds, edge-with, FindsEdge, found, plus-dropped, fallback-bytes, category-note};
+ghost use Rattle.vowel_step.specs.Steps.{Voices};
+ghost use Rattle.spans.specs.Spans.{Finds, edge-with, FindsEdge, found, Leaves, expanded, Expands, plus-dropped, fallback-bytes, category-note};
 use edge::Numbers;
 use rom::Rom;
 use rule_choice::Chosen;
+use vowel_step::Voiced;
 use words::Look;
 use words::Span;
 
@@ -24,11 +28,19 @@ const PLUS: u32 = 43;
 
 const LETTER_N: u32 = 110;
 
-// The edge of a span, where there is one. (An enum can't hold an array.)
+// The edge of a span, where there is one: its text is the first `len` bytes of an array that is lent.
 pub struct Spanned {
     pub there: bool,
     pub numbers: Numbers,
-    pub rom: Rom,
+    pub len: usize,
+}
+
+// What the expansion made, its text in an array that is lent.
+struct Expanded {
+    len: usize,
+    from: usize,
+    to: usize,
+    note: u8,
 }
 
 // Is a target a tail: a plus and one byte, or a plus and two of which the first is n?
@@ -104,6 +116,71 @@ fn as_edge(tail: bool, core: usize, grows: bool, from: usize, to: usize, note: u
     }
 }
 
+// A text through the vowel step.
+fn voiced(
+    rules: &[u8],
+    ready: &[u32],
+    vowels: &[u8],
+    code: &[u8],
+    line: &[u32],
+    places: &mut [u32],
+    w: &[u8],
+    tail: bool,
+    span: Span,
+) -> Voiced
+    requires { ⌜ Prepared (now rules) (now ready) × FineVowels (now vowels) × (length (now w) ≤ most-target)
+        × (span .from < span .to) × (span .to ≤ size-in (now line)) ⌝ }
+    ensures { λ v. ⌜ Voices (now (rules .entry)) (now (ready .entry)) (now (code .entry)) (now (line .entry)) (now (places .entry)) (now (places .exit))
+        (λ L t e. vowel-step L t e (vowels-of (now (vowels .entry))) tail (now (w .entry)) (span .from) (span .to)) (rom (now (w .entry))) most-vowel v ⌝ }
+{
+    vowel_step::add_default_abugida_vowel(
+        rules,
+        ready,
+        vowels,
+        code,
+        line,
+        places,
+        rom::bytes_of(w),
+        tail,
+        span,
+    )
+}
+
+// A romanization through the expansion, and put into what is lent.
+fn put_expanded(
+    rules: &[u8],
+    ready: &[u32],
+    code: &[u8],
+    line: &[u32],
+    places: &mut [u32],
+    r: Rom,
+    span: Span,
+    bytes: &mut [u8],
+) -> Expanded
+    requires { ⌜ Prepared (now rules) (now ready) × Clean r × (r .len ≤ most-target + most-vowel)
+        × (span .from < span .to) × (span .to ≤ size-in (now line)) × (length (now bytes) ≡ most-bytes) ⌝ }
+    ensures { λ x. ⌜ Expands (now (rules .entry)) (now (ready .entry)) (now (code .entry)) (now (line .entry)) (now (places .entry)) (now (places .exit))
+        (text r) span (expanded (now (bytes .exit)) x) × Clean (held (now (bytes .exit)) (x .len)) ⌝ }
+{
+    let x = expand::expand_rom_with_special_chars(
+        words::choices_in(ready),
+        rules,
+        ready,
+        code,
+        line,
+        places,
+        r,
+        span,
+    );
+    lent_bytes::put_text(bytes, &x.rom.bytes);
+    Expanded {
+        len: x.rom.len,
+        from: x.from,
+        to: x.to,
+        note: x.note,
+    }
+}
+
 // The edge of a span with a romanization `w`: vowel step, then expansion.
 fn edge_of(
     rules: &[u8],
@@ -115,47 +192,24 @@ fn edge_of(
     w: &[u8],
     tail: bool,
     span: Span,
+    bytes: &mut [u8],
 ) -> Spanned
     requires { ⌜ Prepared (now rules) (now ready) × FineVowels (now vowels) × (length (now w) ≤ most-target)
-        × (span .from < span .to) × (span .to ≤ size-in (now line)) ⌝ }
+        × (span .from < span .to) × (span .to ≤ size-in (now line)) × (length (now bytes) ≡ most-bytes) ⌝ }
     ensures { λ r. ⌜ FindsEdge (now (rules .entry)) (now (ready .entry)) (now (vowels .entry)) (now (code .entry)) (now (line .entry))
-        (now (places .entry)) (now (places .exit)) (λ D t v. edge-of D t v tail (now (w .entry)) (span .from) (span .to)) r ⌝ }
+        (now (places .entry)) (now (places .exit)) (λ D t v. edge-of D t v tail (now (w .entry)) (span .from) (span .to)) (now (bytes .exit)) r ⌝ }
 {
-    let core = w.len();
-    let rom = rom::bytes_of(w);
-    let v = vowel_step::add_default_abugida_vowel(
-        rules,
-        ready,
-        vowels,
-        code,
-        line,
-        places,
-        rom,
-        tail,
-        span,
-    );
-    let new = v.rom;
-    let choices = words::choices_in(ready);
-    let x = expand::expand_rom_with_special_chars(
-        choices,
-        rules,
-        ready,
-        code,
-        line,
-        places,
-        new,
-        span,
-    );
-    let whole = x.rom;
+    let v = voiced(rules, ready, vowels, code, line, places, w, tail, span);
+    let x = put_expanded(rules, ready, code, line, places, v.rom, span, bytes);
     Spanned {
         there: true,
-        numbers: as_edge(tail, core, v.grown, x.from, x.to, x.note),
-        rom: whole,
+        numbers: as_edge(tail, w.len(), v.grown, x.from, x.to, x.note),
+        len: x.len,
     }
 }
 
-// The edge of a span, where full search answers a text.
-pub fn span_edge(
+// The edge of a span, where full search answers a text; its own is put into what is lent.
+pub fn put_span_edge(
     rules: &[u8],
     ready: &[u32],
     vowels: &[u8],
@@ -163,10 +217,12 @@ pub fn span_edge(
     line: &[u32],
     places: &mut [u32],
     look: Look,
+    bytes: &mut [u8],
 ) -> Spanned
-    requires { ⌜ Prepared (now rules) (now ready) × FineVowels (now vowels) × Looked (now rules) (now line) look ⌝ }
+    requires { ⌜ Prepared (now rules) (now ready) × FineVowels (now vowels) × Looked (now rules) (now line) look × (length (now bytes) ≡ most-bytes) ⌝ }
     ensures { λ r. ⌜ Finds (now (rules .entry)) (now (ready .entry)) (now (vowels .entry)) (now (code .entry)) (now (line .entry))
-        (now (places .entry)) (now (places .exit)) (λ D t v. span-edge D t v (look .from) (look .to)) (found r) × Clean (r .rom) ⌝ }
+        (now (places .entry)) (now (places .exit)) (λ D t v. span-edge D t v (look .from) (look .to)) (found (now (bytes .exit)) r)
+        × Leaves (now (bytes .entry)) (now (bytes .exit)) r ⌝ }
 {
     let span = Span {
         from: look.from,
@@ -192,6 +248,7 @@ pub fn span_edge(
             without_plus(w),
             is_tail(w),
             span,
+            bytes,
         );
     }
     Spanned {
@@ -202,7 +259,7 @@ pub fn span_edge(
             note: edge::UNTOUCHED,
             core: 0,
         },
-        rom: rom::new(),
+        len: 0,
     }
 }
 

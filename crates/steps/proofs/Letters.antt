@@ -5,8 +5,8 @@ use mathlib.Core.Path.{_≡_, refl, sym, ap, _∙_}
 use Prim.Native.Nat.{ℕ, _-_, _≤_, _<_}
 use native.Mathlib.Omega.{arith}
 use lib.Dec.{eqb}
-use lib.ListN.{length, take, getD, length-reverse}
-use lib.Seq.{getD-take}
+use lib.ListN.{length, take, drop, getD, length-reverse}
+use lib.Seq.{slice, take-take}
 use borrow.Author.Tests.{eq-eqb, ne-eqb}
 use Rattle.base.specs.Pick.{pick, pick-all}
 use Rattle.base.specs.Bools.{and-right}
@@ -14,17 +14,41 @@ use Rattle.base.specs.Lists.{head, tail, is, starts}
 use Rattle.base.specs.ListLaws.{tail-length}
 use Rattle.definition.specs.Texts.{Text, chars, among, addak, long-mark, vowels, consonants, the-space, last-is, without-last}
 use Rattle.definition.specs.Expansion.{doubling, doubled}
-use Rattle.rom.specs.declared.Rom.{Rom}
-use Rattle.rom.specs.Rom.{text, Clean, bytes-length}
-use Rattle.rom.proofs.Backwards.{back-cons}
+use Rattle.rom.proofs.Backwards.{back-cons, front-less}
 use Rattle.steps.specs.Works.{first-of, last-of, letter-of, kana, long-by, front-of, back-of}
 
--- where there is a letter, they are the bytes at 0 and at the length less one
-pub first-byte : (r : Rom) → 0 < r .len → getD (r .bytes) 0 0 ≡ first-of (text r)
-first-byte r h = sym (getD-take (r .len) (r .bytes) 0 0 h)
+-- the last of the first `n` bytes, and that of none
+pub last-at : (b : List ℕ) (n : ℕ) → 0 < n → n ≤ length b → getD b (n - 1) 0 ≡ last-of (take n b)
+last-at b n h l = sym (ap (λ (w : List ℕ). getD w 0 0) (back-cons b n h l))
 
-pub last-byte : (r : Rom) → Clean r → 0 < r .len → getD (r .bytes) (r .len - 1) 0 ≡ last-of (text r)
-last-byte r c h = sym (ap (λ (l : List ℕ). getD l 0 0) (back-cons (r .bytes) (r .len) h (omega (arith, bytes-length c, c .fits))))
+pub none-last : (w : Text) → length w ≡ 0 → 0 ≡ last-of w
+none-last [] h = refl
+none-last (c ∷ w) h = absurd (omega arith)
+
+-- a text with a last letter is not empty
+pub not-empty : (q : ℕ → Bool) (w : Text) → is q (head (reverse w)) ≡ true → 0 < length w
+unfolding head
+not-empty q [] e = absurd (true≢false (sym e))
+not-empty q (c ∷ w) e = omega arith
+
+-- a text that starts with a space is not empty, nor is one that ends with it
+pub some-first : (w : Text) → first-of w ≡ the-space → 0 < length w
+some-first [] e = absurd (omega arith)
+some-first (c ∷ w) e = omega arith
+
+pub some-last : (w : Text) → last-of w ≡ the-space → 0 < length w
+some-last w e = omega (arith, some-first (reverse w) e, length-reverse w)
+
+-- the first `n` bytes without the first of them, and without the last
+behind-first : (w : Text) → drop 1 w ≡ tail w
+behind-first [] = refl
+behind-first (c ∷ w) = refl
+
+pub all-but-first : (b : List ℕ) (n : ℕ) → slice 1 n (take n b) ≡ tail (take n b)
+all-but-first b n = ap (drop 1) (take-take n n b (omega arith)) ∙ behind-first (take n b)
+
+pub all-but-last : (b : List ℕ) (n : ℕ) → 0 < n → n ≤ length b → slice 0 (n - 1) (take n b) ≡ without-last (take n b)
+all-but-last b n h l = take-take (n - 1) n b (omega arith) ∙ sym (front-less b n h l)
 
 -- a test that 0 fails
 module _ (q : ℕ → Bool) (z : q 0 ≡ false) where

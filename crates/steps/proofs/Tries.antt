@@ -7,7 +7,7 @@ use Prim.Native.Nat.{ℕ, _+_, _-_, _≤_}
 use native.Mathlib.Nat.{add-zero}
 use native.Mathlib.Omega.{arith}
 use lib.Dec.{eqb}
-use lib.ListN.{length, drop}
+use lib.ListN.{length, take, drop}
 use borrow.Author.Tests.{eq-eqb, ne-eqb}
 use Rattle.base.specs.Pick.{pick}
 use Rattle.base.specs.Lists.{all, has, maybe, or-else}
@@ -25,14 +25,13 @@ use Rattle.definition.specs.Shorts.{Short}
 use Rattle.definition.specs.Expansion.{work, widen, around-by, around, pre-vowel, before}
 use Rattle.definition.specs.Expansion as expansion
 use Rattle.table_classes.specs.Told.{Fine}
-use Rattle.rom.specs.Rom.{text}
 use Rattle.rom.specs.Sets.{member, consonants-set, in-consonants, all-as}
 use Rattle.rule_choice.specs.Chosen.{chosen-means, Said, or-nothing}
 use Rattle.rule_choice.specs.declared.Chosen.{Chosen}
 use Rattle.rule_choice.specs.declared.Chosen.the-variants.{Target, EndTarget, Untold}
-use Rattle.steps.specs.declared.Work.{Work}
+use Rattle.steps.specs.declared.Growing.{Growing}
 use Rattle.steps.specs.declared.Tried.{Tried}
-use Rattle.steps.specs.Works.{work-of, Tries, first-of, framed-by, before-by}
+use Rattle.steps.specs.Works.{work-in, Tries, first-of, framed-by, before-by}
 use Rattle.steps.proofs.Letters.{first-passes, no-consonant}
 
 -- a target has 64 bytes at most
@@ -46,15 +45,21 @@ said-short rules (EndTarget row) h =
     subst (Opt (Short most-target)) (ap (λ (b : Bool). text-where b (drop (end-target-at s) s)) (h .1)) (h .0 .spoken .end-target) .long
 said-short rules Untold h = omega arith
 
-abbrev tried : Work → Bool → Tried
-tried w b = record { work = w; done = b }
+abbrev tried : Growing → Bool → Tried
+tried g b = record { growing = g; done = b }
 
-pub not-done : (w : Work) (o : Option expansion.Work) → o ≡ none → Tries w o (tried w false)
+pub not-done : (b : List ℕ) (g : Growing) (o : Option expansion.Work) → o ≡ none → Tries b g o b (tried g false)
 unfolding maybe
-not-done w o e = record { done = sym (ap has e); work = sym (ap (λ (o : Option expansion.Work). maybe o (work-of w) (λ x. x)) e) }
+not-done b g o e = record { done = sym (ap has e); work = sym (ap (λ (o : Option expansion.Work). maybe o (work-in b g) (λ x. x)) e) }
 
-pub tries-as : {w : Work} {o u : Option expansion.Work} {r : Tried} → o ≡ u → Tries w o r → Tries w u r
-tries-as {w} {o} {u} {r} e d = subst (λ (x : Option expansion.Work). Tries w x r) e d
+module _ {b d : List ℕ} {g : Growing} {r : Tried} where
+  pub tries-as : {o u : Option expansion.Work} → o ≡ u → Tries b g o d r → Tries b g u d r
+  tries-as e h = subst (λ (x : Option expansion.Work). Tries b g x d r) e h
+
+  -- a try of the pattern after one that was not done
+  pub around-on : {c : List ℕ} (rs : List Rule) (t : Text) (k : ℕ) → c ≡ b → Tries c g (around-by rs t k (work-in c g)) d r
+      → Tries b g (around-by rs t k (work-in b g)) d r
+  around-on rs t k e h = subst (λ (x : List ℕ). Tries x g (around-by rs t k (work-in x g)) d r) e h
 
 -- A target put behind, or none
 pub no-target : (w : expansion.Work) (k : ℕ) (o : Option Text) → has o ≡ false → widen k w o ≡ none
@@ -62,11 +67,11 @@ unfolding widen
 no-target w k none e = refl
 no-target w k (some y) e = absurd (true≢false e)
 
-pub a-target : (w x : Work) (k : ℕ) (o : Option Text) → has o ≡ true
-    → work-of x ≡ work (text (w .rom) ++ or-nothing o) (w .from - 1) (w .to + k) note-exp → Tries w (widen k (work-of w) o) (tried x true)
+pub a-target : (b d : List ℕ) (g x : Growing) (k : ℕ) (o : Option Text) → has o ≡ true
+    → work-in d x ≡ work (take (g .len) b ++ or-nothing o) (g .from - 1) (g .to + k) note-exp → Tries b g (widen k (work-in b g) o) d (tried x true)
 unfolding widen maybe
-a-target w x k none e f = absurd (true≢false (sym e))
-a-target w x k (some y) e f = record { done = refl; work = f }
+a-target b d g x k none e f = absurd (true≢false (sym e))
+a-target b d g x k (some y) e f = record { done = refl; work = f }
 
 -- it takes the character before the span, and with none after it ends where the span did
 pub behind-there : (w : expansion.Work) (o : Option Text) → (maybe (widen 0 w o) w (λ x. x) .from ≤ w .from) × (maybe (widen 0 w o) w (λ x. x) .to ≡ w .to)

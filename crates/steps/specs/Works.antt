@@ -1,28 +1,40 @@
 -- What the expansion works on, as the definition has it, and its letters.
-use mathlib.Core.Bool.{Bool, _&&_, _||_}
-use mathlib.Core.List.{[], _∷_, reverse}
+use mathlib.Core.Bool.{Bool, false, _&&_, _||_}
+use mathlib.Core.List.{List, [], _∷_, reverse}
 use mathlib.Core.Option.{Option}
 use mathlib.Core.Path.{_≡_}
 use Prim.Native.Nat.{ℕ, _+_}
 use lib.Dec.{eqb}
-use lib.ListN.{getD}
+use lib.ListN.{getD, take}
 use Rattle.base.specs.Pick.{pick}
 use Rattle.base.specs.Lists.{all, head, tail, has, is, maybe}
 use Rattle.definition.specs.Texts.{Text, the-space, long-mark, vowels, consonants, last-is, without-last}
 use Rattle.definition.specs.Tables.{script-thai, script-hiragana, script-katakana}
 use Rattle.definition.specs.Expansion.{work}
 use Rattle.definition.specs.Expansion as expansion
-use Rattle.rom.specs.Rom.{text}
+use Rattle.rom.specs.Rom.{text, held, Clean}
 use Rattle.steps.specs.declared.Work.{Work}
+use Rattle.steps.specs.declared.Growing.{Growing}
 use Rattle.steps.specs.declared.Tried.{Tried}
 
 abbrev pub work-of : Work → expansion.Work
 work-of w = work (text (w .rom)) (w .from) (w .to) (w .note)
 
+-- while its romanization is in the array `b`
+abbrev pub work-in : List ℕ → Growing → expansion.Work
+work-in b g = work (take (g .len) b) (g .from) (g .to) (g .note)
+
+abbrev pub Held : List ℕ → Growing → Type 0
+Held b g = Clean (held b (g .len))
+
 -- what came of a try: `o` is the definition's outcome, none where it was not done
-pub record Tries (w : Work) (o : Option expansion.Work) (r : Tried) : Type 0 where
+pub record Tries (before : List ℕ) (g : Growing) (o : Option expansion.Work) (after : List ℕ) (r : Tried) : Type 0 where
   pub done : r .done ≡ has o
-  pub work : work-of (r .work) ≡ maybe o (work-of w) (λ x. x)
+  pub work : work-in after (r .growing) ≡ maybe o (work-in before g) (λ x. x)
+
+-- the array stayed as it was where it was not done
+abbrev pub Kept : List ℕ → List ℕ → Tried → Type 0
+Kept before after r = r .done ≡ false → after ≡ before
 
 -- the first letter of a text and the last, 0 where there is none
 abbrev pub first-of : Text → ℕ

@@ -11,10 +11,10 @@ ghost use Rattle.definition.specs.Texts.{the-space, stands, vowels, last-is};
 ghost use Rattle.definition.specs.Notes.{note-exp};
 ghost use Rattle.definition.specs.RuleRows.{rules-of};
 ghost use Rattle.definition.specs.Expansion.{work, small-tsu, doubled, double, widen, around-by, around, before, trim, finish};
-ghost use Rattle.rom.specs.Rom.{text, rom, Clean};
+ghost use Rattle.rom.specs.Rom.{rom, held, Clean};
 ghost use Rattle.words.specs.Given.{World, kinds, size-in, Prepared, Lined};
 ghost use Rattle.rule_choice.specs.Chosen.{chosen-means, Said};
-ghost use Rattle.steps.specs.Works.{work-of, Tries, first-of, last-of, letter-of, framed-by, before-by, kana, long-by, front-of, back-of};
+ghost use Rattle.steps.specs.Works.{work-in, Held, Tries, Kept, last-of, letter-of, framed-by, before-by, kana, long-by, front-of, back-of};
 use rom::Rom;
 use rule_choice::Chosen;
 
@@ -34,7 +34,7 @@ const SPACE: u32 = 0x20;
 // U+30FC, the mark that lengthens a kana's vowel.
 const LONG_MARK: u32 = 0x30FC;
 
-// What the expansion works on: a romanization, its span, and its annotation, 0 while nothing was expanded.
+// What the expansion makes: a romanization, its span, and its annotation, 0 while nothing was expanded.
 pub struct Work {
     pub rom: Rom,
     pub from: usize,
@@ -42,33 +42,29 @@ pub struct Work {
     pub note: u8,
 }
 
-// What came of a try: the work as it was where it was not done. (An enum can't hold an array.)
+// The same while the steps are at it: the romanization is the first `len` bytes of one array, which is lent to each step.
+pub struct Growing {
+    pub len: usize,
+    pub from: usize,
+    pub to: usize,
+    pub note: u8,
+}
+
+// What came of a try: all as it was where it was not done.
 pub struct Tried {
-    pub work: Work,
+    pub growing: Growing,
     pub done: bool,
 }
 
-// The first letter of a romanization, and the last; 0 where there is none.
-fn first(r: Rom) -> u8
-    requires { ⌜ Clean r ⌝ }
-    ensures { λ b. ⌜ b ≡ first-of (text r) ⌝ }
+// The last letter of a text; 0 where there is none.
+fn last(text: &[u8]) -> u32
+    ensures { λ b. ⌜ b ≡ last-of (now (text .entry)) ⌝ }
 {
-    let n = r.len;
+    let n = text.len();
     if n == 0 {
         return 0;
     }
-    r.bytes[0]
-}
-
-fn last(r: Rom) -> u8
-    requires { ⌜ Clean r ⌝ }
-    ensures { λ b. ⌜ b ≡ last-of (text r) ⌝ }
-{
-    let n = r.len;
-    if n == 0 {
-        return 0;
-    }
-    r.bytes[n - 1]
+    base::byte(text, n - 1)
 }
 
 // Small tsu, or addak.
@@ -85,99 +81,94 @@ fn is_small_tsu(c: u32) -> bool
 }
 
 // The letter that doubles the first one after the character `c`: ch is doubled by t, after addak by c. 0 where none does.
-fn doubling_letter(c: u32, r: Rom) -> u8
-    requires { ⌜ Clean r ⌝ }
-    ensures { λ b. ⌜ letter-of b ≡ doubled c (text r) ⌝ }
+fn doubling_letter(c: u32, text: &[u8]) -> u8
+    ensures { λ b. ⌜ letter-of b ≡ doubled c (now (text .entry)) ⌝ }
 {
-    let n = r.len;
-    let bytes = r.bytes;
-    if rom::starts_with(&bytes[..n], b"ch") {
+    if rom::starts_with(text, b"ch") {
         if c == ADDAK {
             return b'c';
         }
         return b't';
     }
-    let letter = first(r);
-    if rom::is_in(rom::DOUBLING, letter as u32) {
-        return letter;
+    let letter = base::byte(text, 0);
+    if rom::is_in(rom::DOUBLING, letter) {
+        return letter as u8;
     }
     0
 }
 
 // A letter put in front, over the character before the span.
-fn put_front(w: Work, letter: u8) -> Work
-    requires { ⌜ Clean (w .rom) × (w .rom .len < most-bytes) × (0 < w .from) ⌝ }
-    ensures { λ r. ⌜ (work-of r ≡ work (letter ∷ text (w .rom)) (w .from - 1) (w .to) note-exp)
-        × Clean (r .rom) × (r .rom .len ≡ w .rom .len + 1) ⌝ }
+fn put_front(bytes: &mut [u8], letter: u8, g: Growing) -> Growing
+    requires { ⌜ Held (now bytes) g × (g .len < most-bytes) × (0 < g .from) ⌝ }
+    ensures { λ r. ⌜ (work-in (now (bytes .exit)) r ≡ work (letter ∷ take (g .len) (now (bytes .entry))) (g .from - 1) (g .to) note-exp)
+        × Held (now (bytes .exit)) r × (r .len ≡ g .len + 1) ⌝ }
 {
-    let old = w.rom;
-    let made = rom::insert_front(old, &[letter]);
-    Work {
-        rom: made,
-        from: w.from - 1,
-        to: w.to,
+    let len = rom::put_front(bytes, g.len, letter);
+    Growing {
+        len,
+        from: g.from - 1,
+        to: g.to,
         note: edge::EXPANDED,
     }
 }
 
 // Doubling by the character before `o`, where the span starts, if it is of the script of the one at `o`.
-pub fn double(line: &[u32], o: usize, w: Work) -> Work
-    requires { ⌜ Clean (w .rom) × (w .rom .len < most-bytes) × (w .from ≡ o) × (o ≤ size-in (now line)) ⌝ }
-    ensures { λ r. ⌜ ((x : World) → Lined x (now (line .entry)) → work-of r ≡ double (kinds x) (x .text) o (work-of w))
-        × Clean (r .rom) × (r .rom .len ≤ w .rom .len + 1) × (r .from ≤ w .from) × (r .to ≡ w .to) ⌝ }
+pub fn doubling(line: &[u32], o: usize, bytes: &mut [u8], g: Growing) -> Growing
+    requires { ⌜ Held (now bytes) g × (g .len < most-bytes) × (g .from ≡ o) × (o ≤ size-in (now line)) ⌝ }
+    ensures { λ r. ⌜ ((x : World) → Lined x (now (line .entry)) → work-in (now (bytes .exit)) r ≡ double (kinds x) (x .text) o (work-in (now (bytes .entry)) g))
+        × Held (now (bytes .exit)) r × (r .len ≤ g .len + 1) × (r .from ≤ g .from) × (r .to ≡ g .to) ⌝ }
 {
     if o == 0 {
-        return w;
+        return g;
     }
     let c = words::number_at(line, o);
     if is_small_tsu(c) {
         let script = table_classes::script(words::kind_at(line, o));
         if script == table_classes::script(words::kind_at(line, o + 1)) {
-            let old = w.rom;
-            let letter = doubling_letter(c, old);
+            let letter = doubling_letter(c, &bytes[..g.len]);
             if letter == 0 {
-                return w;
+                return g;
             }
-            return put_front(w, letter);
+            return put_front(bytes, letter, g);
         }
-        return w;
+        return g;
     }
-    w
+    g
 }
 
 // A target put behind, if there is one, over the character before the span and those after it up to `to`.
-fn put_behind(rules: &[u8], target: Chosen, w: Work, to: usize) -> Tried
-    requires { ⌜ Said (now rules) target × Clean (w .rom) × (w .rom .len + most-target ≤ most-bytes) × (0 < w .from) ⌝ }
-    ensures { λ r. ⌜ ((k : ℕ) → to ≡ w .to + k → Tries w (widen k (work-of w) (chosen-means (now (rules .entry)) target)) r)
-        × Clean (r .work .rom) × (r .work .rom .len ≤ w .rom .len + most-target) ⌝ }
+fn put_behind(rules: &[u8], target: Chosen, bytes: &mut [u8], g: Growing, to: usize) -> Tried
+    requires { ⌜ Said (now rules) target × Held (now bytes) g × (g .len + most-target ≤ most-bytes) × (0 < g .from) ⌝ }
+    ensures { λ r. ⌜ ((k : ℕ) → to ≡ g .to + k
+        → Tries (now (bytes .entry)) g (widen k (work-in (now (bytes .entry)) g) (chosen-means (now (rules .entry)) target)) (now (bytes .exit)) r)
+        × Held (now (bytes .exit)) (r .growing) × (r .growing .len ≤ g .len + most-target) × Kept (now (bytes .entry)) (now (bytes .exit)) r ⌝ }
 {
     if rule_choice::is_told(target) {
-        let old = w.rom;
-        let made = rom::append(old, rule_choice::chosen_text(rules, target));
-        let work = Work {
-            rom: made,
-            from: w.from - 1,
+        let len = rom::put_behind(bytes, g.len, rule_choice::chosen_text(rules, target));
+        let growing = Growing {
+            len,
+            from: g.from - 1,
             to,
             note: edge::EXPANDED,
         };
-        return Tried { work, done: true };
+        return Tried {
+            growing,
+            done: true,
+        };
     }
     Tried {
-        work: w,
+        growing: g,
         done: false,
     }
 }
 
 // Is the span one character, spoken as consonants, after a character of class `kind` that is written before its consonant?
-fn is_framed(kind: u32, w: Work) -> bool
-    requires { ⌜ Clean (w .rom) × (w .from < w .to) ⌝ }
-    ensures { λ r. ⌜ r ≡ framed-by (flagged (kind / 1024) 6) (work-of w) ⌝ }
+fn is_framed(kind: u32, text: &[u8], g: Growing) -> bool
+    requires { ⌜ g .from < g .to ⌝ }
+    ensures { λ r. ⌜ r ≡ framed-by (flagged (kind / 1024) 6) (work (now (text .entry)) (g .from) (g .to) (g .note)) ⌝ }
 {
-    let old = w.rom;
-    let len = old.len;
-    let bytes = old.bytes;
-    if w.from + 1 == w.to {
-        if rom::all_in(&bytes[..len], rom::CONSONANTS) {
+    if g.from + 1 == g.to {
+        if rom::all_in(text, rom::CONSONANTS) {
             return table_classes::class_flag(kind, table_classes::PRE);
         }
         return false;
@@ -186,69 +177,83 @@ fn is_framed(kind: u32, w: Work) -> bool
 }
 
 // The first rule of the character before the span, an en dash and the `k` characters after the span, if there are so many.
-fn around_by(rules: &[u8], ready: &[u32], line: &[u32], w: Work, k: usize) -> Tried
-    requires { ⌜ Prepared (now rules) (now ready) × Clean (w .rom) × (w .rom .len + most-target ≤ most-bytes)
-        × (0 < w .from) × (w .from ≤ size-in (now line)) × (w .to ≤ size-in (now line)) × (1 ≤ k) × (k ≤ 3) ⌝ }
-    ensures { λ r. ⌜ ((x : World) → Lined x (now (line .entry)) → Tries w (around-by (rules-of (now (rules .entry))) (x .text) k (work-of w)) r)
-        × Clean (r .work .rom) × (r .work .rom .len ≤ w .rom .len + most-target) ⌝ }
+fn around_by(
+    rules: &[u8],
+    ready: &[u32],
+    line: &[u32],
+    bytes: &mut [u8],
+    g: Growing,
+    k: usize,
+) -> Tried
+    requires { ⌜ Prepared (now rules) (now ready) × Held (now bytes) g × (g .len + most-target ≤ most-bytes)
+        × (0 < g .from) × (g .from ≤ size-in (now line)) × (g .to ≤ size-in (now line)) × (1 ≤ k) × (k ≤ 3) ⌝ }
+    ensures { λ r. ⌜ ((x : World) → Lined x (now (line .entry))
+        → Tries (now (bytes .entry)) g (around-by (rules-of (now (rules .entry))) (x .text) k (work-in (now (bytes .entry)) g)) (now (bytes .exit)) r)
+        × Held (now (bytes .exit)) (r .growing) × (r .growing .len ≤ g .len + most-target) × Kept (now (bytes .entry)) (now (bytes .exit)) r ⌝ }
 {
-    let to = w.to;
+    let to = g.to;
     let end = to + k;
     if words::text_len(line) < end {
         return Tried {
-            work: w,
+            growing: g,
             done: false,
         };
     }
-    let vowel = words::number_at(line, w.from);
+    let vowel = words::number_at(line, g.from);
     let one = words::number_at(line, to + 1);
     let two = words::number_at(line, to + 2);
     let three = words::number_at(line, to + 3);
     let source = [vowel, EN_DASH, one, two, three];
     let len = k + 2;
     let target = rule_choice::romanization_by_first_rule(rules, ready, &source[..len]);
-    put_behind(rules, target, w, end)
+    put_behind(rules, target, bytes, g, end)
 }
 
 // Thai pattern: a vowel written around its consonant, the longest first.
-pub fn around(rules: &[u8], ready: &[u32], line: &[u32], w: Work) -> Tried
-    requires { ⌜ Prepared (now rules) (now ready) × Clean (w .rom) × (w .rom .len + most-target ≤ most-bytes)
-        × (w .from < w .to) × (w .to ≤ size-in (now line)) ⌝ }
-    ensures { λ r. ⌜ ((x : World) → Lined x (now (line .entry)) → Tries w (around (rules-of (now (rules .entry))) (kinds x) (x .text) (work-of w)) r)
-        × Clean (r .work .rom) × (r .work .rom .len ≤ w .rom .len + most-target) ⌝ }
+pub fn vowel_around(
+    rules: &[u8],
+    ready: &[u32],
+    line: &[u32],
+    bytes: &mut [u8],
+    g: Growing,
+) -> Tried
+    requires { ⌜ Prepared (now rules) (now ready) × Held (now bytes) g × (g .len + most-target ≤ most-bytes)
+        × (g .from < g .to) × (g .to ≤ size-in (now line)) ⌝ }
+    ensures { λ r. ⌜ ((x : World) → Lined x (now (line .entry))
+        → Tries (now (bytes .entry)) g (around (rules-of (now (rules .entry))) (kinds x) (x .text) (work-in (now (bytes .entry)) g)) (now (bytes .exit)) r)
+        × Held (now (bytes .exit)) (r .growing) × (r .growing .len ≤ g .len + most-target) × Kept (now (bytes .entry)) (now (bytes .exit)) r ⌝ }
 {
-    let from = w.from;
+    let from = g.from;
     if from == 0 {
         return Tried {
-            work: w,
+            growing: g,
             done: false,
         };
     }
-    if is_framed(words::kind_at(line, from), w) {
-        let three = around_by(rules, ready, line, w, 3);
+    if is_framed(words::kind_at(line, from), &bytes[..g.len], g) {
+        let three = around_by(rules, ready, line, bytes, g, 3);
         if three.done {
             return three;
         }
-        let two = around_by(rules, ready, line, w, 2);
+        let two = around_by(rules, ready, line, bytes, g, 2);
         if two.done {
             return two;
         }
-        return around_by(rules, ready, line, w, 1);
+        return around_by(rules, ready, line, bytes, g, 1);
     }
     Tried {
-        work: w,
+        growing: g,
         done: false,
     }
 }
 
-// Is a character of class `kind` Thai and written before its consonant, and does a romanization start with one?
-fn is_before(kind: u32, r: Rom) -> bool
-    requires { ⌜ Clean r ⌝ }
-    ensures { λ b. ⌜ b ≡ before-by (kind / 8 % 128) (flagged (kind / 1024) 6) (text r) ⌝ }
+// Is a character of class `kind` Thai and written before its consonant, and does a text start with one?
+fn is_before(kind: u32, text: &[u8]) -> bool
+    ensures { λ b. ⌜ b ≡ before-by (kind / 8 % 128) (flagged (kind / 1024) 6) (now (text .entry)) ⌝ }
 {
     if table_classes::script(kind) == table_classes::THAI {
         if table_classes::class_flag(kind, table_classes::PRE) {
-            return rom::is_in(rom::CONSONANTS, first(r) as u32);
+            return rom::is_in(rom::CONSONANTS, base::byte(text, 0));
         }
         return false;
     }
@@ -256,24 +261,30 @@ fn is_before(kind: u32, r: Rom) -> bool
 }
 
 // Thai vowel that is written before its consonant and spoken behind it: what its first rule says is put behind.
-pub fn before(rules: &[u8], ready: &[u32], line: &[u32], w: Work) -> Work
-    requires { ⌜ Prepared (now rules) (now ready) × Clean (w .rom) × (w .rom .len + most-target ≤ most-bytes)
-        × (w .from < w .to) × (w .to ≤ size-in (now line)) ⌝ }
-    ensures { λ r. ⌜ ((x : World) → Lined x (now (line .entry)) → work-of r ≡ before (rules-of (now (rules .entry))) (kinds x) (x .text) (work-of w))
-        × Clean (r .rom) × (r .rom .len ≤ w .rom .len + most-target) × (r .from ≤ w .from) × (r .to ≡ w .to) ⌝ }
+pub fn vowel_before(
+    rules: &[u8],
+    ready: &[u32],
+    line: &[u32],
+    bytes: &mut [u8],
+    g: Growing,
+) -> Growing
+    requires { ⌜ Prepared (now rules) (now ready) × Held (now bytes) g × (g .len + most-target ≤ most-bytes)
+        × (g .from < g .to) × (g .to ≤ size-in (now line)) ⌝ }
+    ensures { λ r. ⌜ ((x : World) → Lined x (now (line .entry))
+        → work-in (now (bytes .exit)) r ≡ before (rules-of (now (rules .entry))) (kinds x) (x .text) (work-in (now (bytes .entry)) g))
+        × Held (now (bytes .exit)) r × (r .len ≤ g .len + most-target) × (r .from ≤ g .from) × (r .to ≡ g .to) ⌝ }
 {
-    let from = w.from;
+    let from = g.from;
     if from == 0 {
-        return w;
+        return g;
     }
-    let old = w.rom;
-    if is_before(words::kind_at(line, from), old) {
+    if is_before(words::kind_at(line, from), &bytes[..g.len]) {
         let vowel = words::number_at(line, from);
         let target = rule_choice::romanization_by_first_rule(rules, ready, &[vowel]);
-        let tried = put_behind(rules, target, w, w.to);
-        return tried.work;
+        let tried = put_behind(rules, target, bytes, g, g.to);
+        return tried.growing;
     }
-    w
+    g
 }
 
 // Hiragana or katakana.
@@ -286,46 +297,45 @@ fn is_kana(script: u32) -> bool
     script == table_classes::KATAKANA
 }
 
-// Does the character `c` lengthen a romanization: the long mark, after a kana and a vowel?
-fn lengthens(c: u32, script: u32, r: Rom) -> bool
-    requires { ⌜ Clean r ⌝ }
-    ensures { λ b. ⌜ b ≡ long-by c script (text r) ⌝ }
+// Does the character `c` lengthen a text: the long mark, after a kana and a vowel?
+fn lengthens(c: u32, script: u32, text: &[u8]) -> bool
+    ensures { λ b. ⌜ b ≡ long-by c script (now (text .entry)) ⌝ }
 {
     if c == LONG_MARK {
         if is_kana(script) {
-            return rom::is_in(rom::VOWELS, last(r) as u32);
+            return rom::is_in(rom::VOWELS, last(text));
         }
         return false;
     }
     false
 }
 
-// A romanization without the space in front, where the character `c` before the span is one.
-fn trim_front(r: Rom, c: u32) -> Rom
-    requires { ⌜ Clean r ⌝ }
-    ensures { λ q. ⌜ q ≡ rom (front-of c (text r)) ⌝ }
+// The first `n` bytes without the space in front, where the character `c` before the span is one.
+fn trim_front(bytes: &mut [u8], n: usize, c: u32) -> usize
+    requires { ⌜ Clean (held (now bytes) n) ⌝ }
+    ensures { λ q. ⌜ held (now (bytes .exit)) q ≡ rom (front-of c (take n (now (bytes .entry)))) ⌝ }
 {
-    if first(r) == b' ' {
+    if base::byte(&bytes[..n], 0) == SPACE {
         if c == SPACE {
-            return rom::without_first(r);
+            return rom::keep(bytes, n, 1, n);
         }
-        return r;
+        return n;
     }
-    r
+    n
 }
 
-// A romanization without the space behind, where `there` is one after the span.
-fn trim_back(r: Rom, there: bool) -> Rom
-    requires { ⌜ Clean r ⌝ }
-    ensures { λ q. ⌜ q ≡ rom (back-of there (text r)) ⌝ }
+// The first `n` bytes without the space behind, where `there` is one after the span.
+fn trim_back(bytes: &mut [u8], n: usize, there: bool) -> usize
+    requires { ⌜ Clean (held (now bytes) n) ⌝ }
+    ensures { λ q. ⌜ held (now (bytes .exit)) q ≡ rom (back-of there (take n (now (bytes .entry)))) ⌝ }
 {
-    if last(r) == b' ' {
+    if last(&bytes[..n]) == SPACE {
         if there {
-            return rom::without_last(r);
+            return rom::keep(bytes, n, 0, n - 1);
         }
-        return r;
+        return n;
     }
-    r
+    n
 }
 
 // Does a space stand in the text at `p`? The end of the text is none.
@@ -339,58 +349,57 @@ fn is_space_at(line: &[u32], p: usize) -> bool
 }
 
 // One space at each side goes, where the text has one there; its front counts as one.
-fn trim(line: &[u32], w: Work) -> Work
-    requires { ⌜ Clean (w .rom) × (w .from ≤ size-in (now line)) ⌝ }
-    ensures { λ r. ⌜ ((x : World) → Lined x (now (line .entry)) → work-of r ≡ trim (x .text) (work-of w))
-        × Clean (r .rom) × (r .rom .len ≤ w .rom .len) ⌝ }
+fn trim(line: &[u32], bytes: &mut [u8], g: Growing) -> Growing
+    requires { ⌜ Held (now bytes) g × (g .from ≤ size-in (now line)) ⌝ }
+    ensures { λ r. ⌜ ((x : World) → Lined x (now (line .entry)) → work-in (now (bytes .exit)) r ≡ trim (x .text) (work-in (now (bytes .entry)) g))
+        × Held (now (bytes .exit)) r × (r .len ≤ g .len) ⌝ }
 {
-    let old = w.rom;
-    let front = trim_front(old, words::number_at(line, w.from));
-    let made = trim_back(front, is_space_at(line, w.to));
-    Work {
-        rom: made,
-        from: w.from,
-        to: w.to,
-        note: w.note,
+    let front = trim_front(bytes, g.len, words::number_at(line, g.from));
+    let len = trim_back(bytes, front, is_space_at(line, g.to));
+    Growing {
+        len,
+        from: g.from,
+        to: g.to,
+        note: g.note,
     }
 }
 
 // The last letter once more, over the mark after the span, up to `to`.
-fn lengthen(w: Work, to: usize) -> Work
-    requires { ⌜ Clean (w .rom) × (w .rom .len < most-bytes) × (last-is vowels (text (w .rom)) ≡ true) ⌝ }
-    ensures { λ r. ⌜ (work-of r ≡ work (text (w .rom) ++ take 1 (reverse (text (w .rom)))) (w .from) to note-exp)
-        × Clean (r .rom) × (r .rom .len ≡ w .rom .len + 1) ⌝ }
+fn lengthen(bytes: &mut [u8], g: Growing, to: usize) -> Growing
+    requires { ⌜ Held (now bytes) g × (g .len < most-bytes) × (last-is vowels (take (g .len) (now bytes)) ≡ true) ⌝ }
+    ensures { λ r. ⌜ (work-in (now (bytes .exit)) r
+        ≡ work (take (g .len) (now (bytes .entry)) ++ take 1 (reverse (take (g .len) (now (bytes .entry))))) (g .from) to note-exp)
+        × Held (now (bytes .exit)) r × (r .len ≡ g .len + 1) ⌝ }
 {
-    let old = w.rom;
-    let made = rom::push(old, last(old));
-    Work {
-        rom: made,
-        from: w.from,
+    let letter = bytes[g.len - 1];
+    let len = rom::put_behind(bytes, g.len, &[letter]);
+    Growing {
+        len,
+        from: g.from,
         to,
         note: edge::EXPANDED,
     }
 }
 
 // What ends the expansion: a long mark that lengthens, or a virama, which is absorbed, or else spaces trimmed.
-pub fn finish(line: &[u32], w: Work) -> Work
-    requires { ⌜ Clean (w .rom) × (w .rom .len < most-bytes) × (w .from < w .to) × (w .to ≤ size-in (now line)) ⌝ }
-    ensures { λ r. ⌜ ((x : World) → Lined x (now (line .entry)) → work-of r ≡ finish (kinds x) (x .text) (work-of w))
-        × Clean (r .rom) × (r .rom .len ≤ w .rom .len + 1) ⌝ }
+pub fn ending(line: &[u32], bytes: &mut [u8], g: Growing) -> Growing
+    requires { ⌜ Held (now bytes) g × (g .len < most-bytes) × (g .from < g .to) × (g .to ≤ size-in (now line)) ⌝ }
+    ensures { λ r. ⌜ ((x : World) → Lined x (now (line .entry)) → work-in (now (bytes .exit)) r ≡ finish (kinds x) (x .text) (work-in (now (bytes .entry)) g))
+        × Held (now (bytes .exit)) r × (r .len ≤ g .len + 1) ⌝ }
 {
-    let to = w.to;
+    let to = g.to;
     let at = to + 1;
-    let old = w.rom;
     let script = table_classes::script(words::kind_at(line, to));
-    if lengthens(words::number_at(line, at), script, old) {
-        return lengthen(w, at);
+    if lengthens(words::number_at(line, at), script, &bytes[..g.len]) {
+        return lengthen(bytes, g, at);
     }
     if table_classes::class_flag(words::kind_at(line, at), table_classes::VIRAMA) {
-        return Work {
-            rom: old,
-            from: w.from,
+        return Growing {
+            len: g.len,
+            from: g.from,
             to: at,
             note: edge::EXPANDED,
         };
     }
-    trim(line, w)
+    trim(line, bytes, g)
 }

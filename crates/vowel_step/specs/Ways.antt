@@ -17,7 +17,7 @@ use Rattle.definition.specs.Boundaries.{word-start, word-end}
 use Rattle.definition.specs.Vowels.{vowel-row, bases, consonant-only, keeps-end, bare, vowel-in, vowel-by, vowel-step}
 use Rattle.ends.specs.Shown.{form-means}
 use Rattle.ends.specs.declared.Which.{Which}
-use Rattle.words.specs.Did.{Did, did, did-by, outcome}
+use Rattle.words.specs.Did.{Did, did, outcome}
 
 -- the languages that keep the romanization at a word's end in every script
 unfoldable pub keeping : Text → Bool
@@ -151,10 +151,10 @@ module _ (L : Lexicon) (t : Text) (v : View) where
           unfolding vowel-in ret _>>=_ pick
           by-settled f = did (one-test ∙ rw (a, c, d, outcome w, f) (ap (λ (x : Text). (x, m₁)) (sym (settled-as L t s e u))))
 
-  -- of forms, and with an answer, that are equal
-  pub by-forms : (tail : Bool) (s e : ℕ) (m : Mem) {m₁ : Mem} (u w : Text × Text × Text) {r x : Text} → u ≡ w → x ≡ r
-      → Did (vowel-by L t v tail u s e m) r m₁ → Did (vowel-by L t v tail w s e m) x m₁
-  by-forms tail s e m u w h g d = did-by g (rw (sym h) d)
+  -- of forms that are equal
+  pub by-forms : (tail : Bool) (s e : ℕ) (m : Mem) {m₁ : Mem} (u w : Text × Text × Text) {r : Text} → u ≡ w
+      → Did (vowel-by L t v tail u s e m) r m₁ → Did (vowel-by L t v tail w s e m) r m₁
+  by-forms tail s e m u w h d = rw (sym h) d
 
   -- by the row
   module _ (vs : List Vowel) (tail : Bool) (rom : Text) (s e : ℕ) (m : Mem) where

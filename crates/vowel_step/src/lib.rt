@@ -17,13 +17,13 @@ ghost use Rattle.definition.specs.Texts.{Text, khmer-yo, vowels};
 ghost use Rattle.definition.specs.VowelRows.{vowels-of};
 ghost use Rattle.definition.specs.Vowels.{bases, consonant-only, before-yo, bare, keeps-end, vowel-by, vowel-step};
 ghost use Rattle.table_vowels.specs.Told.{FineVowels};
-ghost use Rattle.rom.specs.Rom.{text, Clean};
+ghost use Rattle.rom.specs.Rom.{text, held, Clean};
 ghost use Rattle.ends.specs.Shown.{Within, shown, form-means};
 ghost use Rattle.ends.specs.Grew.{grew};
 ghost use Rattle.words.specs.Given.{World, kinds, size-in, kind-in, Prepared, Told, Lined};
 ghost use Rattle.rule_choice.specs.Lent.{Answers, lexicon-of};
 ghost use Rattle.vowel_step.specs.Ways.{keeping, silent, inside, settled};
-ghost use Rattle.vowel_step.specs.Steps.{Voiceable, Voices};
+ghost use Rattle.vowel_step.specs.Steps.{Voices, voiced};
 
 // U+1799, the Khmer yo.
 const KHMER_YO: u32 = 0x1799;
@@ -222,35 +222,88 @@ fn is_grown(w: Which, f: Forms, letters: &[u8]) -> bool
     }
 }
 
-// The step with a script's vowel: the form is chosen by positions, then made.
-fn vowel_by(
+// The forms of a text, and the one that is chosen.
+struct Shape {
+    forms: Forms,
+    which: Which,
+}
+
+// The form by a script's vowel of type `ao`, chosen by positions.
+fn shape_of(
     rules: &[u8],
     ready: &[u32],
     code: &[u8],
     line: &[u32],
     places: &mut [u32],
-    letters: &[u8],
+    text: &[u8],
     ao: bool,
-    r: Rom,
     tail: bool,
     span: Span,
-) -> Voiced
-    requires { ⌜ Voiceable (now rules) (now ready) (now line) (now letters) r span ⌝ }
-    ensures { λ v. ⌜ Voices (now (rules .entry)) (now (ready .entry)) (now (code .entry)) (now (line .entry)) (now (places .entry)) (now (places .exit))
-        (λ L t e. vowel-by L t e tail (bases ao (now (letters .entry)) (text r) (eqb (span .from + 1) (span .to))) (span .from) (span .to))
-        r (length (now (letters .entry))) v ⌝ }
+) -> Shape
+    requires { ⌜ Prepared (now rules) (now ready) × (span .from < span .to) × (span .to ≤ size-in (now line)) ⌝ }
+    ensures { λ s. ⌜ Within (length (now (text .entry))) (s .forms) × ((vowel : Text)
+        → Answers (now (rules .entry)) (now (ready .entry)) (now (code .entry)) (now (line .entry)) (now (places .entry)) (now (places .exit))
+        (λ L t e. vowel-by L t e tail (bases ao vowel (now (text .entry)) (eqb (span .from + 1) (span .to))) (span .from) (span .to))
+        (form-means (s .which) (shown (now (text .entry)) vowel (s .forms)))) ⌝ }
 {
-    let len = r.len;
-    let b = r.bytes;
-    let f = ends::bases(&b[..len], ao, span.from + 1 == span.to);
-    let w = form(rules, ready, code, line, places, &b[..len], f, tail, span);
-    Voiced {
-        rom: ends::shaped(r, f, w, letters),
-        grown: is_grown(w, f, letters),
+    let forms = ends::bases(text, ao, span.from + 1 == span.to);
+    let which = form(rules, ready, code, line, places, text, forms, tail, span);
+    Shape { forms, which }
+}
+
+// What the vowel step made in its place: so many bytes, and whether it only put vowels behind them.
+struct Grown {
+    len: usize,
+    grown: bool,
+}
+
+// The step on the first `n` bytes of an array, by the vowel row of the script of the span's first character; without one nothing
+// changes.
+fn put_vowel(
+    rules: &[u8],
+    ready: &[u32],
+    vowels: &[u8],
+    code: &[u8],
+    line: &[u32],
+    places: &mut [u32],
+    bytes: &mut [u8],
+    n: usize,
+    tail: bool,
+    span: Span,
+) -> Grown
+    requires { ⌜ Prepared (now rules) (now ready) × FineVowels (now vowels) × Clean (held (now bytes) n) × (n ≤ most-target)
+        × (span .from < span .to) × (span .to ≤ size-in (now line)) ⌝ }
+    ensures { λ v. ⌜ Voices (now (rules .entry)) (now (ready .entry)) (now (code .entry)) (now (line .entry)) (now (places .entry)) (now (places .exit))
+        (λ L t e. vowel-step L t e (vowels-of (now (vowels .entry))) tail (take n (now (bytes .entry))) (span .from) (span .to))
+        (held (now (bytes .entry)) n) most-vowel (voiced (now (bytes .exit)) v) ⌝ }
+{
+    let VowelOf::Row(row) = table_vowels::vowel_row(vowels, script_at(line, span.from + 1)) else {
+        return Grown {
+            len: n,
+            grown: false,
+        };
+    };
+    let letters = table_vowels::vowel_letters(vowels, row);
+    let shape = shape_of(
+        rules,
+        ready,
+        code,
+        line,
+        places,
+        &bytes[..n],
+        row.ao,
+        tail,
+        span,
+    );
+    let which = shape.which;
+    let len = ends::shape(bytes, n, shape.forms, which, letters);
+    Grown {
+        len,
+        grown: is_grown(which, shape.forms, letters),
     }
 }
 
-// By the vowel row of the script of the span's first character; without one nothing changes.
+// A romanization through the vowel step.
 pub fn add_default_abugida_vowel(
     rules: &[u8],
     ready: &[u32],
@@ -267,22 +320,21 @@ pub fn add_default_abugida_vowel(
     ensures { λ v. ⌜ Voices (now (rules .entry)) (now (ready .entry)) (now (code .entry)) (now (line .entry)) (now (places .entry)) (now (places .exit))
         (λ L t e. vowel-step L t e (vowels-of (now (vowels .entry))) tail (text r) (span .from) (span .to)) r most-vowel v ⌝ }
 {
-    let VowelOf::Row(row) = table_vowels::vowel_row(vowels, script_at(line, span.from + 1)) else {
-        return Voiced {
-            rom: r,
-            grown: false,
-        };
-    };
-    vowel_by(
+    let mut bytes = r.bytes;
+    let v = put_vowel(
         rules,
         ready,
+        vowels,
         code,
         line,
         places,
-        table_vowels::vowel_letters(vowels, row),
-        row.ao,
-        r,
+        &mut bytes,
+        r.len,
         tail,
         span,
-    )
+    );
+    Voiced {
+        rom: Rom { bytes, len: v.len },
+        grown: v.grown,
+    }
 }

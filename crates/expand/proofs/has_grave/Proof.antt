@@ -9,7 +9,6 @@ use Rattle.definition.specs.Texts.{at, coptic-grave}
 use Rattle.definition.specs.Tables.{script-coptic}
 use Rattle.words.specs.Given.{kinds, line-size, char-at}
 use Rattle.words.specs.Characters.{script-prev}
-use Rattle.steps.specs.Works.{work-of}
 use Rattle.expand.specs.Tests.{has-grave}
 use Rattle.expand.proofs.Ways.{no-grave-past}
 use borrow.Author.Needs.{needs}
@@ -34,34 +33,34 @@ script-requires c κs = search needs
 returns : tie.Need-returns
 unfolding has-grave
 returns c =
-    let s = c .before .before .before .before .before .before .before .before .before in
-    let a = s .args in
+    let s = c .before .before .before .before .before .before .before in
+    let to = s .args .to in
     let p = s .pre in (
       (λ u g.
           let n = line-size g in
           let t = u .text in
-          let here : at t (a .w .to) ≡ coptic-grave = omega (arith, char-at g (a .w .to) (omega (arith, p .1, n)), c .before .before .before .number-at .ensures) in
-          ap (λ (k : ℕ). eqb k script-coptic) (script-prev g (a .w .to) (omega (arith, p .1, n)) (c .before .kind-at .ensures) (c .script .ensures))
-          ∙ sym (rw (eq-eqb (at t (a .w .to)) coptic-grave here))),
-      (λ h. omega (arith, c .before .before .before .before .before .before .before .text-len .ensures, c .before .before .before .before .before .if1 .taken)),
+          let here : at t to ≡ coptic-grave = omega (arith, char-at g to (omega (arith, p .1, n)), c .before .before .before .number-at .ensures) in
+          ap (λ (k : ℕ). eqb k script-coptic) (script-prev g to (omega (arith, p .1, n)) (c .before .kind-at .ensures) (c .script .ensures))
+          ∙ sym (rw (eq-eqb (at t to) coptic-grave here))),
+      (λ h. omega (arith, c .before .before .before .before .before .text-len .ensures, c .before .before .before .before .if1 .taken)),
     )
 
 returns-2 : tie.Need-returns-2
 unfolding has-grave
 returns-2 c =
-    let s = c .before .before .before .before .before .before .before in
-    let a = s .args in
+    let s = c .before .before .before .before .before in
+    let to = s .args .to in
     let p = s .pre in (
       (λ u g.
-          let h = char-at g (a .w .to) (omega (arith, p .1, line-size g)) in
-          sym (rw (ne-eqb (at (u .text) (a .w .to)) coptic-grave (λ e. omega (arith, e, h, c .before .number-at .ensures))))),
+          let h = char-at g to (omega (arith, p .1, line-size g)) in
+          sym (rw (ne-eqb (at (u .text) to) coptic-grave (λ e. omega (arith, e, h, c .before .number-at .ensures))))),
       (λ h. absurd (true≢false (sym h))),
     )
 
 returns-3 : tie.Need-returns-3
 returns-3 c =
-    let a = c .before .before .before .before .args in (
-      (λ u g. no-grave-past (kinds u) (u .text) (work-of (a .w)) (omega (arith, line-size g, c .before .before .text-len .ensures, c .if1 .left))),
+    let a = c .before .before .before .args in (
+      (λ u g. no-grave-past (kinds u) (u .text) (a .to) (omega (arith, line-size g, c .before .text-len .ensures, c .if1 .left))),
       (λ h. absurd (true≢false (sym h))),
     )
 

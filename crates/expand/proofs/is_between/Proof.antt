@@ -7,7 +7,7 @@ use denote.Ref.{now}
 use Rattle.base.specs.Lists.{is}
 use Rattle.definition.specs.RuleRows.{rules-of}
 use Rattle.definition.specs.Rules.{first-rule}
-use Rattle.steps.specs.Works.{work-of}
+use Rattle.definition.specs.Expansion.{work}
 use Rattle.expand.specs.Sides.{beside}
 use Rattle.expand.proofs.Ways.{not-in-thai, not-behind, by-next}
 use Rattle.words.specs.Given.{kinds, seen, size, line-size, char-at}
@@ -33,28 +33,28 @@ starts-beside-requires c κs = search needs
 returns : tie.Need-returns
 returns c =
     let a = c .before .before .before .before .before .before .before .before .before .before .before .args in
-    λ x g. let z = line-size (g .text) in
+    λ x w h. let z = line-size (h .text) in
     let R = rules-of (now (a .rules)) in
-    let side = c .before .before .before .before .is-after-side .ensures (kinds x) (x .edges) (size x) (g .edges) (omega arith) in
+    let side = c .before .before .before .before .is-after-side .ensures (kinds x) (x .edges) (size x) (h .edges) (omega arith) in
     c .starts-beside .ensures
-    ∙ ap (λ (y : ℕ). is beside (first-rule R (y ∷ []))) (c .before .number-at .ensures ∙ char-at (g .text) (a .w .to) (omega arith))
-    ∙ by-next R (kinds x) (x .text) (work-of (a .w)) (seen x) (sym (c .before .before .before .before .before .before .is-in-thai .ensures x (g .text))
-    ∙ c .before .before .before .before .before .if1 .taken) (sym side ∙ c .before .before .before .if2 .taken)
+    ∙ ap (λ (y : ℕ). is beside (first-rule R (y ∷ []))) (c .before .number-at .ensures ∙ char-at (h .text) (a .g .to) (omega arith))
+    ∙ by-next R (kinds x) (x .text) (work w (a .g .from) (a .g .to) (a .g .note)) (seen x)
+    (sym (c .before .before .before .before .before .before .is-in-thai .ensures x (h .text)) ∙ c .before .before .before .before .before .if1 .taken) (sym side ∙ c .before .before .before .if2 .taken)
 
 returns-2 : tie.Need-returns-2
 returns-2 c =
     let a = c .before .before .before .before .before .before .before .before .args in
-    λ x g. let z = line-size (g .text) in
+    λ x w h. let z = line-size (h .text) in
     let R = rules-of (now (a .rules)) in
-    let side = c .before .is-after-side .ensures (kinds x) (x .edges) (size x) (g .edges) (omega arith) in
-    not-behind R (kinds x) (x .text) (work-of (a .w)) (seen x) (sym (c .before .before .before .is-in-thai .ensures x (g .text)) ∙ c .before .before .if1 .taken) (sym side ∙ c .if2 .left)
+    let side = c .before .is-after-side .ensures (kinds x) (x .edges) (size x) (h .edges) (omega arith) in
+    not-behind R (kinds x) (x .text) (work w (a .g .from) (a .g .to) (a .g .note)) (seen x)
+    (sym (c .before .before .before .is-in-thai .ensures x (h .text)) ∙ c .before .before .if1 .taken) (sym side ∙ c .if2 .left)
 
 returns-3 : tie.Need-returns-3
 returns-3 c =
     let a = c .before .before .before .before .before .before .args in
-    λ x g. let z = line-size (g .text) in
-    let R = rules-of (now (a .rules)) in
-    not-in-thai R (kinds x) (x .text) (work-of (a .w)) (seen x) (sym (c .before .is-in-thai .ensures x (g .text)) ∙ c .if1 .left)
+    λ x w h. let R = rules-of (now (a .rules)) in
+    not-in-thai R (kinds x) (x .text) (work w (a .g .from) (a .g .to) (a .g .note)) (seen x) (sym (c .before .is-in-thai .ensures x (h .text)) ∙ c .if1 .left)
 
 pub is-between-spec : {M : Type 1} → statement M
 is-between-spec =

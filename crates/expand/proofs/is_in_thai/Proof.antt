@@ -31,18 +31,18 @@ script-requires-2 c κs = search needs
 returns : tie.Need-returns
 returns c =
     let a = c .before .before .before .before .before .before .before .args in
-    λ x g. let z = line-size g in
-    let d = script-prev g (a .w .from) (omega arith) (c .before .before .before .before .before .kind-at .ensures) (c .before .before .before .before .script .ensures) in
-    let before : script (kinds x) (prev (x .text) (a .w .from)) ≡ script-thai = omega (arith, d) in
-    ap (λ (k : ℕ). eqb k script-thai) (script-here g (a .w .to) (omega arith) (c .before .kind-at2 .ensures) (c .script2 .ensures))
-    ∙ sym (rw (eq-eqb (script (kinds x) (prev (x .text) (a .w .from))) script-thai before))
+    λ x h. let z = line-size h in
+    let d = script-prev h (a .g .from) (omega arith) (c .before .before .before .before .before .kind-at .ensures) (c .before .before .before .before .script .ensures) in
+    let before : script (kinds x) (prev (x .text) (a .g .from)) ≡ script-thai = omega (arith, d) in
+    ap (λ (k : ℕ). eqb k script-thai) (script-here h (a .g .to) (omega arith) (c .before .kind-at2 .ensures) (c .script2 .ensures))
+    ∙ sym (rw (eq-eqb (script (kinds x) (prev (x .text) (a .g .from))) script-thai before))
 
 returns-2 : tie.Need-returns-2
 returns-2 c =
     let a = c .before .before .before .before .args in
-    λ x g. let z = line-size g in
-    let d = script-prev g (a .w .from) (omega arith) (c .before .before .kind-at .ensures) (c .before .script .ensures) in
-    sym (rw (ne-eqb (script (kinds x) (prev (x .text) (a .w .from))) script-thai (λ e. omega (arith, e, d))))
+    λ x h. let z = line-size h in
+    let d = script-prev h (a .g .from) (omega arith) (c .before .before .kind-at .ensures) (c .before .script .ensures) in
+    sym (rw (ne-eqb (script (kinds x) (prev (x .text) (a .g .from))) script-thai (λ e. omega (arith, e, d))))
 
 pub is-in-thai-spec : {M : Type 1} → statement M
 is-in-thai-spec =

@@ -4,7 +4,7 @@ use native.Mathlib.Omega.{arith}
 use denote.Ref.{now}
 use Rattle.definition.specs.RuleRows.{rules-of}
 use Rattle.definition.specs.Texts.{at, o-ang}
-use Rattle.steps.specs.Works.{work-of}
+use Rattle.definition.specs.Expansion.{work}
 use Rattle.expand.proofs.Ways.{no-o-ang, not-alone, alone}
 use Rattle.words.specs.Given.{kinds, seen, line-size, char-at}
 use borrow.Author.Needs.{needs}
@@ -26,33 +26,36 @@ is-between-requires c κs = search needs
 returns : tie.Need-returns
 returns c =
     let a = c .before .before .before .before .before .before .before .before .before .before .before .args in
-    λ x g. let z = line-size (g .text) in
+    λ x w h. let z = line-size (h .text) in
     let R = rules-of (now (a .rules)) in
-    let here : at (x .text) (a .o) ≡ o-ang = omega (arith, char-at (g .text) (a .o) (omega arith), c .before .before .before .before .before .before .number-at .ensures) in
-    alone R (kinds x) (x .text) (work-of (a .w)) (seen x) (a .o) here (omega arith) (sym (c .before .is-between .ensures x g) ∙ c .if3 .taken)
+    let here : at (x .text) (a .o) ≡ o-ang = omega (arith, char-at (h .text) (a .o) (omega arith), c .before .before .before .before .before .before .number-at .ensures) in
+    alone R (kinds x) (x .text) (work w (a .g .from) (a .g .to) (a .g .note)) (seen x) (a .o) here (omega arith)
+    (sym (c .before .is-between .ensures x w h) ∙ c .if3 .taken)
 
 returns-2 : tie.Need-returns-2
 returns-2 c =
     let a = c .before .before .before .before .before .before .before .before .before .before .before .args in
-    λ x g. let z = line-size (g .text) in
+    λ x w h. let z = line-size (h .text) in
     let R = rules-of (now (a .rules)) in
-    let here : at (x .text) (a .o) ≡ o-ang = omega (arith, char-at (g .text) (a .o) (omega arith), c .before .before .before .before .before .before .number-at .ensures) in
-    alone R (kinds x) (x .text) (work-of (a .w)) (seen x) (a .o) here (omega arith) (sym (c .before .is-between .ensures x g) ∙ c .if3 .left)
+    let here : at (x .text) (a .o) ≡ o-ang = omega (arith, char-at (h .text) (a .o) (omega arith), c .before .before .before .before .before .before .number-at .ensures) in
+    alone R (kinds x) (x .text) (work w (a .g .from) (a .g .to) (a .g .note)) (seen x) (a .o) here (omega arith)
+    (sym (c .before .is-between .ensures x w h) ∙ c .if3 .left)
 
 returns-3 : tie.Need-returns-3
 returns-3 c =
     let a = c .before .before .before .before .before .before .before .before .before .args in
-    λ x g. let z = line-size (g .text) in
+    λ x w h. let z = line-size (h .text) in
     let R = rules-of (now (a .rules)) in
-    let here : at (x .text) (a .o) ≡ o-ang = omega (arith, char-at (g .text) (a .o) (omega arith), c .before .before .before .before .number-at .ensures) in
-    not-alone R (kinds x) (x .text) (work-of (a .w)) (seen x) (a .o) here (λ e. omega (arith, e))
+    let here : at (x .text) (a .o) ≡ o-ang = omega (arith, char-at (h .text) (a .o) (omega arith), c .before .before .before .before .number-at .ensures) in
+    not-alone R (kinds x) (x .text) (work w (a .g .from) (a .g .to) (a .g .note)) (seen x) (a .o) here (λ e. omega (arith, e))
 
 returns-4 : tie.Need-returns-4
 returns-4 c =
     let a = c .before .before .before .before .before .before .args in
-    λ x g. let z = line-size (g .text) in
+    λ x w h. let z = line-size (h .text) in
     let R = rules-of (now (a .rules)) in
-    no-o-ang R (kinds x) (x .text) (work-of (a .w)) (seen x) (a .o) (λ e. omega (arith, e, char-at (g .text) (a .o) (omega arith), c .before .number-at .ensures))
+    no-o-ang R (kinds x) (x .text) (work w (a .g .from) (a .g .to) (a .g .note)) (seen x) (a .o)
+    (λ e. omega (arith, e, char-at (h .text) (a .o) (omega arith), c .before .number-at .ensures))
 
 pub is-silent-spec : {M : Type 1} → statement M
 is-silent-spec =

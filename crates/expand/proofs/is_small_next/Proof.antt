@@ -44,35 +44,35 @@ script-requires-2 c κs = search needs
 returns : tie.Need-returns
 unfolding small-here
 returns c =
-    let i = c .before .before .before .before .before .before in
-    let s = i .before .before .before .before .before .before .before in
-    let a = s .args in
+    let i = c .before .before .before .before .before in
+    let s = i .before .before .before .before .before in
+    let to = s .args .to in
     let p = s .pre in (
       (λ u g.
           let n = line-size g in
-          let d = script-prev g (a .w .to) (omega (arith, p .1, n)) (c .before .before .before .before .kind-at .ensures) (c .before .before .before .script .ensures) in
-          let e = script-here g (a .w .to) (omega (arith, p .1, n)) (c .before .kind-at2 .ensures) (c .script2 .ensures) in
-          let k = sym (i .is-small-ya .ensures ∙ ap small-ya (i .before .number-at .ensures ∙ char-at g (a .w .to) (omega (arith, p .1, n)))) ∙ c .before .before .before .before .before .if2 .taken in
+          let d = script-prev g to (omega (arith, p .1, n)) (c .before .before .before .kind-at .ensures) (c .before .before .script .ensures) in
+          let e = script-here g to (omega (arith, p .1, n)) (c .before .kind-at2 .ensures) (c .script2 .ensures) in
+          let k = sym (i .is-small-ya .ensures ∙ ap small-ya (i .before .number-at .ensures ∙ char-at g to (omega (arith, p .1, n)))) ∙ c .before .before .before .before .if2 .taken in
           ap (λ (x : ℕ). eqb x (c .script2 .result)) d ∙ ap (eqb (script (kinds u) _)) e ∙ sym (rw k)),
-      (λ h. omega (arith, i .before .before .before .before .before .text-len .ensures, i .before .before .before .if1 .taken)),
+      (λ h. omega (arith, i .before .before .before .text-len .ensures, i .before .before .if1 .taken)),
     )
 
 returns-2 : tie.Need-returns-2
 unfolding small-here
 returns-2 c =
-    let s = c .before .before .before .before .before .before .before .before in
-    let a = s .args in
+    let s = c .before .before .before .before .before .before in
+    let to = s .args .to in
     let p = s .pre in (
       (λ u g.
-          let k = sym (c .before .is-small-ya .ensures ∙ ap small-ya (c .before .before .number-at .ensures ∙ char-at g (a .w .to) (omega (arith, p .1, line-size g)))) ∙ c .if2 .left in
+          let k = sym (c .before .is-small-ya .ensures ∙ ap small-ya (c .before .before .number-at .ensures ∙ char-at g to (omega (arith, p .1, line-size g)))) ∙ c .if2 .left in
           sym (rw k)),
       (λ h. absurd (true≢false (sym h))),
     )
 
 returns-3 : tie.Need-returns-3
 returns-3 c =
-    let a = c .before .before .before .before .args in (
-      (λ u g. no-small-past (kinds u) (u .text) (a .w .to) (omega (arith, line-size g, c .before .before .text-len .ensures, c .if1 .left))),
+    let a = c .before .before .before .args in (
+      (λ u g. no-small-past (kinds u) (u .text) (a .to) (omega (arith, line-size g, c .before .text-len .ensures, c .if1 .left))),
       (λ h. absurd (true≢false (sym h))),
     )
 

@@ -10,10 +10,9 @@ use Rattle.base.specs.Bools.{and-left}
 use Rattle.definition.specs.Texts.{letter-i}
 use Rattle.definition.specs.RuleRows.{rules-of}
 use Rattle.definition.specs.Rules.{first-rule}
-use Rattle.rom.specs.Rom.{text, text-length}
+use Rattle.definition.specs.Expansion.{work}
 use Rattle.words.specs.Given.{kinds, line-size, char-at}
-use Rattle.steps.specs.Works.{work-of}
-use Rattle.expand.proofs.Sounds.{not-empty}
+use Rattle.steps.proofs.Letters.{not-empty}
 use Rattle.expand.proofs.Ways.{not-next, no-i, small-ruled-by}
 use borrow.Author.Needs.{needs}
 use Rattle.expand.proofs.small_target.Statement.{statement}
@@ -40,29 +39,30 @@ romanization-by-first-rule-requires c κs = search needs
 returns : tie.Need-returns
 returns c =
     let k = c .before .before .before .before .before .before .before in
-    let s = k .before .before .before .before in
+    let s = k .before .before .before .before .before in
     let a = s .args in
     let p = s .pre in
+    let w = work (now (a .text)) (a .g .from) (a .g .to) (a .g .note) in
     let H = k .is-small-next .ensures in
+    let I = c .before .before .before .before .before .before .if1 .taken in
     let F = c .romanization-by-first-rule .ensures in
     let i = sym (c .before .before .before .before .before .ends-in-i .ensures) ∙ c .before .before .before .before .if2 .taken in (
-      (λ u g.
+      (λ u h.
           F .0 ∙ ap (λ (k : ℕ). first-rule (rules-of (now (a .rules))) (k ∷ []))
-          (c .before .before .number-at .ensures ∙ char-at g (a .w .to) (omega (arith, p .3, line-size g)))
-          ∙ small-ruled-by (rules-of (now (a .rules))) (kinds u) (u .text) (work-of (a .w)) (sym (H .0 u g) ∙ c .before .before .before .before .before .before .if1 .taken) i),
+          (c .before .before .number-at .ensures ∙ char-at h (a .g .to) (omega (arith, p .2, line-size h)))
+          ∙ small-ruled-by (rules-of (now (a .rules))) (kinds u) (u .text) w (sym (H .0 u h) ∙ I) i),
       F .1,
-      (λ h. (H .1 (c .before .before .before .before .before .before .if1 .taken), omega (arith, not-empty (eqb letter-i) (text (a .w .rom)) (and-left _ _ i), text-length (p .1)))),
+      (λ h. (H .1 I, not-empty (eqb letter-i) (now (a .text)) (and-left _ _ i))),
     )
 
 returns-2 : tie.Need-returns-2
 returns-2 c =
     let k = c .before .before .before in
-    let s = k .before .before .before .before in
-    let a = s .args in
-    let p = s .pre in
+    let a = k .before .before .before .before .before .args in
+    let w = work (now (a .text)) (a .g .from) (a .g .to) (a .g .note) in
     let H = k .is-small-next .ensures in
     let i = sym (c .before .ends-in-i .ensures) ∙ c .if2 .left in (
-      (λ u g. no-i (rules-of (now (a .rules))) (kinds u) (u .text) (work-of (a .w)) (sym (H .0 u g) ∙ c .before .before .if1 .taken) i),
+      (λ u h. no-i (rules-of (now (a .rules))) (kinds u) (u .text) w (sym (H .0 u h) ∙ c .before .before .if1 .taken) i),
       tt,
       (λ h. absurd (true≢false (sym h))),
     )
@@ -70,11 +70,10 @@ returns-2 c =
 returns-3 : tie.Need-returns-3
 returns-3 c =
     let k = c .before in
-    let s = k .before .before .before .before in
-    let a = s .args in
-    let p = s .pre in
+    let a = k .before .before .before .before .before .args in
+    let w = work (now (a .text)) (a .g .from) (a .g .to) (a .g .note) in
     let H = k .is-small-next .ensures in
-    ((λ u g. not-next (rules-of (now (a .rules))) (kinds u) (u .text) (work-of (a .w)) (sym (H .0 u g) ∙ c .if1 .left)), tt, (λ h. absurd (true≢false (sym h))))
+    ((λ u h. not-next (rules-of (now (a .rules))) (kinds u) (u .text) w (sym (H .0 u h) ∙ c .if1 .left)), tt, (λ h. absurd (true≢false (sym h))))
 
 pub small-target-spec : {M : Type 1} → statement M
 small-target-spec =

@@ -1,24 +1,25 @@
--- `rom::bytes_of`: behind no text.
-use mathlib.Core.Path.{ap, _∙_}
-use mathlib.Core.List.{List, [], _++_}
-use Prim.Native.Nat.{ℕ}
-use native.Mathlib.Omega.{arith}
+-- `rom::bytes_of`: the text, and what is left of the zeros behind it.
 use denote.Ref.{now}
+use Rattle.rom.proofs.Writes.{over-zeros}
 use borrow.Author.Needs.{needs}
-use Rattle.rom.specs.Rom.{rom, len-by, text-by, clean-by}
 use Rattle.rom.proofs.bytes_of.Statement.{statement}
 use Rattle.rom.proofs.bytes_of.Tie as tie
 
-new-requires : tie.Need-new-requires
-new-requires c κs = search needs
+slice-aggregate-put-text : tie.Need-slice-aggregate-put-text
+slice-aggregate-put-text c = search needs
 
-append-requires : tie.Need-append-requires
-append-requires c κs = let e = c .new .ensures in (clean-by [] e (omega arith), omega (arith, len-by [] e))
+put-text-requires : tie.Need-put-text-requires
+put-text-requires c κs = search needs
 
 returns : tie.Need-returns
 returns c =
-    let a = c .before .before .before .args in
-    c .append .ensures ∙ ap (λ (w : List ℕ). rom (w ++ now (a .s))) (text-by [] (c .before .new .ensures) (omega arith))
+    let w = now (c .before .before .before .before .args .s) in
+    over-zeros _ w (c .before .put-text .ensures)
 
 pub bytes-of-spec : {M : Type 1} → statement M
-bytes-of-spec = tie.close (tie.spec new-requires append-requires returns)
+bytes-of-spec =
+    tie.close
+    (tie.spec
+    slice-aggregate-put-text
+    put-text-requires
+    returns)

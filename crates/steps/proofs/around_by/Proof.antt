@@ -5,7 +5,7 @@ use native.Mathlib.Omega.{arith}
 use denote.Ref.{now}
 use lib.Seq.{length-take-le}
 use Rattle.definition.specs.RuleRows.{rules-of}
-use Rattle.steps.specs.Works.{work-of}
+use Rattle.steps.specs.Works.{work-in}
 use Rattle.steps.proofs.Frames.{frame-past, frame-first}
 use Rattle.steps.proofs.Tries.{not-done, tries-as}
 use Rattle.words.specs.Given.{line-size}
@@ -21,14 +21,16 @@ text-len-requires c κs = search needs
 
 returns : tie.Need-returns
 returns c =
-    let s = c .before .before .before .before .before in
+    let s = c .before .before .before .before .before .before in
     let a = s .args in
+    let b = now (a .bytes) in
     let R = rules-of (now (a .rules)) in (
-      (λ u g.
-          let e = frame-past g R (a .k) (work-of (a .w)) (omega (arith, s .pre, line-size g)) (omega (arith, line-size g, c .before .text-len .ensures)) in
-          not-done (a .w) _ e),
+      (λ u h.
+          let e = frame-past h R (a .k) (work-in b (a .g)) (omega (arith, s .pre, line-size h)) (omega (arith, line-size h, c .before .text-len .ensures)) in
+          not-done b (a .g) _ e),
       s .pre .1,
       omega arith,
+      λ z. refl,
     )
 
 number-at-requires : tie.Need-number-at-requires
@@ -60,7 +62,7 @@ array-share-prefix-source c = search needs
 
 slice-aggregate-romanization-by-first-rule : tie.Need-slice-aggregate-romanization-by-first-rule
 slice-aggregate-romanization-by-first-rule c =
-    let s = c .before .before .before .before .before .before .before .before .before .before in
+    let s = c .before .before .before .before .before .before .before .before .before .before .before in
     sym (length-take-le {A = ℕ} (s .args .k + 2) _ (omega (arith, s .pre)))
 
 romanization-by-first-rule-requires : tie.Need-romanization-by-first-rule-requires
@@ -69,26 +71,31 @@ romanization-by-first-rule-requires c κs = search needs
 put-behind-requires : tie.Need-put-behind-requires
 put-behind-requires c κs = search needs
 
+same-length : tie.Need-same-length
+same-length c = search needs
+
 returns-2 : tie.Need-returns-2
 returns-2 c =
-    let s = c .before .before .before .before .before .before .before .before .before .before .before .before in
+    let i = c .before .before .before .before .before .before .before .before .before .before in
+    let s = i .before .before .before .before .before .before in
     let a = s .args in
-    let I = c .before .before .before .before .before .before .before .if1 .left in
-    let N = c .before .before .before .before .before .before .before .before .text-len .ensures in
-    let C = c .before .before .before .before .before .before .number-at .ensures in
-    let X = c .before .before .before .before .before .number-at2 .ensures in
-    let Y = c .before .before .before .before .number-at3 .ensures in
-    let Z = c .before .before .before .number-at4 .ensures in
-    let F = c .before .romanization-by-first-rule .ensures in
-    let U = c .put-behind .ensures in
+    let I = i .if1 .left in
+    let N = i .before .text-len .ensures in
+    let C = c .before .before .before .before .before .before .before .before .before .number-at .ensures in
+    let X = c .before .before .before .before .before .before .before .before .number-at2 .ensures in
+    let Y = c .before .before .before .before .before .before .before .number-at3 .ensures in
+    let Z = c .before .before .before .before .before .before .number-at4 .ensures in
+    let F = c .before .before .before .before .romanization-by-first-rule .ensures in
+    let U = c .before .before .put-behind .ensures in
     let R = rules-of (now (a .rules)) in
-    let h = s .pre in (
-      (λ u g.
-          let e = frame-first g R (a .k) (work-of (a .w)) _ C X Y Z
-          (omega (arith, h, line-size g)) (omega (arith, h, line-size g)) (omega (arith, h, line-size g)) (omega (arith, I, line-size g, N)) (F .0) in
+    let q = s .pre in (
+      (λ u h.
+          let e = frame-first h R (a .k) (work-in (now (a .bytes)) (a .g)) _ C X Y Z
+          (omega (arith, q, line-size h)) (omega (arith, q, line-size h)) (omega (arith, q, line-size h)) (omega (arith, I, line-size h, N)) (F .0) in
           tries-as (sym e) (U .0 (a .k) refl)),
       U .1,
       U .2,
+      U .3,
     )
 
 pub around-by-spec : {M : Type 1} → statement M
@@ -110,4 +117,5 @@ around-by-spec =
     slice-aggregate-romanization-by-first-rule
     romanization-by-first-rule-requires
     put-behind-requires
+    same-length
     returns-2)

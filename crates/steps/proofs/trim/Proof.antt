@@ -18,16 +18,19 @@ is-space-at-requires c κs = search needs
 
 trim-back-requires : tie.Need-trim-back-requires
 trim-back-requires c κs =
-    front-clean (c .before .before .before .before .before .pre .0) _ (c .before .trim-front .ensures)
+    front-clean (c .before .before .before .before .before .before .before .before .before .pre .0) _ (c .before .before .before .before .trim-front .ensures)
+
+same-length : tie.Need-same-length
+same-length c = search needs
 
 returns : tie.Need-returns
 returns c =
-    let s = c .before .before .before .before .before .before in
+    let s = c .before .before .before .before .before .before .before .before .before .before .before .before in
     let a = s .args in
-    let p = c .before .before .trim-front .ensures in
-    let q = c .trim-back .ensures in (
-      (λ u g. trimmed (s .pre .0) _ p _ q (u .text) (a .w .from) (a .w .to) (a .w .note)
-          (c .before .before .before .number-at .ensures ∙ char-before g (a .w .from) (omega (arith, s .pre, line-size g))) (c .before .is-space-at .ensures u g)),
+    let p = c .before .before .before .before .before .before .before .trim-front .ensures in
+    let q = c .before .before .trim-back .ensures in (
+      (λ u h. trimmed (s .pre .0) _ p _ q (u .text) (a .g .from) (a .g .to) (a .g .note)
+          (c .before .before .before .before .before .before .before .before .number-at .ensures ∙ char-before h (a .g .from) (omega (arith, s .pre, line-size h))) (c .before .before .before .is-space-at .ensures u h)),
       trimmed-clean (s .pre .0) _ p _ q,
       trimmed-short (s .pre .0) _ p _ q,
     )
@@ -40,4 +43,5 @@ trim-spec =
     trim-front-requires
     is-space-at-requires
     trim-back-requires
+    same-length
     returns)
