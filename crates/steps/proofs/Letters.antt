@@ -2,11 +2,11 @@
 use mathlib.Core.Bool.{Bool, true, false, _&&_, true≢false}
 use mathlib.Core.List.{List, [], _∷_, reverse}
 use mathlib.Core.Path.{_≡_, refl, sym, ap, _∙_}
-use Prim.Native.Nat.{ℕ, _-_, _≤_, _<_}
+use Prim.Native.Nat.{ℕ, _+_, _-_, _≤_, _<_}
 use native.Mathlib.Omega.{arith}
 use lib.Dec.{eqb}
 use lib.ListN.{length, take, drop, getD, length-reverse}
-use lib.Seq.{slice, take-take}
+use lib.Seq.{slice, take-take, length-take-le}
 use borrow.Author.Tests.{eq-eqb, ne-eqb}
 use Rattle.base.specs.Pick.{pick, pick-all}
 use Rattle.base.specs.Bools.{and-right}
@@ -47,8 +47,12 @@ behind-first (c ∷ w) = refl
 pub all-but-first : (b : List ℕ) (n : ℕ) → slice 1 n (take n b) ≡ tail (take n b)
 all-but-first b n = ap (drop 1) (take-take n n b (omega arith)) ∙ behind-first (take n b)
 
-pub all-but-last : (b : List ℕ) (n : ℕ) → 0 < n → n ≤ length b → slice 0 (n - 1) (take n b) ≡ without-last (take n b)
-all-but-last b n h l = take-take (n - 1) n b (omega arith) ∙ sym (front-less b n h l)
+module _ (b : List ℕ) (n : ℕ) (h : 0 < n) (l : n ≤ length b) where
+  pub all-but-last : slice 0 (n - 1) (take n b) ≡ without-last (take n b)
+  all-but-last = take-take (n - 1) n b (omega arith) ∙ sym (front-less b n h l)
+
+  pub one-less : length (without-last (take n b)) + 1 ≡ n
+  one-less = omega (arith, ap length (front-less b n h l), length-take-le (n - 1) b (omega arith))
 
 -- a test that 0 fails
 module _ (q : ℕ → Bool) (z : q 0 ≡ false) where

@@ -1,20 +1,18 @@
 -- `expand::put_small`: a target has 64 bytes at most, and one letter goes.
-use mathlib.Core.List.{_++_, reverse}
-use mathlib.Core.Path.{_≡_, refl, ap, _∙_}
-use Prim.Native.Nat.{_+_, _≤_, _<_}
+use mathlib.Core.List.{_++_}
+use mathlib.Core.Path.{refl, ap, _∙_}
+use Prim.Native.Nat.{_≤_, _<_}
 use native.Mathlib.Omega.{arith}
-use lib.ListN.{length, take, length-append, length-reverse}
+use lib.ListN.{length, take, length-append}
 use denote.Ref.{now}
-use Rattle.base.specs.Lists.{tail}
-use Rattle.base.specs.ListLaws.{tail-length}
 use Rattle.definition.specs.Limits.{most-bytes}
 use Rattle.definition.specs.Texts.{Text, without-last}
 use Rattle.definition.specs.Notes.{note-exp}
 use Rattle.definition.specs.Expansion.{work}
-use Rattle.rom.specs.Rom.{rom, text-length, bytes-length, text-by, len-by, clean-by}
+use Rattle.rom.specs.Rom.{rom, bytes-length, text-by, len-by, clean-by}
 use Rattle.rule_choice.specs.Chosen.{chosen-means, or-nothing}
 use Rattle.steps.proofs.Tries.{said-short}
-use Rattle.steps.proofs.Letters.{all-but-last}
+use Rattle.steps.proofs.Letters.{all-but-last, one-less}
 use borrow.Author.Needs.{needs}
 use Rattle.expand.proofs.put_small.Statement.{statement}
 use Rattle.expand.proofs.put_small.Tie as tie
@@ -37,9 +35,9 @@ put-behind-requires c κs =
     let w = take n b in
     let p = s .pre .1 in
     let f = p .fits in
-    let e = c .before .before .before .before .keep .ensures ∙ ap rom (all-but-last b n (s .pre .2) (omega (arith, f, bytes-length p))) in
-    let l : length (without-last w) + 1 ≡ n =
-    omega (arith, length-reverse (tail (reverse w)), tail-length (reverse w), length-reverse w, text-length p, s .pre .2) in
+    let fits : n ≤ length b = omega (arith, f, bytes-length p) in
+    let e = c .before .before .before .before .keep .ensures ∙ ap rom (all-but-last b n (s .pre .2) fits) in
+    let l = one-less b n (s .pre .2) fits in
     let h : length (without-last w) ≤ most-bytes = omega (arith, l, s .pre .3) in (
       clean-by (without-last w) e h,
       omega (arith, l, len-by (without-last w) e, s .pre .3, ap length (c .chosen-text .ensures), said-short (now (a .rules)) (a .target) (s .pre .0)),
@@ -57,9 +55,9 @@ returns c =
     let w = take n b in
     let p = s .pre .1 in
     let f = p .fits in
-    let e = c .before .before .before .before .before .before .before .keep .ensures ∙ ap rom (all-but-last b n (s .pre .2) (omega (arith, f, bytes-length p))) in
-    let l : length (without-last w) + 1 ≡ n =
-    omega (arith, length-reverse (tail (reverse w)), tail-length (reverse w), length-reverse w, text-length p, s .pre .2) in
+    let fits : n ≤ length b = omega (arith, f, bytes-length p) in
+    let e = c .before .before .before .before .before .before .before .keep .ensures ∙ ap rom (all-but-last b n (s .pre .2) fits) in
+    let l = one-less b n (s .pre .2) fits in
     let h : length (without-last w) ≤ most-bytes = omega (arith, l, s .pre .3) in
     let o = chosen-means (now (a .rules)) (a .target) in
     let new = without-last w ++ or-nothing o in
