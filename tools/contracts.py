@@ -1,6 +1,6 @@
 #!/usr/bin/env python3
 """Which promises moved between two states of the project: the contract of every public function with the meaning of each name in
-it, and every file of the specs of definition, stretches and jettyfig. Prints what differs, and a last line that counts; fails
+it, structs and enums too, and every file of the specs of definition, stretches and jettyfig. Prints what differs, and a last line that counts; fails
 where a promise that stands in both states has moved.
 
 usage: contracts.py BEFORE [AFTER] [--private]    states as git names them; without AFTER, the files as they are now;
@@ -13,7 +13,10 @@ import sys
 ROOT = pathlib.Path(__file__).resolve().parents[1]
 FIXED = ["definition", "stretches", "jettyfig"]
 FUNCTION = re.compile(r'^((?:pub )?(?:extern "C" )?fn )(\w+)(.*?)^\{', re.M | re.S)
-USE = re.compile(r"^(?:ghost )?use Rattle·(\w+)(?:·specs)?\.specs\.(\w+)(?:\.\{(.*?)\}| as (\w+))", re.M)
+TYPE = re.compile(r"^(?:#.*\n)*(?:pub )?(?:struct|enum) (\w+).*?^\}", re.M | re.S)
+USE = re.compile(r"^(?:ghost )?use Rattle·(\w+)(?:·specs)?\.specs\.(?:declared\.(\w+)(?:\.the-variants)?|(\w+))(?:\.\{(.*?)\}| as (\w+))", re.M)
+# the module under which specs find a crate's structs and enums
+TYPES = "declared"
 DECLARED = re.compile(r"\s*(?:abbrev |unfoldable )?(?:pub )?(?:record )?([^\s:(]+)")
 WORD = re.compile(r"[^\s(){},;.:=⌜⌝]+(?:\.[^\s(){},;.:=⌜⌝]+)?")
 
@@ -35,11 +38,12 @@ def files(state, pattern):
 def imported(text):
     """what the names that a file takes from specs stand for: crate, module and name"""
     found = {}
-    for crate, module, names, alias in USE.findall(text):
+    for crate, kind, module, names, alias in USE.findall(text):
         if alias:
-            found[alias] = crate, module, None
+            found[alias] = (crate, TYPES, kind) if kind else (crate, module, None)
         for name in names.split(", ") if names else []:
-            found[name] = crate, module, name
+            found[name] = crate, TYPES if kind else module, kind or name
+    found.update({name: (crate, TYPES, name) for crate, name in re.findall(r"^use (\w+)::(\w+);", text, re.M)})
     return found
 
 
@@ -54,15 +58,18 @@ def meant(text, names):
 
 class State:
     def __init__(self, state):
-        self.public, self.private, self.speaks = {}, {}, {}
+        self.public, self.private, self.speaks, self.defined, self.uses = {}, {}, {}, {}, {}
         for path, text in files(state, r"crates/\w+/src/lib\.rt").items():
-            crate, names = path.split("/")[1], imported(text)
-            for head, function, rest in FUNCTION.findall(re.sub(r"^ *//.*\n", "", text, flags=re.M)):
+            crate, names, text = path.split("/")[1], imported(text), re.sub(r"^ *//.*\n", "", text, flags=re.M)
+            names.update({made.group(1): (crate, TYPES, made.group(1)) for made in TYPE.finditer(text)})
+            for made in TYPE.finditer(text):
+                self.defined[crate, TYPES, made.group(1)] = [" ".join(made.group().split())]
+                self.uses[crate, TYPES, made.group(1)] = set(meant(made.group(), names)) - {(crate, TYPES, made.group(1))}
+            for head, function, rest in FUNCTION.findall(text):
                 name = "%s::%s" % (crate, function)
                 contract = re.sub(r"\( | (?=\))|, (?=\))", lambda m: m.group().strip(" ,"), " ".join(rest.split()))
                 (self.public if head.startswith("pub") else self.private)[name] = contract
                 self.speaks[name] = set(meant(contract, names))
-        self.defined, self.uses = {}, {}
         for path, text in files(state, r"crates/\w+/specs/\w+\.antt").items():
             crate, module = path.split("/")[1], pathlib.Path(path).stem
             names, blocks = imported(text), []
