@@ -14,7 +14,7 @@ use Rattle.definition.specs.Tables.{category-Mn, category-Cf, category-Co, cate
 use Rattle.definition.specs.Edges.{Edge, View, M}
 use Rattle.definition.specs.Tables.{Tables}
 use Rattle.definition.specs.Call.{tables-of}
-use Rattle.definition.specs.Expansion.{Work, work, expand}
+use Rattle.definition.specs.Expansion.{Work, expand}
 use Rattle.definition.specs.Building.{fallback-plus}
 use Rattle.rom.specs.Rom.{held, Clean}
 use Rattle.words.specs.declared.Span.{Span}
@@ -23,7 +23,6 @@ use Rattle.words.specs.Given.{World, seen, Told, Lent}
 use Rattle.rule_choice.specs.Lent.{lexicon-of}
 use Rattle.edge.specs.declared.Numbers.{Numbers}
 use Rattle.spans.specs.declared.Spanned.{Spanned}
-use Rattle.spans.specs.declared.Expanded.{Expanded}
 
 -- What a step that asks all tables answers: of every world that the lent slices stand for, what the definition does
 abbrev pub Finds : {A : Type 0} → List ℕ → List ℕ → List ℕ → List ℕ → List ℕ → List ℕ → List ℕ → (Tables → Text → View → M A) → A → Type 0
@@ -47,10 +46,6 @@ FindsEdge rules ready vowels code line before after f b r =
 pub record Leaves (before after : List ℕ) (r : Spanned) : Type 0 where
   pub clean : r .there ≡ true → Clean (held after (r .len))
   pub kept : r .there ≡ false → after ≡ before
-
--- what the expansion made, with its text in the array `b`
-abbrev pub expanded : List ℕ → Expanded → Work
-expanded b x = work (take (x .len) b) (x .from) (x .to) (x .note)
 
 -- The expansion with the call's choices, of every world that the lent slices stand for
 abbrev pub Expands : List ℕ → List ℕ → List ℕ → List ℕ → List ℕ → List ℕ → Text → Span → Work → Type 0

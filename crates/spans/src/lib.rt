@@ -10,15 +10,17 @@ ghost use Rattle.definition.specs.Vowels.{vowel-step};
 ghost use Rattle.definition.specs.Expansion.{work};
 ghost use Rattle.definition.specs.Building.{is-tail, without-plus, grown, as-edge, edge-of, span-edge, fallback-plus};
 ghost use Rattle.table_vowels.specs.Told.{FineVowels};
-ghost use Rattle.rom.specs.Rom.{text, held, rom, Clean};
+ghost use Rattle.rom.specs.Rom.{text, rom, Clean};
 ghost use Rattle.words.specs.Given.{size-in, Prepared};
 ghost use Rattle.words.specs.Looks.{Looked};
 ghost use Rattle.rule_choice.specs.Chosen.{chosen-means, Said};
+ghost use Rattle.steps.specs.Works.{work-in, Held};
 ghost use Rattle.vowel_step.specs.Steps.{Voices};
-ghost use Rattle.spans.specs.Spans.{Finds, edge-with, FindsEdge, found, Leaves, expanded, Expands, plus-dropped, fallback-bytes, category-note};
+ghost use Rattle.spans.specs.Spans.{Finds, edge-with, FindsEdge, found, Leaves, Expands, plus-dropped, fallback-bytes, category-note};
 use edge::Numbers;
 use rom::Rom;
 use rule_choice::Chosen;
+use steps::Growing;
 use vowel_step::Voiced;
 use words::Look;
 use words::Span;
@@ -33,14 +35,6 @@ pub struct Spanned {
     pub there: bool,
     pub numbers: Numbers,
     pub len: usize,
-}
-
-// What the expansion made, its text in an array that is lent.
-struct Expanded {
-    len: usize,
-    from: usize,
-    to: usize,
-    note: u8,
 }
 
 // Is a target a tail: a plus and one byte, or a plus and two of which the first is n?
@@ -156,11 +150,11 @@ fn put_expanded(
     r: Rom,
     span: Span,
     bytes: &mut [u8],
-) -> Expanded
+) -> Growing
     requires { ⌜ Prepared (now rules) (now ready) × Clean r × (r .len ≤ most-target + most-vowel)
         × (span .from < span .to) × (span .to ≤ size-in (now line)) × (length (now bytes) ≡ most-bytes) ⌝ }
     ensures { λ x. ⌜ Expands (now (rules .entry)) (now (ready .entry)) (now (code .entry)) (now (line .entry)) (now (places .entry)) (now (places .exit))
-        (text r) span (expanded (now (bytes .exit)) x) × Clean (held (now (bytes .exit)) (x .len)) ⌝ }
+        (text r) span (work-in (now (bytes .exit)) x) × Held (now (bytes .exit)) x ⌝ }
 {
     let x = expand::expand_rom_with_special_chars(
         words::choices_in(ready),
@@ -173,7 +167,7 @@ fn put_expanded(
         span,
     );
     lent_bytes::put_text(bytes, &x.rom.bytes);
-    Expanded {
+    Growing {
         len: x.rom.len,
         from: x.from,
         to: x.to,

@@ -10,7 +10,7 @@ use Rattle.edge_places.specs.Shows.{memory}
 use Rattle.rom.specs.Rom.{text, len-by, text-rom}
 use Rattle.words.specs.Did.{did-by}
 use Rattle.words.specs.Given.{seen, size, lent-after}
-use Rattle.spans.specs.Spans.{expanded}
+use Rattle.steps.specs.Works.{work-in}
 use Rattle.spans.specs.Ways.{edge-done}
 use borrow.Author.Needs.{needs}
 use Rattle.spans.proofs.edge_of.Statement.{statement}
@@ -56,7 +56,7 @@ returns c =
           let Z = z .ensures .0 u told (lent-after _ lent (A .kept)) in
           let D = tables-of (u .choices) (now (a .rules)) (u .classes) (now (a .vowels)) (now (a .code)) in
           record {
-            did = did-by E (edge-done D (u .text) (seen u) (a .tail) w new (expanded b (z .result)) (a .span .from) (a .span .to)
+            did = did-by E (edge-done D (u .text) (seen u) (a .tail) w new (work-in b (z .result)) (a .span .from) (a .span .to)
                 (memory (size u) (now (a .places))) (A .did) (Z .did));
             kept = Z .kept ∙ A .kept;
           },
