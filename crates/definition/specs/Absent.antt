@@ -19,7 +19,7 @@ use Rattle.definition.specs.Edges.{View, M, ret}
 use Rattle.definition.specs.Rules.{first-rule}
 use Rattle.definition.specs.Syllables.{vowel-test, syllable-at}
 use Rattle.definition.specs.Vowels.{vowel-row, before-yo, bare}
-use Rattle.definition.specs.Expansion.{Work, work, upper-case, capitalizes, doubled, small-tsu, double, framed, widen, around-by, around, pre-vowel, o-ang-side, between, small-ya, small-target, trim-front, trim-back}
+use Rattle.definition.specs.Expansion.{Work, work, upper-case, capitalizes, doubled, small-tsu, double, framed, widen, around-by, around, pre-vowel, walk-start, o-ang-side, between, small-ya, small-target, trim-front, trim-back}
 use Rattle.definition.specs.Call.{Inputs, tables-of, tables, refusal}
 use Rattle.definition.specs.Accepted.{accepted-of}
 use Rattle.definition.specs.Risen.{vowels-scripted}
@@ -136,13 +136,13 @@ module _ (ks : List Class) (w : Blank (class ks the-space)) (t : Text) where
         go (some c) = refl
 
     -- O ang between consonants: `map_or("", ..)` for both scripts, `and_then(..)` for the next one's first rule
-    pub between-there : (v : View) (x : Work) → between rs ks t v x ≡
+    pub between-there : (c : Choices) (v : View) (x : Work) → between c rs ks t v x ≡
         (is (λ c. eqb (script ks c) script-thai) (char-before t (x .from))
         && is (λ c. eqb (script ks c) script-thai) (char-at t (x .to))
-        && last-is o-ang-side (v .behind 0 (x .from))
+        && last-is o-ang-side (v .behind (walk-start c t (x .from)) (x .from))
         && is (λ y. not (same y []) && all o-ang-side y) (bind (char-at t (x .to)) (λ c. first-rule rs (c ∷ []))))
     unfolding between
-    between-there v x =
+    between-there c v x =
         rw (prev-read t (x .from), at-read t (x .to), none-script-is ks w script-thai (omega arith) (char-before t (x .from)))
         (go (char-at t (x .to)))
       where
@@ -153,7 +153,7 @@ module _ (ks : List Class) (w : Blank (class ks the-space)) (t : Text) where
         A = is thai (char-before t (x .from))
 
         C : Bool
-        C = last-is o-ang-side (v .behind 0 (x .from))
+        C = last-is o-ang-side (v .behind (walk-start c t (x .from)) (x .from))
 
         alone : Option Text → Bool
         alone o = is (λ y. not (same y []) && all o-ang-side y) o

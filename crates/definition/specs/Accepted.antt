@@ -97,6 +97,7 @@ vowels-placed b e =
 pub record Accepted (i : Inputs) : Type 0 where
   pub mode : i .mode ≤ most-mode
   pub capitals : i .choices .capitals ≤ most-choice
+  pub o-ang : i .choices .o-ang ≤ most-choice
   pub rules : rule-fault (i .rules) ≡ none
   pub classes : class-fault (i .classes) ≡ none
   pub vowels : vowel-fault (i .vowels) ≡ none
@@ -122,7 +123,8 @@ accepted-of i e =
     let both = or-none _ _ e in
     let a = or-none _ _ (both .0) in
     let m = or-none _ _ (a .1) in
-    let b = or-none _ _ (m .1) in
+    let o = or-none _ _ (m .1) in
+    let b = or-none _ _ (o .1) in
     let c = or-none _ _ (b .1) in
     let d = or-none _ _ (c .1) in
     let z = or-none _ _ (d .1) in
@@ -133,6 +135,7 @@ accepted-of i e =
     record {
       mode = ltb-false most-mode (i .mode) (when-none _ _ _ (a .0));
       capitals = ltb-false most-choice (i .choices .capitals) (when-none _ _ _ (m .0));
+      o-ang = ltb-false most-choice (i .choices .o-ang) (when-none _ _ _ (o .0));
       rules = b .0;
       classes = placed-none _ _ (c .0);
       vowels = placed-none _ _ (d .0);
@@ -149,6 +152,7 @@ unfolding refusal before-text text-refusal first-of characters when placed pick
 refusal-of i a = rw (
   le-ltb most-mode (i .mode) (a .mode),
   le-ltb most-choice (i .choices .capitals) (a .capitals),
+  le-ltb most-choice (i .choices .o-ang) (a .o-ang),
   a .rules,
   a .classes,
   a .vowels,

@@ -175,12 +175,12 @@ module _ (L : Lexicon) (t : Text) (rom : Text) where
     rest-kept o w h = post-bind (Kept rom) _ (grave-kept o w h)
         (λ u q. post-bind (Kept rom) _ (small-y-kept o u q) (λ x z. post-ret _ (finish-kept x z)))
 
-    thai-kept : (o : ℕ) (w : Work) → Kept rom w → Post Work (Kept rom) (thai L t v o w)
+    thai-kept : (c : Choices) (o : ℕ) (w : Work) → Kept rom w → Post Work (Kept rom) (thai L t v c o w)
     unfolding thai o-ang-step
-    thai-kept o w h =
+    thai-kept c o w h =
         let b = before (L .rules) (L .classes) t w in
         post-maybe (around (L .rules) (L .classes) t w) (Kept rom) (around-kept w)
-        (post-pick (silent (L .rules) (L .classes) t v o b) (post-ret _ (acted (omega arith) (omega arith))) (rest-kept o b (before-kept w h)))
+        (post-pick (silent c (L .rules) (L .classes) t v o b) (post-ret _ (acted (omega arith) (omega arith))) (rest-kept o b (before-kept w h)))
         (λ x q. post-ret x q)
 
     pub expand-kept : (c : Choices) (s e : ℕ) → Post Work (Kept rom) (expand L t v c rom s e)
@@ -191,7 +191,7 @@ module _ (L : Lexicon) (t : Text) (rom : Text) where
         let u = capitalize c (L .classes) t w in
         let d = double (L .classes) t s u in
         let kept = double-kept s u (capitalize-kept c s e) in
-        post-pick _ (post-ret w k) (post-pick _ (thai-kept s d kept) (rest-kept s d kept))
+        post-pick _ (post-ret w k) (post-pick _ (thai-kept c s d kept) (rest-kept s d kept))
 
 -- What is said of every edge: a core only under its annotation, and then the text has it
 pub record Cored (x : Edge) : Type 0 where

@@ -216,17 +216,17 @@ module _ (L : Lexicon) (t : Text) (spoken : All Spoken (L .rules)) (blank : clas
       post-bind (Work-of grave-bytes) _ (grave-held v o w h)
       (λ u q. post-bind (Work-of small-bytes) _ (small-y-held v o u q) (λ x z. post-ret _ (finish-held x z)))
 
-  o-ang-held : (v : View) (o : ℕ) (w : Work) → Work-of pre-bytes w → Post Work (Work-of most-bytes) (o-ang-step L t v o w)
+  o-ang-held : (c : Choices) (v : View) (o : ℕ) (w : Work) → Work-of pre-bytes w → Post Work (Work-of most-bytes) (o-ang-step L t v c o w)
   unfolding o-ang-step
-  o-ang-held v o w h = post-pick (silent (L .rules) (L .classes) t v o w)
+  o-ang-held c v o w h = post-pick (silent c (L .rules) (L .classes) t v o w)
       (post-ret _ (record { forward = h .forward; inside = h .inside; short = short-none most-bytes }))
       (rest-held v o w h)
 
-  thai-held : (v : View) (o : ℕ) (w : Work) → Work-of doubled-bytes w → Post Work (Work-of most-bytes) (thai L t v o w)
+  thai-held : (c : Choices) (v : View) (o : ℕ) (w : Work) → Work-of doubled-bytes w → Post Work (Work-of most-bytes) (thai L t v c o w)
   unfolding thai
-  thai-held v o w h =
+  thai-held c v o w h =
       post-maybe (around (L .rules) (L .classes) t w) (Work-of pre-bytes) (around-held w h)
-      (o-ang-held v o (before (L .rules) (L .classes) t w) (before-held w h))
+      (o-ang-held c v o (before (L .rules) (L .classes) t w) (before-held w h))
       (λ x q. post-ret x (held-wide pre-bytes (omega arith) q))
 
   pub expand-held : (v : View) (c : Choices) (rom : Text) (s e : ℕ) → s < e → e ≤ length t → Short voiced-bytes rom
@@ -237,5 +237,5 @@ module _ (L : Lexicon) (t : Text) (spoken : All Spoken (L .rules)) (blank : clas
       let u = capitalize c (L .classes) t (work rom s e 0) in
       let d = double-held s u (capitalize-held c (work rom s e 0) w) in
       post-pick _ (post-ret (work rom s e 0) (held-wide voiced-bytes (omega arith) w))
-      (post-pick _ (thai-held v s (double (L .classes) t s u) d)
+      (post-pick _ (thai-held c v s (double (L .classes) t s u) d)
       (rest-held v s (double (L .classes) t s u) (held-wide doubled-bytes (omega arith) d)))

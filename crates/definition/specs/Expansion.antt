@@ -4,7 +4,7 @@
 use mathlib.Core.Bool.{Bool, not, _&&_, _||_}
 use mathlib.Core.List.{List, [], _∷_, _++_, map, reverse}
 use mathlib.Core.Option.{Option, none, some}
-use Prim.Native.Nat.{ℕ, _+_, _-_}
+use Prim.Native.Nat.{ℕ, zero, suc, _+_, _-_}
 use lib.Dec.{eqb}
 use lib.ListN.{length, take, drop}
 use Rattle.base.specs.Pick.{pick}
@@ -93,21 +93,30 @@ pre-vowel rs ks t w =
 unfoldable pub before : List Rule → List Class → Text → Work → Work
 before rs ks t w = maybe (pre-vowel rs ks t w) w (λ y. work (w .rom ++ y) (w .from - 1) (w .to) note-exp)
 
--- O ang is silent unless between consonants: both neighbours Thai, what stands behind it, looked for back to the text's
--- start, ends in one
+-- The stretch in which a position stands begins behind the nearest space to the left, or where the text does
+unfoldable pub stretch-start : Text → ℕ → ℕ
+stretch-start t zero = 0
+stretch-start t (suc p) = pick (eqb (at t p) the-space) (suc p) (stretch-start t p)
+
+-- Where the walk back behind O ang ends: at the text's start, or, where that is chosen, at the stretch's
+unfoldable pub walk-start : Choices → Text → ℕ → ℕ
+walk-start c t p = pick (eqb (c .o-ang) 1) (stretch-start t p) 0
+
+-- O ang is silent unless between consonants: both neighbours Thai, what stands behind it, as far as the walk back goes,
+-- ends in one
 -- (THAI_CONSONANT_XZ_END_RE: [bcdfghjklmnpqrstvwxz]+$), and the next one's first rule is one or more
 -- (THAI_CONSONANT_XZ_ONLY_RE: ^[bcdfghjklmnpqrstvwxz]+$)
 unfoldable pub o-ang-side : ℕ → Bool
 o-ang-side = among "bcdfghjklmnpqrstvwxz"
 
-unfoldable pub between : List Rule → List Class → Text → View → Work → Bool
-between rs ks t v w =
+unfoldable pub between : Choices → List Rule → List Class → Text → View → Work → Bool
+between c rs ks t v w =
     eqb (script ks (prev t (w .from))) script-thai && eqb (script ks (at t (w .to))) script-thai
-    && last-is o-ang-side (v .behind 0 (w .from))
+    && last-is o-ang-side (v .behind (walk-start c t (w .from)) (w .from))
     && is (λ y. not (same y []) && all o-ang-side y) (first-rule rs (at t (w .to) ∷ []))
 
-unfoldable pub silent : List Rule → List Class → Text → View → ℕ → Work → Bool
-silent rs ks t v o w = eqb (at t o) o-ang && eqb (w .from + 1) (w .to) && not (between rs ks t v w)
+unfoldable pub silent : Choices → List Rule → List Class → Text → View → ℕ → Work → Bool
+silent c rs ks t v o w = eqb (at t o) o-ang && eqb (w .from + 1) (w .to) && not (between c rs ks t v w)
 
 -- Small ya, yu, yo of the same script as the span's last character, after JP_Y_ENDING_RE:
 -- ([bcdfghjklmnpqrstvwxyz])i$; its first rule's target stands in the i's place
@@ -169,18 +178,18 @@ module _ (L : Lexicon) (t : Text) (v : View) where
     ret (finish (L .classes) t x)
 
   -- Thai: the pattern ends the expansion; then the pre-vowel; a silent O ang is deleted
-  unfoldable pub o-ang-step : ℕ → Work → M Work
-  o-ang-step o w =
-      pick (silent (L .rules) (L .classes) t v o w) (ret (work [] (w .from) (w .to) note-del)) (rest o w)
+  unfoldable pub o-ang-step : Choices → ℕ → Work → M Work
+  o-ang-step c o w =
+      pick (silent c (L .rules) (L .classes) t v o w) (ret (work [] (w .from) (w .to) note-del)) (rest o w)
 
-  unfoldable pub thai : ℕ → Work → M Work
-  thai o w = maybe (around (L .rules) (L .classes) t w) (o-ang-step o (before (L .rules) (L .classes) t w)) ret
+  unfoldable pub thai : Choices → ℕ → Work → M Work
+  thai c o w = maybe (around (L .rules) (L .classes) t w) (o-ang-step c o (before (L .rules) (L .classes) t w)) ret
 
   -- after doubling, by the script of the span's first character, at `o`
-  unfoldable pub by-script : ℕ → Work → M Work
-  by-script o w = pick (eqb (script (L .classes) (at t o)) script-thai) (thai o w) (rest o w)
+  unfoldable pub by-script : Choices → ℕ → Work → M Work
+  by-script c o w = pick (eqb (script (L .classes) (at t o)) script-thai) (thai c o w) (rest o w)
 
   -- an empty romanization is not expanded; in another, capitals go before doubling
   unfoldable pub expand : Choices → Text → ℕ → ℕ → M Work
   expand c rom s e = pick (same rom []) (ret (work rom s e note-none))
-      (by-script s (double (L .classes) t s (capitalize c (L .classes) t (work rom s e note-none))))
+      (by-script c s (double (L .classes) t s (capitalize c (L .classes) t (work rom s e note-none))))

@@ -90,15 +90,15 @@ module _ (L : Lexicon) (t : Text) (e : ℕ) where
       post-bind P _ (grave-far v o w h)
       (λ u q. post-bind P _ (small-y-far v o u q) (λ x z. post-ret _ (finish-far x z)))
 
-  o-ang-far : (v : View) (o : ℕ) (w : Work) → P w → Post Work P (o-ang-step L t v o w)
+  o-ang-far : (c : Choices) (v : View) (o : ℕ) (w : Work) → P w → Post Work P (o-ang-step L t v c o w)
   unfolding o-ang-step
-  o-ang-far v o w h = post-pick (silent (L .rules) (L .classes) t v o w) (post-ret _ (stays _ _ _ h)) (rest-far v o w h)
+  o-ang-far c v o w h = post-pick (silent c (L .rules) (L .classes) t v o w) (post-ret _ (stays _ _ _ h)) (rest-far v o w h)
 
-  thai-far : (v : View) (o : ℕ) (w : Work) → P w → Post Work P (thai L t v o w)
+  thai-far : (c : Choices) (v : View) (o : ℕ) (w : Work) → P w → Post Work P (thai L t v c o w)
   unfolding thai
-  thai-far v o w h =
+  thai-far c v o w h =
       post-maybe (around (L .rules) (L .classes) t w) P (around-far w h)
-      (o-ang-far v o (before (L .rules) (L .classes) t w) (before-far w h))
+      (o-ang-far c v o (before (L .rules) (L .classes) t w) (before-far w h))
       (λ x q. post-ret x q)
 
   expand-far : (v : View) (c : Choices) (rom : Text) (s : ℕ) → Post Work P (expand L t v c rom s e)
@@ -108,7 +108,7 @@ module _ (L : Lexicon) (t : Text) (e : ℕ) where
       let u = capitalize c (L .classes) t (work rom s e 0) in
       let d = double-far s u (capitalize-far c (work rom s e 0) w) in
       post-pick _ (post-ret (work rom s e 0) w)
-      (post-pick _ (thai-far v s (double (L .classes) t s u) d) (rest-far v s (double (L .classes) t s u) d))
+      (post-pick _ (thai-far c v s (double (L .classes) t s u) d) (rest-far v s (double (L .classes) t s u) d))
 
 module _ (D : Tables) (t : Text) (v : View) (s e : ℕ) where
   edge-far : (b : Bool) (rom : Text) → Post Edge (Far e) (edge-of D t v b rom s e)

@@ -109,6 +109,7 @@ module _ (i : Inputs) (ok : refusal i ≡ none) (w : Text) (f : Final (decomposi
       parts a = unfold alone in record {
         mode = omega arith;
         capitals = a .capitals;
+        o-ang = a .o-ang;
         rules = a .rules;
         classes = a .classes;
         vowels = a .vowels;

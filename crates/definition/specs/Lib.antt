@@ -69,6 +69,8 @@ pub mod Covers
 pub mod Within
 pub mod Letters
 pub mod Capitals
+-- where the walk back behind O ang ends
+pub mod OAng
 pub mod VowelBounds
 pub mod ExpandBounds
 pub mod Cores

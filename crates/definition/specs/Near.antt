@@ -92,15 +92,15 @@ module _ (L : Lexicon) (t : Text) (s : ℕ) where
       post-bind (Moved 2 s) _ (grave-moved v o w h)
       (λ u q. post-bind (Moved 2 s) _ (small-y-moved v o u q) (λ x z. post-ret _ (finish-moved x z)))
 
-  o-ang-moved : (v : View) (o : ℕ) (w : Work) → Moved 2 s w → Post Work (Moved 2 s) (o-ang-step L t v o w)
+  o-ang-moved : (c : Choices) (v : View) (o : ℕ) (w : Work) → Moved 2 s w → Post Work (Moved 2 s) (o-ang-step L t v c o w)
   unfolding o-ang-step
-  o-ang-moved v o w h = post-pick (silent (L .rules) (L .classes) t v o w) (post-ret _ (stays _ _ _ h)) (rest-moved v o w h)
+  o-ang-moved c v o w h = post-pick (silent c (L .rules) (L .classes) t v o w) (post-ret _ (stays _ _ _ h)) (rest-moved v o w h)
 
-  thai-moved : (v : View) (o : ℕ) (w : Work) → Moved 1 s w → Post Work (Moved 2 s) (thai L t v o w)
+  thai-moved : (c : Choices) (v : View) (o : ℕ) (w : Work) → Moved 1 s w → Post Work (Moved 2 s) (thai L t v c o w)
   unfolding thai
-  thai-moved v o w h =
+  thai-moved c v o w h =
       post-maybe (around (L .rules) (L .classes) t w) (Moved 2 s) (around-moved w h)
-      (o-ang-moved v o (before (L .rules) (L .classes) t w) (before-moved w h))
+      (o-ang-moved c v o (before (L .rules) (L .classes) t w) (before-moved w h))
       (λ x q. post-ret x q)
 
   expand-moved : (v : View) (c : Choices) (rom : Text) (e : ℕ) → Post Work (Moved 2 s) (expand L t v c rom s e)
@@ -110,7 +110,7 @@ module _ (L : Lexicon) (t : Text) (s : ℕ) where
       let u = capitalize c (L .classes) t (work rom s e 0) in
       let d = double-moved s u (capitalize-moved c (work rom s e 0) w) in
       post-pick _ (post-ret (work rom s e 0) (as-far (as-far w)))
-      (post-pick _ (thai-moved v s (double (L .classes) t s u) d) (rest-moved v s (double (L .classes) t s u) (as-far d)))
+      (post-pick _ (thai-moved c v s (double (L .classes) t s u) d) (rest-moved v s (double (L .classes) t s u) (as-far d)))
 
 module _ (D : Tables) (t : Text) (v : View) (s e : ℕ) where
   edge-near : (b : Bool) (rom : Text) → Post Edge (Near s) (edge-of D t v b rom s e)

@@ -107,6 +107,7 @@ part-accepted i e x w y q = record {
     kept a = record {
       mode = a .mode;
       capitals = a .capitals;
+      o-ang = a .o-ang;
       rules = a .rules;
       classes = a .classes;
       vowels = a .vowels;

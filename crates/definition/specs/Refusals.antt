@@ -14,6 +14,10 @@ refused-mode = 1
 abbrev pub refused-capitals : ℕ
 refused-capitals = 12
 
+-- the choice of where the walk back behind O ang ends
+abbrev pub refused-o-ang : ℕ
+refused-o-ang = 15
+
 -- the rule table: its header or a length; a flag or count out of its range; a character of a source or a language code;
 -- a byte of a target; the order of its rows; too many rows. (2 stood for all of these and is not returned)
 abbrev pub refused-length : ℕ
@@ -74,7 +78,8 @@ refused-output = 11
 -- all of them
 abbrev pub numbers : List ℕ
 numbers =
-    refused-mode ∷ refused-capitals ∷ refused-length ∷ refused-range ∷ refused-letter ∷ refused-byte ∷ refused-order ∷ refused-rows
+    refused-mode ∷ refused-capitals ∷ refused-o-ang
+    ∷ refused-length ∷ refused-range ∷ refused-letter ∷ refused-byte ∷ refused-order ∷ refused-rows
     ∷ refused-classes ∷ refused-vowels ∷ refused-decompositions ∷ refused-code
     ∷ refused-utf8 ∷ refused-too-long ∷ refused-left-out ∷ refused-slots ∷ refused-room ∷ refused-edge-text ∷ refused-output ∷ []
 

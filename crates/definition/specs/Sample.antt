@@ -1,4 +1,4 @@
--- Document 01's sample tables, as bytes, and its sixteen results, computed; capitals; and each refusal once.
+-- Document 01's sample tables, as bytes, and its sixteen results, computed; capitals; O ang; and each refusal once.
 use mathlib.Core.Bool.{Bool, true, not, _&&_}
 use mathlib.Core.Path.{_≡_, refl}
 use mathlib.Core.List.{List, [], _∷_, _++_}
@@ -81,12 +81,18 @@ sample-vowels = block (vowel 5 "a" ++ vowel 6 "a")
 abbrev pub no-decompositions : List ℕ
 no-decompositions = block []
 
--- Choices: none, as the port has it, or this number for capitals
+-- Choices: these numbers for capitals and for O ang; one of them alone; or none, as the port has it
+abbrev pub choose : ℕ → ℕ → Choices
+choose capitals o-ang = record { capitals = capitals; o-ang = o-ang }
+
 abbrev pub capitals-by : ℕ → Choices
-capitals-by n = record { capitals = n }
+capitals-by n = choose n 0
+
+abbrev pub o-ang-by : ℕ → Choices
+o-ang-by n = choose 0 n
 
 abbrev pub as-port : Choices
-as-port = capitals-by 0
+as-port = choose 0 0
 
 -- A call with choices, rules and classes, and room enough; and one with the sample's
 abbrev pub sample-with : ℕ → Choices → List ℕ → List ℕ → String → String → Inputs
@@ -221,6 +227,49 @@ pub capitals-unlisted : (same (listed 1 2) (listed 1 1) && not (same (listed 0 2
 unfolding compute
 capitals-unlisted = refl
 
+-- O ang: the walk back ends at a space where that is chosen. Over the space it finds the k of the word before
+abbrev walked : List ℕ → List ℕ → ℕ → String → String → Bool
+walked rules classes n text w =
+    gave (called (sample-with 0 (o-ang-by n) rules classes "" text)) (encoded (chars w))
+
+abbrev sample-walked : ℕ → String → String → Bool
+sample-walked n text w = walked sample-rules sample-classes n text w
+
+pub sample-o-ang : (
+    sample-walked 0 "ก ่อก" "k ok" && sample-walked 1 "ก ่อก" "k k"
+    && sample-walked 0 "ก่อก" "kok" && sample-walked 1 "ก่อก" "kok") ≡ true
+unfolding compute
+sample-o-ang = refl
+
+-- It is the nearest space that ends it: behind the last of two nothing is spoken, though between them and before them there is.
+-- And in the second word, where a consonant stands behind the space, O ang is spoken either way
+pub nearest-space : (
+    sample-walked 0 "ก ก ่อก" "k k ok" && sample-walked 1 "ก ก ่อก" "k k k"
+    && sample-walked 1 "ก  ่อก" "k  k" && sample-walked 1 "่ ก่อก" " kok") ≡ true
+unfolding compute
+nearest-space = refl
+
+-- Another character of category 7, here U+00B7, does not end it. A rule for the space itself gives its edge a text, which is not read. An edge
+-- over a space is read whole where it ends behind that space, and where its text is empty the walk is over
+abbrev o-ang-rules : List ℕ
+o-ang-rules = block (joint (
+    rule " " "k" ∷ rule "ก" "k" ∷ rule "ข ค" "" ∷ rule "ง จ" "ng" ∷ rule "อ" "o" ∷ []))
+
+abbrev o-ang-classes : List ℕ
+o-ang-classes = block (joint (
+    class-by 0x20 7 0 0 ∷ class-by 0xB7 7 0 0 ∷ letters 1 (chars "กขคงจอ") ∷ class-by 0xE48 2 1 32 ∷ []))
+
+abbrev o-ang-walked : ℕ → String → String → Bool
+o-ang-walked n text w = walked o-ang-rules o-ang-classes n text w
+
+pub o-ang-readings : (
+    o-ang-walked 0 "ก·่อก" "k ok" && o-ang-walked 1 "ก·่อก" "k ok"
+    && o-ang-walked 0 " ่อก" "kok" && o-ang-walked 1 " ่อก" "kk"
+    && o-ang-walked 0 "ง จอก" "ngok" && o-ang-walked 1 "ง จอก" "ngok"
+    && o-ang-walked 0 "กข คอก" "kok" && o-ang-walked 1 "กข คอก" "kk") ≡ true
+unfolding compute
+o-ang-readings = refl
+
 -- Each number of a refusal with its place: कत, where one thing is wrong or too small.
 -- The change of a call, and what it is refused with
 pub record Refused : Type 0 where
@@ -232,10 +281,10 @@ abbrev pub refused-at : ℕ → ℕ → Inputs → Refused
 refused-at n p i = record { call = i; number = n; place = p }
 
 -- a call with these tables and choices, and one with this code, text and room
-abbrev chosen : ℕ → ℕ → List ℕ → List ℕ → List ℕ → Inputs
-chosen mode capitals r c v = record {
+abbrev chosen : ℕ → Choices → List ℕ → List ℕ → List ℕ → Inputs
+chosen mode choices r c v = record {
   mode = mode;
-  choices = capitals-by capitals;
+  choices = choices;
   rules = r;
   classes = c;
   vowels = v;
@@ -248,7 +297,7 @@ chosen mode capitals r c v = record {
 }
 
 abbrev tabled : List ℕ → List ℕ → List ℕ → Inputs
-tabled r c v = chosen 0 0 r c v
+tabled r c v = chosen 0 as-port r c v
 
 abbrev roomed : ℕ → List ℕ → List ℕ → ℕ → ℕ → ℕ → Inputs
 roomed mode code text slots room out = record {
@@ -275,8 +324,9 @@ kata = encoded (chars "कत")
 abbrev pub refusals : List Refused
 refusals =
     refused-at 1 0 (roomed 4 [] kata 24 3 3)
-    ∷ refused-at 1 0 (chosen 4 2 sample-rules sample-classes sample-vowels)
-    ∷ refused-at 12 0 (chosen 0 2 cut sample-classes sample-vowels)
+    ∷ refused-at 1 0 (chosen 4 (choose 2 2) sample-rules sample-classes sample-vowels)
+    ∷ refused-at 12 0 (chosen 0 (choose 2 2) cut sample-classes sample-vowels)
+    ∷ refused-at 15 0 (chosen 0 (choose 1 2) cut sample-classes sample-vowels)
     ∷ refused-at 20 5 (tabled cut sample-classes sample-vowels)
     ∷ refused-at 3 5 (tabled sample-rules (block (class-by 0x20 7 0 lower-case)) sample-vowels)
     ∷ refused-at 3 5 (tabled sample-rules cut sample-vowels)

@@ -119,6 +119,8 @@ tag-other = 5
 pub record Choices : Type 0 where
   -- capitals as the Python has them
   pub capitals : ℕ
+  -- the walk back behind O ang ends at a space
+  pub o-ang : ℕ
 
 -- What the choice of a rule depends on
 pub record Lexicon : Type 0 where
