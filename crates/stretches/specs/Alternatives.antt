@@ -16,21 +16,21 @@ use Rattle.base.specs.Bools.{eqb-alike}
 use Rattle.base.specs.ListLaws.{map-uncons}
 use Rattle.definition.specs.Notes.{note-alt, note-alt3}
 use Rattle.definition.specs.Texts.{Text, the-space, at}
-use Rattle.definition.specs.Tables.{Rule, Decomposition, Lexicon, Tables}
+use Rattle.definition.specs.Tables.{Rule, Decomposition, Choices, Lexicon, Tables}
 use Rattle.definition.specs.Edges.{Edge, new-in, View, Mem, ret, _>>=_}
 use Rattle.definition.specs.Rules.{valids}
 use Rattle.definition.specs.Paths.{akin, other, also-all, cored, by-target, by-end-target, by-rule, by-rules, by-edges, with-alternatives-of}
 use Rattle.definition.specs.Decomposing.{lattice, path, with-alternatives}
-use Rattle.definition.specs.Blank.{blank-alpha}
 use Rattle.definition.specs.Alternatives.{Gives, gives-any, by-rules-added}
-use Rattle.stretches.specs.Demand.{First, within, shift}
+use Rattle.stretches.specs.Demand.{First-if, within, shift}
 use Rattle.stretches.specs.Given.{Fair, FairTables, Stretch, Span, at-outside}
 use Rattle.stretches.specs.Windows.{window, Apart, Agree}
 use Rattle.stretches.specs.Texts.{space-at-end, space-before-start, left-part, right-part}
 use Rattle.stretches.specs.Boundaries.{See, see-moved}
 use Rattle.stretches.specs.Rules.{valids-inside, valids-space}
 use Rattle.stretches.specs.Building.{Inside}
-use Rattle.stretches.specs.Edges.{Outside, left, right, Clear, inside, outside, clear-goes, within-inside, within-outside, Same, see-edges, new-inside, added-outside}
+use Rattle.stretches.specs.Edges.{Outside, left, right, Clear, inside, outside, clear-goes, within-inside, within-outside, Same, new-inside, added-outside}
+use Rattle.stretches.specs.Walks.{see-edges}
 use Rattle.stretches.specs.Lattice.{lattice-inside}
 use Rattle.stretches.specs.Path.{path-inside}
 
@@ -77,7 +77,8 @@ module _ {a n : ℕ} (x : Edge) (b : Inside 0 n x) where
 
 -- The valid rules of an edge `X` outside: what is remembered of the stretch stays, as they are asked elsewhere;
 -- and an edge that ends at the stretch's start is over a space, and has none
-module _ {L : Lexicon} (fair : Fair L) {T st : Text} {a : ℕ} (h : Stretch T st a) (W : View) (X : Edge) (m : Mem) where
+module _ {L : Lexicon} (fair : Fair L) {T st : Text} {a : ℕ} (h : Stretch T st a) (c : Choices) (W : View) (X : Edge)
+    (m : Mem) where
   record Asked : Type 0 where
     frame : window a (length st) ((valids L T W (X .from) (X .to) m) .1) ≡ window a (length st) m
     rules : ((X .to < a) ⊎ (a + length st ≤ X .from)) ⊎ ((valids L T W (X .from) (X .to) m) .0 ≡ [])
@@ -92,10 +93,10 @@ module _ {L : Lexicon} (fair : Fair L) {T st : Text} {a : ℕ} (h : Stretch T st
   -- in another stretch
   asked-near : {u : Text} {b : ℕ} → Stretch T u b → b ≤ X .from → X .from < X .to → X .from ≤ b + length u
       → Apart b (length u) a (length st) → (X .to < a) ⊎ (a + length st ≤ X .from) → Asked
-  asked-near {u} {b} k l c d far o = record {
+  asked-near {u} {b} k l j d far o = record {
     frame =
         let z : Span b (length u) (X .from) (X .to) (X .from - b) (X .to - b) = omega arith in
-        valids-inside fair k (see-moved u b W) z .frame m a (length st) far;
+        valids-inside fair k (see-moved c k W) z .frame m a (length st) far;
     rules = inl o;
   }
 
@@ -138,7 +139,8 @@ module _ {L : Lexicon} (fair : Fair L) {T st : Text} {a : ℕ} (h : Stretch T st
       go (inr e) = subst (λ rs. Same a (length st) (by-rules X rs S) s) (sym e) (unfold by-rules in r)
 
 -- Edge by edge of the path
-module _ {L : Lexicon} (fair : Fair L) {T st : Text} {a : ℕ} (h : Stretch T st a) {W v : View} (g : See st a W v) where
+module _ {L : Lexicon} (fair : Fair L) {T st : Text} {a : ℕ} (h : Stretch T st a) {c : Choices} {W v : View}
+    (g : See c T st a W v) where
   -- an edge of the stretch: its rules are asked alike
   own-inside : (x : Edge) → Inside 0 (length st) x
       → Agree a (length st) (List Rule) (valids L T W (a + x .from) (a + x .to)) (valids L st v (x .from) (x .to))
@@ -172,7 +174,7 @@ module _ {L : Lexicon} (fair : Fair L) {T st : Text} {a : ℕ} (h : Stretch T st
       go : Clear a n X → Rest → Same a n ((by-edges L T W (X ∷ XS) S K) .0) ((by-edges L st v xs s k) .0)
       go (outside o) f = f xs _ s _ k
           (ap (λ b. put b X (keep (within a n) XS)) (sym (within-outside a n X o)) ∙ e .cut) (e .full)
-          (by-rules-outside fair h W X K o S s r) (asked fair h W X K o .frame ∙ w)
+          (by-rules-outside fair h c W X K o S s r) (asked fair h c W X K o .frame ∙ w)
       go (inside i) f =
           let c = ap (λ b. put b X (keep (within a n) XS)) (sym (within-inside a n X i)) ∙ e .cut in
           let z = map-uncons (shift a) X (keep (within a n) XS) xs c in
@@ -182,12 +184,12 @@ module _ {L : Lexicon} (fair : Fair L) {T st : Text} {a : ℕ} (h : Stretch T st
 
 -- Mode 2's list
 pub listed-inside : {D : Tables} {ds : List Decomposition} → FairTables D ds → {T st : Text} {a : ℕ} → Stretch T st a
-    → First st
+    → First-if (D .choices) st
     → keep (within a (length st)) (with-alternatives D ds T) ≡ map (shift a) (with-alternatives D ds st)
 unfolding with-alternatives with-alternatives-of path
 listed-inside {D} {ds} fair {T} {st} {a} h first =
     let r = lattice-inside fair h first in
     let p = path-inside fair h first in
-    let g = see-edges (r .edges) first (D .classes) (blank-alpha (D .classes) (fair .lexicon .blank)) in
+    let g = see-edges fair h first (r .edges) in
     by-edges-inside (fair .lexicon) h g (path D ds T) (path D ds st) (path D ds T) (path D ds st)
     (lattice D ds T .1) (lattice D ds st .1) p p (r .memory) .cut

@@ -1,6 +1,6 @@
 -- Demand 3 applied: its premises met by document 01's sample tables, its equations for a line of two words, for a word
--- where capitals are chosen and for one with a character that stands for others, and a text for which it would be false
--- without the premise on U+0E2D.
+-- where capitals are chosen and for one with a character that stands for others, a text for which it would be false
+-- without the premise on U+0E2D, and the same text with the choice of O ang 1, where nothing is asked.
 use mathlib.Core.Bool.{true, not, true≢false}
 use mathlib.Core.Path.{_≡_, refl, sym, _∙_, ap}
 use mathlib.Core.List.{[], _∷_, _++_, map}
@@ -15,6 +15,7 @@ use Rattle.base.specs.Alls.{All-getD, all-all}
 use Rattle.definition.specs.Notes.{note-rom, note-core, note-exp, note-single, note-Zs, note-orig, note-decomp}
 use Rattle.definition.specs.Texts.{Text, chars, the-space, o-ang, at}
 use Rattle.definition.specs.Utf8.{encoded}
+use Rattle.definition.specs.Tables.{Choices}
 use Rattle.definition.specs.Edges.{Edge}
 use Rattle.definition.specs.Building.{single}
 use Rattle.definition.specs.Paths.{joined}
@@ -22,9 +23,9 @@ use Rattle.definition.specs.Decomposing.{edges, path}
 use Rattle.definition.specs.Listing.{block}
 use Rattle.definition.specs.Call.{Inputs, tables, decompositions, characters}
 use Rattle.definition.specs.Compute.{compute}
-use Rattle.definition.specs.Sample.{sample-rules, sample-classes-by, capitals-by, lower-case, sample-with, sample}
+use Rattle.definition.specs.Sample.{sample-rules, sample-classes-by, sample-classes, capitals-by, o-ang-by, as-port, lower-case, sample-with, sample}
 use Rattle.definition.specs.Parts.{Accepts}
-use Rattle.stretches.specs.Demand.{spaceless, spaceless-if, spaceless-rule, Taken, has-row, space-edge, over, Before, start, After, end, First, within, shift, Alone}
+use Rattle.stretches.specs.Demand.{spaceless, spaceless-if, spaceless-rule, Taken, has-row, space-edge, over, Before, start, After, end, First, First-if, within, shift, Alone}
 use Rattle.stretches.specs.Proved.{demand}
 
 -- U+0E2D only first, by computation
@@ -41,6 +42,10 @@ first-by (c ∷ w) e (suc p) q =
     other-by : (c : ℕ) → not (eqb c o-ang) ≡ true → Other c
     other-by c t z = true≢false (sym t ∙ ap not (eq-eqb c o-ang z))
 
+-- Where the choice of O ang is 1, nothing is asked of any text
+pub free-by : (c : Choices) (st : Text) → c .o-ang ≡ 1 → First-if c st
+free-by c st e z = absurd (omega arith)
+
 -- A line of two words
 abbrev line : Inputs
 line = sample 2 "" "कत क्त"
@@ -52,13 +57,13 @@ line-taken = record { accepted = refl; no-space = refl }
 pub first-word : Alone (tables line) (decompositions line) (characters line) (chars "कत") 0 × Accepts line (chars "कत")
 unfolding compute
 first-word = demand line line-taken .stretches [] (chars "कत") (chars " क्त") refl start (After.space (chars "क्त"))
-    (first-by (chars "कत") refl)
+    (λ z. first-by (chars "कत") refl)
 
 pub second-word : Alone (tables line) (decompositions line) (characters line) (chars "क्त") 3
     × Accepts line (chars "क्त")
 unfolding compute
 second-word = demand line line-taken .stretches (chars "कत ") (chars "क्त") [] refl (Before.space (chars "कत")) end
-    (first-by (chars "क्त") refl)
+    (λ z. first-by (chars "क्त") refl)
 
 -- the space between them
 pub line-space : keep (over 2) (edges (tables line) (decompositions line) (characters line))
@@ -93,7 +98,7 @@ pub capital-word : Alone (tables capital-line) (decompositions capital-line) (ch
     × Accepts capital-line (chars "Жж")
 unfolding compute
 capital-word = demand capital-line capital-taken .stretches (chars "ж ") (chars "Жж") (chars " ж") refl
-    (Before.space (chars "ж")) (After.space (chars "ж")) (first-by (chars "Жж") refl)
+    (Before.space (chars "ж")) (After.space (chars "ж")) (λ z. first-by (chars "Жж") refl)
 
 -- The word's edges alone, moved by 2: Ж before a lower-case letter is "Zh"
 pub capital-edges :
@@ -106,7 +111,7 @@ capital-edges = capital-word .0 .edges
 abbrev pub halves : ℕ → String → Inputs
 halves mode text = record {
   mode = mode;
-  choices = capitals-by 0;
+  choices = as-port;
   rules = block [];
   classes = block (0 ∷ 0 ∷ 0x20 ∷ 7 ∷ 0 ∷ 0 ∷ 0 ∷ 0 ∷ 0x31 ∷ 4 ∷ 0 ∷ 0 ∷ 0 ∷ 0 ∷ 0xBD ∷ 4 ∷ 0 ∷ 0 ∷ []);
   vowels = block [];
@@ -129,7 +134,7 @@ pub half-word : Alone (tables half-line) (decompositions half-line) (characters 
     × Accepts half-line (chars "½1")
 unfolding compute
 half-word = demand half-line half-taken .stretches (chars "1 ") (chars "½1") [] refl (Before.space (chars "1")) end
-    (first-by (chars "½1") refl)
+    (λ z. first-by (chars "½1") refl)
 
 -- The word's edges alone, moved by 2: ½ is parted from the number beside it, and not from the one beyond the space
 pub half-edges : keep (within 2 2) (edges (tables half-line) (decompositions half-line) (characters half-line))
@@ -137,7 +142,8 @@ pub half-edges : keep (within 2 2) (edges (tables half-line) (decompositions hal
 unfolding compute shift
 half-edges = half-word .0 .edges
 
--- What document 01 has run: ก, space, U+0E48, อ, ก gives "k ok", while U+0E48, อ, ก alone gives "k"
+-- What document 01 has run, with the choice of O ang 0: ก, space, U+0E48, อ, ก gives "k ok", while U+0E48, อ, ก alone
+-- gives "k"
 abbrev thai-line : Inputs
 thai-line = sample 1 "" "ก ่อก"
 
@@ -164,3 +170,28 @@ o-ang-needed every =
     let e : chars "ok" ≡ chars "k" = sym in-the-line ∙ ap joined (a .path) ∙ by-itself in
     let n : _≡_ {A = ℕ} 2 1 = ap length e in
     omega arith
+
+-- With the choice 1 the walk back from อ ends at the space: the statement holds of this line too, with nothing asked
+abbrev o-ang-line : Inputs
+o-ang-line = sample-with 1 (o-ang-by 1) sample-rules sample-classes "" "ก ่อก"
+
+pub o-ang-taken : Taken o-ang-line
+unfolding compute spaceless spaceless-if spaceless-rule
+o-ang-taken = record { accepted = refl; no-space = refl }
+
+pub o-ang-word : Alone (tables o-ang-line) (decompositions o-ang-line) (characters o-ang-line) (chars "่อก") 2
+    × Accepts o-ang-line (chars "่อก")
+unfolding compute
+o-ang-word = demand o-ang-line o-ang-taken .stretches (chars "ก ") (chars "่อก") [] refl (Before.space (chars "ก")) end
+    (free-by (o-ang-by 1) (chars "่อก") refl)
+
+-- In the line the word gives what it gives alone, "k"; the whole is "k k"
+pub o-ang-path :
+    joined (keep (within 2 3) (path (tables o-ang-line) (decompositions o-ang-line) (characters o-ang-line)))
+    ≡ chars "k"
+unfolding compute shift
+o-ang-path = ap joined (o-ang-word .0 .path)
+
+pub o-ang-whole : joined (path (tables o-ang-line) (decompositions o-ang-line) (characters o-ang-line)) ≡ chars "k k"
+unfolding compute
+o-ang-whole = refl

@@ -1,39 +1,53 @@
 -- Start of word and end of word inside a stretch.
-use mathlib.Core.Bool.{Bool, not, _&&_}
+use mathlib.Core.Bool.{Bool, true, false, not, _&&_}
 use mathlib.Core.Path.{_≡_, refl, ap}
 use mathlib.Core.Logic.{_⊎_, inl}
 use Prim.Native.Nat.{ℕ, zero, suc, _+_, _≤_, _<_}
 use native.Mathlib.Omega.{arith}
 use lib.Dec.{eqb}
 use lib.ListN.{length, getD}
+use Rattle.base.specs.Pick.{pick}
 use Rattle.definition.specs.Texts.{Text, at}
-use Rattle.definition.specs.Tables.{Lexicon}
+use Rattle.definition.specs.Tables.{Choices, Lexicon}
 use Rattle.definition.specs.Classes.{alpha}
 use Rattle.definition.specs.Edges.{View, Mem}
 use Rattle.definition.specs.Boundaries.{goes-on, word-end, fresh, recall, word-start}
+use Rattle.definition.specs.Expansion.{stretch-start, walk-start}
 use Rattle.stretches.specs.Demand.{First}
 use Rattle.stretches.specs.Given.{Fair, any-rules, Stretch}
 use Rattle.stretches.specs.Windows.{window-at, Agree, sim-ret, remember-inside}
-use Rattle.stretches.specs.Texts.{fits-inside}
+use Rattle.stretches.specs.Texts.{fits-inside, stretch-start-inside}
 
--- What is seen of the edges so far on the whole text (`W`) and on the stretch (`v`). What stands behind a position
--- is seen alike, or it doesn't matter: only U+0E2D asks it, and at the stretch's start it has no Thai before it
-pub record See (st : Text) (a : ℕ) (W v : View) : Type 0 where
+-- What is seen of the edges so far on the whole text (`W`) and on the stretch (`v`), under these choices. What stands
+-- behind a position, as far back as the walk goes, is seen alike, or it doesn't matter: only U+0E2D asks it, and at the
+-- stretch's start it has no Thai before it
+pub record See (c : Choices) (T st : Text) (a : ℕ) (W v : View) : Type 0 where
   pub letter : (P p : ℕ) → P ≡ a + p → p < length st → W .letter P ≡ v .letter p
   pub closed : (P p : ℕ) → P ≡ a + p → 0 < p → p ≤ length st → W .closed P ≡ v .closed p
-  pub behind : ((p : ℕ) → p ≤ length st → W .behind 0 (a + p) ≡ v .behind 0 p) ⊎ First st
+  pub behind : ((p : ℕ) → p ≤ length st
+      → W .behind (walk-start c T (a + p)) (a + p) ≡ v .behind (walk-start c st p) p) ⊎ First st
 
--- a view from the stretch's start, of what is seen on the whole
-unfoldable pub moved-view : ℕ → View → View
-moved-view a W = record {
+-- a view from the stretch's start, of what is seen on the whole. Where the walk back ends at a space, that is counted
+-- from the stretch's start too, and else it goes on to the text's start
+unfoldable pub moved-view : Choices → ℕ → View → View
+moved-view c a W = record {
   letter = λ p. W .letter (a + p);
   closed = λ p. W .closed (a + p);
-  behind = λ s p. W .behind s (a + p);
+  behind = λ s p. W .behind (pick (eqb (c .o-ang) 1) (a + s) s) (a + p);
 }
 
-pub see-moved : (st : Text) (a : ℕ) (W : View) → See st a W (moved-view a W)
-unfolding moved-view
-see-moved st a W = record { letter = λ P p i l. rw i; closed = λ P p i z l. rw i; behind = inl (λ p l. refl) }
+pub see-moved : (c : Choices) {T st : Text} {a : ℕ} → Stretch T st a → (W : View) → See c T st a W (moved-view c a W)
+unfolding moved-view walk-start
+see-moved c {T} {st} {a} h W = record {
+  letter = λ P p i l. rw i;
+  closed = λ P p i z l. rw i;
+  behind = inl (λ p l. ap (λ s. W .behind s (a + p)) (ends (eqb (c .o-ang) 1) p l));
+}
+  where
+    ends : (b : Bool) (p : ℕ) → p ≤ length st → pick b (stretch-start T (a + p)) 0
+        ≡ pick b (a + pick b (stretch-start st p) 0) (pick b (stretch-start st p) 0)
+    ends true p l = unfold pick in stretch-start-inside h (a + p) p refl l
+    ends false p l = unfold pick in refl
 
 module _ {L : Lexicon} (fair : Fair L) {T st : Text} {a : ℕ} (h : Stretch T st a) where
   pub word-end-inside : (P p : ℕ) → P ≡ a + p → p ≤ length st
@@ -43,7 +57,7 @@ module _ {L : Lexicon} (fair : Fair L) {T st : Text} {a : ℕ} (h : Stretch T st
       (any-rules fair (goes-on (L .classes) T P) (goes-on (L .classes) st p)
       (λ r s. rw (fits-inside h (r .source) P p s e l))))
 
-  module _ {W v : View} (g : See st a W v) where
+  module _ {c : Choices} {W v : View} (g : See c T st a W v) where
     fresh-inside : (P p : ℕ) → P ≡ a + p → p < length st → fresh (L .classes) T W P ≡ fresh (L .classes) st v p
     unfolding fresh
     fresh-inside P p e l = rw (h .back P p e (omega arith), g .letter P p e l)

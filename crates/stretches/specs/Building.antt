@@ -11,7 +11,7 @@ use Rattle.base.specs.Lists.{tail, maybe}
 use Rattle.base.specs.Alls.{All-tail, Opt}
 use Rattle.definition.specs.Notes.{note-single, note-Mn, note-Cf, note-Co, note-Zs, note-orig, note-decomp}
 use Rattle.definition.specs.Texts.{Text, the-space, at}
-use Rattle.definition.specs.Tables.{Decomposition, Lexicon, Tables}
+use Rattle.definition.specs.Tables.{Decomposition, Choices, Lexicon, Tables}
 use Rattle.definition.specs.Edges.{Edge, View, M, ret}
 use Rattle.definition.specs.Expansion.{Work}
 use Rattle.definition.specs.Building.{is-tail, without-plus, as-edge, single, fallback-by, fallback-edge, edge-of, span-edge}
@@ -63,13 +63,13 @@ plus-solid w s = pick-all Solid (is-tail w) {x = tail w} {y = w} (All-tail Ink w
 
 -- The edge of a span
 module _ {D : Tables} {ds : List Decomposition} (fair : FairTables D ds) {T st : Text} {a : ℕ} (h : Stretch T st a)
-    {W v : View} (g : See st a W v) where
+    {W v : View} (g : See (D .choices) T st a W v) where
   edge-of-inside : (b : Bool) (rom : Text) {P E p e : ℕ} → Span a (length st) P E p e → e ≤ length st → Solid rom
       → Sim a (length st) Edge (shift a) (Inside 0 (length st)) (edge-of D T W b rom P E) (edge-of D st v b rom p e)
   unfolding edge-of
   edge-of-inside b rom {p = p} z l s =
       sim-bind _ (vowel-step-inside (fair .lexicon) h g (D .vowels) (fair .vowels) b rom z l s)
-      (λ new q. sim-bind _ (expand-inside (fair .lexicon) h g (D .choices) new z l q)
+      (λ new q. sim-bind _ (expand-inside (fair .lexicon) h g new z l q)
       (λ x y. sim-ret-by _ _ (as-edge-moved a b rom new x) (as-edge-held (length st) p b rom new x y)))
 
   pub span-edge-inside : {P E p e : ℕ} → Span a (length st) P E p e → e ≤ length st
@@ -81,7 +81,8 @@ module _ {D : Tables} {ds : List Decomposition} (fair : FairTables D ds) {T st :
       (λ x y. sim-ret (some x) y)))
 
 -- The fallback
-module _ {L : Lexicon} (fair : Fair L) {T st : Text} {a : ℕ} (h : Stretch T st a) {W v : View} (g : See st a W v) where
+module _ {L : Lexicon} (fair : Fair L) {T st : Text} {a : ℕ} (h : Stretch T st a) {c : Choices} {W v : View}
+    (g : See c T st a W v) where
   fallback-by-inside : (p : ℕ) (o : Option Text) → p < length st
       → fallback-by T (a + p) o ≡ shift a (fallback-by st p o)
   unfolding fallback-by maybe

@@ -3,7 +3,8 @@
 -- edge, and no other reaches over it. For each stretch between spaces or text ends in which U+0E2D stands, if at all,
 -- only as the first character, the edges, path and alternatives inside it are exactly those the definition gives that
 -- stretch as a whole text, same tables and language code, moved by its start." (The tables are four: rules, classes,
--- vowels, and the characters that stand for others.)
+-- vowels, and the characters that stand for others.) Where the choice of O ang is 1, the condition on U+0E2D
+-- is not asked.
 use mathlib.Core.Bool.{Bool, true, not, _&&_}
 use mathlib.Core.Path.{_≡_}
 use mathlib.Core.List.{List, [], _∷_, _++_, map}
@@ -15,7 +16,7 @@ use Rattle.base.specs.Pick.{pick}
 use Rattle.base.specs.Lists.{keep, any, all}
 use Rattle.definition.specs.Notes.{note-Zs, note-orig}
 use Rattle.definition.specs.Texts.{Text, the-space, o-ang, at}
-use Rattle.definition.specs.Tables.{Rule, Class, Decomposition, Tables}
+use Rattle.definition.specs.Tables.{Rule, Class, Decomposition, Choices, Tables}
 use Rattle.definition.specs.Edges.{Edge}
 use Rattle.definition.specs.Building.{single}
 use Rattle.definition.specs.Decomposing.{edges, path, with-alternatives, alternatives, all-edges}
@@ -69,6 +70,10 @@ pub data After : Text → Type 0 where
 abbrev pub First : Text → Type 0
 First st = (p : ℕ) → at st p ≡ o-ang → p ≡ 0
 
+-- which is asked only where the walk back behind U+0E2D may leave the stretch: where the choice is 0
+abbrev pub First-if : Choices → Text → Type 0
+First-if c st = c .o-ang ≡ 0 → First st
+
 -- an edge inside the stretch of length `n` from `a` on; an edge moved by `a`
 unfoldable pub within : ℕ → ℕ → Edge → Bool
 within a n x = leb a (x .from) && leb (x .to) (a + n)
@@ -89,7 +94,7 @@ pub record Alone (D : Tables) (ds : List Decomposition) (T st : Text) (a : ℕ) 
 -- For each stretch (one with spaces of its own is covered too); and the stretch is an accepted text, with the same
 -- choices, tables and code
 abbrev pub Stretches : Inputs → Type 0
-Stretches i = (x st y : Text) → characters i ≡ x ++ (st ++ y) → Before x → After y → First st
+Stretches i = (x st y : Text) → characters i ≡ x ++ (st ++ y) → Before x → After y → First-if (tables i .choices) st
     → Alone (tables i) (decompositions i) (characters i) st (length x) × Accepts i st
 
 pub record Demand (i : Inputs) : Type 0 where

@@ -13,14 +13,14 @@ use Rattle.definition.specs.Texts.{Text, the-space}
 use Rattle.definition.specs.Utf8.{bad-sequence, decoded, encode, encoded}
 use Rattle.definition.specs.Decomposing.{edges, path}
 use Rattle.definition.specs.Listing.{shown}
-use Rattle.definition.specs.Call.{Inputs, tables, decompositions, characters, refusal, called}
+use Rattle.definition.specs.Call.{Inputs, tables-of, tables, decompositions, characters, refusal, called}
 use Rattle.definition.specs.Accepted.{accepted-of}
 use Rattle.definition.specs.Promises.{Held}
 use Rattle.definition.specs.Roundtrip.{encoded-append}
 use Rattle.definition.specs.Rewritten.{encoded-decoded}
 use Rattle.definition.specs.Parts.{with-text}
 use Rattle.definition.specs.Endings.{romanization, Romanized, romanized, unrefused}
-use Rattle.stretches.specs.Demand.{Taken, First, within}
+use Rattle.stretches.specs.Demand.{Taken, First-if, within}
 use Rattle.stretches.specs.Driver.{spaced, line-of, string, WordCall, Line, Spaceless, Firsts, wrote, Reads, Promise}
 use Rattle.stretches.specs.Cuts.{Cuts, cuts}
 use Rattle.stretches.specs.Rooms.{held-part}
@@ -120,7 +120,7 @@ module _ (i j : Inputs) (c : WordCall i j) where
       (d, wrote-is j (romanized j d) ∙ word-string e)
 
 -- A line's call and its words' calls
-module _ (i : Inputs) (words : List Inputs) (h : Line i words) (no-space : Spaceless i) (firsts : Firsts words) where
+module _ (i : Inputs) (words : List Inputs) (h : Line i words) (no-space : Spaceless i) (firsts : Firsts i words) where
   line : Romanized i (called i)
   line = romanized i (h .done)
 
@@ -135,8 +135,9 @@ module _ (i : Inputs) (words : List Inputs) (h : Line i words) (no-space : Space
   unfolding characters
   texts = ap decoded (h .text) ∙ bytes .characters ∙ ap line-of (map-map decoded (λ j. j .text) words)
 
-  first : All First (map characters words)
-  first = All-to First characters words firsts
+  first : All (First-if (tables i .choices)) (map characters words)
+  unfolding tables tables-of
+  first = All-to (First-if (i .choices)) characters words firsts
 
   readings : All (λ j. Reading i (characters j)) words
   readings = All-of (Reading i) characters words (line-words i taken (map characters words) texts first)

@@ -12,7 +12,7 @@ use Rattle.definition.specs.Tables.{Decomposition, Tables}
 use Rattle.definition.specs.Paths.{joined}
 use Rattle.definition.specs.Decomposing.{path}
 use Rattle.definition.specs.Call.{Inputs, tables, decompositions, characters, Called, called}
-use Rattle.stretches.specs.Demand.{spaceless-rule, Taken, First}
+use Rattle.stretches.specs.Demand.{spaceless-rule, Taken, First-if}
 
 -- Words joined by single spaces, as characters or as bytes: U+0020 is the byte 0x20. A word may be empty. That it has
 -- no space need not be asked: what stands here of words holds of phrases too
@@ -28,10 +28,11 @@ line-of (w ∷ ws) = w ++ spaced ws
 unfoldable pub string : Tables → List Decomposition → Text → Text
 string D ds t = joined (path D ds t)
 
--- In characters: take an accepted line, rules with no space, and U+0E2D in no word past its first character. The line's
--- string is its words' own strings, joined by single spaces
+-- In characters: take an accepted line, rules with no space, and, where the choice of O ang is 0, U+0E2D in no word
+-- past its first character. The line's string is its words' own strings, joined by single spaces
 abbrev pub Strings : Type 0
-Strings = (i : Inputs) → Taken i → (ws : List Text) → characters i ≡ line-of ws → All First ws
+Strings = (i : Inputs) → Taken i → (ws : List Text) → characters i ≡ line-of ws
+    → All (First-if (tables i .choices)) ws
     → string (tables i) (decompositions i) (characters i) ≡ line-of (map (string (tables i) (decompositions i)) ws)
 
 -- A word's call: the line's mode, choices, tables and code; slots, room and output at least as large
@@ -55,12 +56,13 @@ pub record Line (i : Inputs) (words : List Inputs) : Type 0 where
   pub text : i .text ≡ line-of (map (λ j. j .text) words)
   pub calls : All (WordCall i) words
 
--- no rule has a space in its source or in a target; U+0E2D stands in no word past its first character
+-- no rule has a space in its source or in a target; where the choice of O ang is 0, U+0E2D stands in no word past its
+-- first character
 abbrev pub Spaceless : Inputs → Type 0
 Spaceless i = all spaceless-rule (tables i .rules) ≡ true
 
-abbrev pub Firsts : List Inputs → Type 0
-Firsts words = All (λ j. First (characters j)) words
+abbrev pub Firsts : Inputs → List Inputs → Type 0
+Firsts i words = All (λ j. First-if (i .choices) (characters j)) words
 
 -- the output up to its length
 unfoldable pub wrote : Called → List ℕ
@@ -72,4 +74,4 @@ pub record Reads (i : Inputs) (words : List Inputs) : Type 0 where
   pub output : wrote (called i) ≡ line-of (map (λ j. wrote (called j)) words)
 
 abbrev pub Promise : Type 0
-Promise = (i : Inputs) (words : List Inputs) → Line i words → Spaceless i → Firsts words → Reads i words
+Promise = (i : Inputs) (words : List Inputs) → Line i words → Spaceless i → Firsts i words → Reads i words

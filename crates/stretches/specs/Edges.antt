@@ -7,20 +7,18 @@ use mathlib.Core.Option.{Option, none, some, Option·map}
 use Prim.Native.Nat.{ℕ, zero, suc, _+_, _≤_, _<_}
 use native.Mathlib.Omega.{arith}
 use lib.Dec.{eqb, leb, ltb}
-use lib.ListN.{length}
 use borrow.Author.Tests.{eqb-true, le-leb, lt-leb, ne-eqb}
 use Rattle.base.specs.Pick.{pick}
 use Rattle.base.specs.Lists.{keep, any, head}
 use Rattle.base.specs.ListLaws.{keep-append, any-none, keep-none, any-map, keep-map, best-map, is-map, keep-keep}
 use Rattle.base.specs.Alls.{All, All-map, All-append, Opt, All-kept}
 use Rattle.base.specs.Bools.{eqb-alike, leb-alike}
-use Rattle.definition.specs.Texts.{Text, the-space, last-is}
+use Rattle.definition.specs.Texts.{the-space, last-is}
 use Rattle.definition.specs.Tables.{Class}
 use Rattle.definition.specs.Classes.{alpha}
 use Rattle.definition.specs.Edges.{Edge, ending, starting, left-best, right-best, covered, new-in, alike, add, closing, view}
 use Rattle.definition.specs.Growth.{Added}
-use Rattle.stretches.specs.Demand.{First, within, shift}
-use Rattle.stretches.specs.Boundaries.{See}
+use Rattle.stretches.specs.Demand.{within, shift}
 use Rattle.stretches.specs.Building.{Inside, shift-inside}
 
 -- An edge outside the stretch: left of it, where one that ends at its start is a space, or right of it
@@ -85,7 +83,7 @@ module _ {a n : ℕ} {ES es : List Edge} (h : Same a n ES es) where
       far x (right c i) = ne-eqb (x .from) P (λ k. omega arith)
 
   -- the longest that ends or starts there
-  left-best-inside : (P p : ℕ) → P ≡ a + p → 0 < p → p ≤ n → left-best ES P ≡ Option·map (shift a) (left-best es p)
+  pub left-best-inside : (P p : ℕ) → P ≡ a + p → 0 < p → p ≤ n → left-best ES P ≡ Option·map (shift a) (left-best es p)
   unfolding left-best
   left-best-inside P p e z l = rw (ending-inside P p e z l)
       (best-map (λ x y. ltb (x .from) (y .from)) (shift a) from-shift (ending es p))
@@ -128,22 +126,17 @@ module _ {a n : ℕ} {ES es : List Edge} (h : Same a n ES es) where
     none-yet = ap (any (λ x. last-is (alpha ks) (x .text)))
         (keep-none (Inside 0 n) (λ x. eqb (x .to) 0) es (h .full) (λ x f. ne-eqb (x .to) 0 (λ e. omega arith)))
 
-    letter-inside : (P p : ℕ) → P ≡ a + p → p < n → view ks ES .letter P ≡ view ks es .letter p
+    pub letter-inside : (P p : ℕ) → P ≡ a + p → p < n → view ks ES .letter P ≡ view ks es .letter p
     unfolding view
     letter-inside P zero i l = let q : P ≡ a = omega arith in rw q (quiet ∙ sym none-yet)
     letter-inside P (suc p) i l = rw (ending-inside P (suc p) i (omega arith) (omega arith))
         (any-map (λ x. last-is (alpha ks) (x .text)) (λ x. last-is (alpha ks) (x .text)) (shift a)
         (λ x. unfold shift in refl) (ending es (suc p)))
 
-    closed-inside : (P p : ℕ) → P ≡ a + p → 0 < p → p ≤ n → view ks ES .closed P ≡ view ks es .closed p
+    pub closed-inside : (P p : ℕ) → P ≡ a + p → 0 < p → p ≤ n → view ks ES .closed P ≡ view ks es .closed p
     unfolding view
     closed-inside P p i z l = rw (left-best-inside P p i z l)
         (is-map (λ x. last-is closing (x .text)) (shift a) (λ x. unfold shift in refl) (left-best es p))
-
-pub see-edges : {st : Text} {a : ℕ} {ES es : List Edge} → Same a (length st) ES es → First st
-    → (ks : List Class) → alpha ks the-space ≡ false → See st a (view ks ES) (view ks es)
-see-edges h first ks blank =
-    record { letter = letter-inside h ks blank; closed = closed-inside h ks blank; behind = inr first }
 
 -- An edge added inside: to both; edges added outside: only to the whole
 pub new-inside : {a n : ℕ} (like : Edge → Edge → Bool) → ((x y : Edge) → like (shift a x) (shift a y) ≡ like x y)

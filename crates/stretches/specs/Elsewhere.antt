@@ -73,7 +73,7 @@ module _ {D : Tables} {ds : List Decomposition} (fair : FairTables D ds) {T u : 
       let y : Span b (length u) P (E + 1) p (e + 1) = omega arith in
       near-twice
       (near-put-in (λ es. span-edge D T (view (D .classes) es) P E) S
-      (span-edge-inside fair h (see-moved u b (view (D .classes) (S .0))) z (q refl)))
+      (span-edge-inside fair h (see-moved (D .choices) h (view (D .classes) (S .0))) z (q refl)))
       (rise-near k (is-prefix (D .rules) T P (E + 1)) _ y (prefix-ends y))
 
   build-near : (P p : ℕ) (S : State) → P ≡ b + p → p < length u → Near b (length u) S (build D T P S)
@@ -97,7 +97,7 @@ module _ {D : Tables} {ds : List Decomposition} (fair : FairTables D ds) {T u : 
   fall-near P p S i l =
       let F : List Edge → M (Option Edge) = λ es. fallback-edge (lexicon D) T (view (D .classes) es) P in
       pick-all (Near b (length u) S) (covered (S .0) P) {x = S} {y = put-in F S} (near-not S)
-      (near-put-in F S (fallback-inside (fair .lexicon) h (see-moved u b (view (D .classes) (S .0))) P p i l))
+      (near-put-in F S (fallback-inside (fair .lexicon) h (see-moved (D .choices) h (view (D .classes) (S .0))) P p i l))
 
 -- `F` at a position of any stretch stays in it
 abbrev pub Stays : Text → (ℕ → State → State) → Type 0

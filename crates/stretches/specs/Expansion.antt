@@ -104,7 +104,7 @@ module _ {L : Lexicon} (fair : Fair L) {T st : Text} {a : ℕ} (h : Stretch T st
       (λ d. longer-held y (inner st (w .to) (λ c. class (L .classes) c .virama) (fair .blank .virama) d) (y .ink))
       (λ d. subst (Held (length st) p) (sym (trim-solid st w (y .ink))) y))
 
-  module _ {W v : View} (g : See st a W v) where
+  module _ {c : Choices} {W v : View} (g : See c T st a W v) where
     -- Steps from work held from `p` on to such work
     abbrev Moved : ℕ → M Work → M Work → Type 0
     Moved p F f = Sim a (length st) Work (move a) (Held (length st) p) F f
@@ -145,13 +145,14 @@ module _ {L : Lexicon} (fair : Fair L) {T st : Text} {a : ℕ} (h : Stretch T st
 
     -- Thai
     o-ang-step-inside : (p : ℕ) (w : Work) → Held (length st) p w
-        → Moved p (o-ang-step L T W (a + p) (move a w)) (o-ang-step L st v p w)
+        → Moved p (o-ang-step L T W c (a + p) (move a w)) (o-ang-step L st v c p w)
     unfolding o-ang-step move
     o-ang-step-inside p w y = rw (silent-inside fair h g p w y)
         (sim-pick _ (sim-ret-by _ _ refl (record { low = y .low; high = y .high; fit = y .fit; ink = tt }))
         (rest-inside p w y))
 
-    thai-inside : (p : ℕ) (w : Work) → Held (length st) p w → Moved p (thai L T W (a + p) (move a w)) (thai L st v p w)
+    thai-inside : (p : ℕ) (w : Work) → Held (length st) p w
+        → Moved p (thai L T W c (a + p) (move a w)) (thai L st v c p w)
     unfolding thai
     thai-inside p w y =
         rw (around-inside fair h w (omega arith) (y .fit), before-inside fair h w (omega arith))
@@ -162,15 +163,15 @@ module _ {L : Lexicon} (fair : Fair L) {T st : Text} {a : ℕ} (h : Stretch T st
 
     -- All steps
     by-script-inside : (p : ℕ) (w : Work) → Held (length st) p w
-        → Moved p (by-script L T W (a + p) (move a w)) (by-script L st v p w)
+        → Moved p (by-script L T W c (a + p) (move a w)) (by-script L st v c p w)
     unfolding by-script
     by-script-inside p w y =
         rw (h .look (a + p) p refl (omega arith)) (sim-pick _ (thai-inside p w y) (rest-inside p w y))
 
-    expand-held-inside : (c : Choices) (rom : Text) (p e : ℕ) → p < e → e ≤ length st → Solid rom
+    expand-held-inside : (rom : Text) (p e : ℕ) → p < e → e ≤ length st → Solid rom
         → Moved p (expand L T W c rom (a + p) (a + e)) (expand L st v c rom p e)
     unfolding expand
-    expand-held-inside c rom p e k l s =
+    expand-held-inside rom p e k l s =
         let w = work rom p e note-none in
         let y : Held (length st) p w = record { low = omega arith; high = k; fit = l; ink = s } in
         let own : move a w ≡ work rom (a + p) (a + e) note-none = sym (work-move a rom p _ e _ note-none refl refl) in
@@ -184,6 +185,6 @@ module _ {L : Lexicon} (fair : Fair L) {T st : Text} {a : ℕ} (h : Stretch T st
         (sim-pick (same rom []) (sim-ret w y)
         (by-script-inside p (double (L .classes) st p u) (double-held (L .classes) h p u z)))
 
-    pub expand-inside : (c : Choices) (rom : Text) {P E p e : ℕ} → Span a (length st) P E p e → e ≤ length st → Solid rom
+    pub expand-inside : (rom : Text) {P E p e : ℕ} → Span a (length st) P E p e → e ≤ length st → Solid rom
         → Sim a (length st) Work (move a) (Held (length st) p) (expand L T W c rom P E) (expand L st v c rom p e)
-    expand-inside c rom {P} {E} {p} {e} z l s = rw (z .from, z .to) (expand-held-inside c rom p e (z .forward) l s)
+    expand-inside rom {P} {E} {p} {e} z l s = rw (z .from, z .to) (expand-held-inside rom p e (z .forward) l s)

@@ -14,6 +14,7 @@ use Rattle.base.specs.Pick.{pick}
 use Rattle.base.specs.Bools.{and-left, and-right}
 use Rattle.base.specs.Lists.{keep, any}
 use Rattle.base.specs.Alls.{All, All-map, any-cong, keep-cong, Opt, all-all}
+use Rattle.definition.specs.Limits.{most-choice}
 use Rattle.definition.specs.Texts.{Text, the-space, at, prev, latin}
 use Rattle.definition.specs.Tables.{Rule, Class, Decomposition, Lexicon, Tables, lexicon, category-other, category-Zs}
 use Rattle.definition.specs.Blocks.{small}
@@ -46,11 +47,12 @@ pub record Fair (L : Lexicon) : Type 0 where
   pub row : class (L .classes) the-space .category ≡ pick (has-row (L .classes) the-space) category-Zs category-other
   pub rules : All SolidRule (L .rules)
 
--- and of all tables: no vowel has one, and it stands for nothing else
+-- and of all tables: no vowel has one, it stands for nothing else, and the choice of O ang is 0 or 1
 pub record FairTables (D : Tables) (ds : List Decomposition) : Type 0 where
   pub lexicon : Fair (lexicon D)
   pub vowels : All (λ y. Solid (y .letters)) (D .vowels)
   pub itself : stands-for ds the-space ≡ none
+  pub o-ang : D .choices .o-ang ≤ most-choice
 
 pub sources : {L : Lexicon} → Fair L → All (λ r. Solid (r .source)) (L .rules)
 sources {L} fair = All-map (λ r s. s .source) (L .rules) (fair .rules)
@@ -131,6 +133,7 @@ fair-tables i t =
       };
       vowels = vowels-all (λ y. Solid (y .letters)) solid-vowel (i .vowels) (a .vowels);
       itself = space-stands (i .decompositions) (a .decompositions);
+      o-ang = a .o-ang;
     }
 
 -- From here on capital letters are positions of the whole text `T`, small ones of the stretch `st`: `P ≡ a + p`.

@@ -11,14 +11,14 @@ use Rattle.definition.specs.Utf8.{encoded}
 use Rattle.definition.specs.Listing.{block}
 use Rattle.definition.specs.Call.{Inputs, called}
 use Rattle.definition.specs.Compute.{compute}
-use Rattle.definition.specs.Sample.{sample}
+use Rattle.definition.specs.Sample.{as-port, sample}
 use Rattle.stretches.specs.Demand.{spaceless, spaceless-if, spaceless-rule}
 use Rattle.stretches.specs.Driver.{spaced, line-of, WordCall, Line, Spaceless, Firsts, wrote, Reads}
 use Rattle.stretches.specs.Driven.{driven}
 use Rattle.stretches.specs.Applied.{first-by, halves}
 
 -- A call with other bytes as its text, lent as much
-word-call : (i : Inputs) (b : List ℕ) → WordCall i (record {
+pub word-call : (i : Inputs) (b : List ℕ) → WordCall i (record {
   mode = i .mode;
   choices = i .choices;
   rules = i .rules;
@@ -71,10 +71,12 @@ pub label-spaceless : Spaceless label
 unfolding compute spaceless spaceless-if spaceless-rule
 label-spaceless = refl
 
-pub label-firsts : Firsts words
+pub label-firsts : Firsts label words
 unfolding compute
-label-firsts =
-    (first-by (chars "कत") refl, (first-by [] refl, (first-by (chars "อก") refl, (first-by (chars "क्त") refl, tt))))
+label-firsts = (
+  λ z. first-by (chars "कत") refl,
+  (λ z. first-by [] refl, (λ z. first-by (chars "อก") refl, (λ z. first-by (chars "क्त") refl, tt))),
+)
 
 pub label-reads : Reads label words
 label-reads = driven label words label-line label-spaceless label-firsts
@@ -106,9 +108,10 @@ half-label-spaceless : Spaceless half-label
 unfolding compute spaceless spaceless-if spaceless-rule
 half-label-spaceless = refl
 
-half-label-firsts : Firsts half-words
+half-label-firsts : Firsts half-label half-words
 unfolding compute
-half-label-firsts = (first-by (chars "1½") refl, (first-by (chars "1") refl, (first-by (chars "½") refl, tt)))
+half-label-firsts =
+    (λ z. first-by (chars "1½") refl, (λ z. first-by (chars "1") refl, (λ z. first-by (chars "½") refl, tt)))
 
 half-outputs : map (λ j. wrote (called j)) half-words ≡ chars "1 1/2" ∷ chars "1" ∷ chars "1/2" ∷ []
 unfolding compute wrote
@@ -119,8 +122,8 @@ unfolding line-of spaced
 half-label-output = driven half-label half-words half-label-line half-label-spaceless half-label-firsts .output
     ∙ ap line-of half-outputs
 
--- With U+0E2D past its word's first character: what document 01 has run. In the line the second word gives "ok",
--- alone "k"
+-- With U+0E2D past its word's first character, and the choice of O ang 0: what document 01 has run. In the line the
+-- second word gives "ok", alone "k"
 abbrev thai : Inputs
 thai = call "ก ่อก"
 
@@ -156,7 +159,7 @@ firsts-needed every =
 abbrev knit : String → Inputs
 knit w = record {
   mode = 0;
-  choices = record { capitals = 0 };
+  choices = as-port;
   rules = block (0 ∷ 17 ∷ 32 ∷ 0 ∷ 0 ∷ 3 ∷ 0 ∷ 0 ∷ 0x61 ∷ 0 ∷ 0 ∷ 0x20 ∷ 0 ∷ 0 ∷ 0x62 ∷ 0 ∷ 1 ∷ 0x78 ∷ 0 ∷ []);
   classes = block [];
   vowels = block [];
@@ -177,9 +180,9 @@ knit-line =
     let c : (w : String) → WordCall (knit "a b") (knit w) = λ w. word-call (knit "a b") (chars w) in
     record { mode = refl; done = refl; text = refl; calls = (c "a", (c "b", tt)) }
 
-knit-firsts : Firsts knit-words
+knit-firsts : Firsts (knit "a b") knit-words
 unfolding compute
-knit-firsts = (first-by (chars "a") refl, (first-by (chars "b") refl, tt))
+knit-firsts = (λ z. first-by (chars "a") refl, (λ z. first-by (chars "b") refl, tt))
 
 knit-output : wrote (called (knit "a b")) ≡ chars "x"
 unfolding compute wrote
@@ -189,7 +192,7 @@ knit-outputs : line-of (map (λ j. wrote (called j)) knit-words) ≡ chars "a b"
 unfolding compute wrote line-of spaced
 knit-outputs = refl
 
-pub spaceless-needed : ((i : Inputs) (words : List Inputs) → Line i words → Firsts words → Reads i words) → ⊥
+pub spaceless-needed : ((i : Inputs) (words : List Inputs) → Line i words → Firsts i words → Reads i words) → ⊥
 spaceless-needed every =
     let r = every (knit "a b") knit-words knit-line knit-firsts in
     let n : _≡_ {A = ℕ} 1 3 = ap length (sym knit-output ∙ r .output ∙ knit-outputs) in

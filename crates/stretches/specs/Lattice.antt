@@ -17,25 +17,26 @@ use Rattle.definition.specs.Edges.{Edge, covered, alike, add, view, M, ret, Sta
 use Rattle.definition.specs.Rules.{is-prefix}
 use Rattle.definition.specs.Building.{single, put-in, fallback-edge, span-edge, rise, build, fall, lattice-by}
 use Rattle.definition.specs.Decomposing.{decomp-edge, start, lattice}
-use Rattle.definition.specs.Blank.{blank-alpha}
 use Rattle.definition.specs.Growth.{Added, added-new, added-map}
 use Rattle.definition.specs.Within.{prefix-bound}
-use Rattle.stretches.specs.Demand.{space-edge, First}
+use Rattle.stretches.specs.Demand.{space-edge, First-if}
 use Rattle.stretches.specs.Given.{FairTables, Stretch, Span, at-outside}
 use Rattle.stretches.specs.Windows.{window, window-zero}
 use Rattle.stretches.specs.Texts.{space-at-end, space-before-start, left-part, right-part}
 use Rattle.stretches.specs.Boundaries.{See}
 use Rattle.stretches.specs.Rules.{prefix-inside}
 use Rattle.stretches.specs.Building.{Inside, span-edge-inside, fallback-inside, decomp-inside, decomp-held}
-use Rattle.stretches.specs.Edges.{Outside, left, right, covered-inside, see-edges, Same, add-inside}
+use Rattle.stretches.specs.Edges.{Outside, left, right, covered-inside, Same, add-inside}
+use Rattle.stretches.specs.Walks.{see-edges}
 use Rattle.stretches.specs.States.{Rel, rel-pick, put-in-inside, rel-outside, pass}
 use Rattle.stretches.specs.Elsewhere.{Near, Stays, start-stays, fall-stays, start-space, fallback-space}
 
 -- Steps inside the stretch
 module _ {D : Tables} {ds : List Decomposition} (fair : FairTables D ds) {T st : Text} {a : ℕ}
-    (h : Stretch T st a) (first : First st) where
-  see-states : {S s : State} → Rel a (length st) S s → See st a (view (D .classes) (S .0)) (view (D .classes) (s .0))
-  see-states r = see-edges (r .edges) first (D .classes) (blank-alpha (D .classes) (fair .lexicon .blank))
+    (h : Stretch T st a) (first : First-if (D .choices) st) where
+  see-states : {S s : State} → Rel a (length st) S s
+      → See (D .choices) T st a (view (D .classes) (S .0)) (view (D .classes) (s .0))
+  see-states r = see-edges fair h first (r .edges)
 
   rise-inside : (k : ℕ) (b : Bool) {P E p e : ℕ} (S s : State) → Span a (length st) P E p e → (b ≡ true → e ≤ length st)
       → Rel a (length st) S s → Rel a (length st) (rise D T k b P E S) (rise D st k b p e s)
@@ -153,7 +154,7 @@ module _ {D : Tables} {ds : List Decomposition} (fair : FairTables D ds) {T st :
   fall-outside = outside-step (fall D T) fall-space (fall-stays fair T)
 
   -- Both passes
-  pub lattice-inside : First st → Rel a (length st) (lattice D ds T) (lattice D ds st)
+  pub lattice-inside : First-if (D .choices) st → Rel a (length st) (lattice D ds T) (lattice D ds st)
   unfolding lattice lattice-by
   lattice-inside first =
       pass (fall D T) (fall D st) (fall-inside fair h first) fall-outside (length T) (h .room) _ _

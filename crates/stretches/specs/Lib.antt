@@ -15,6 +15,7 @@ pub mod Expansion
 pub mod Building
 -- edges, states and passes
 pub mod Edges
+pub mod Walks
 pub mod States
 pub mod Elsewhere
 pub mod Lattice
@@ -37,3 +38,4 @@ pub mod Rooms
 -- the theorem, and a use of it
 pub mod Driven
 pub mod Labels
+pub mod OAngLabels

@@ -16,7 +16,7 @@ use Rattle.definition.specs.Tables.{Decomposition, Tables}
 use Rattle.definition.specs.Edges.{Edge, starting}
 use Rattle.definition.specs.Paths.{longer, sorted, all-edges-of}
 use Rattle.definition.specs.Decomposing.{lattice, all-edges}
-use Rattle.stretches.specs.Demand.{First, within, shift}
+use Rattle.stretches.specs.Demand.{First-if, within, shift}
 use Rattle.stretches.specs.Given.{FairTables, Stretch}
 use Rattle.stretches.specs.Building.{Inside}
 use Rattle.stretches.specs.Lattice.{lattice-inside}
@@ -124,7 +124,7 @@ module _ (a n : ℕ) (es : List Edge) (full : All (Inside 0 n) es) where
       ∙ sorted-toward d j (P + 1) (omega arith))
 
 pub all-edges-inside : {D : Tables} {ds : List Decomposition} → FairTables D ds → {T st : Text} {a : ℕ}
-    → Stretch T st a → First st
+    → Stretch T st a → First-if (D .choices) st
     → keep (within a (length st)) (all-edges D ds T) ≡ map (shift a) (all-edges D ds st)
 unfolding all-edges all-edges-of
 all-edges-inside {D} {ds} fair {T} {st} {a} h first =

@@ -17,7 +17,7 @@ use Rattle.definition.specs.Edges.{Edge, starting, right-best}
 use Rattle.definition.specs.Paths.{join, next, path-from, path-of}
 use Rattle.definition.specs.Decomposing.{lattice, path}
 use Rattle.definition.specs.Alternatives.{path-sound}
-use Rattle.stretches.specs.Demand.{First, within, shift}
+use Rattle.stretches.specs.Demand.{First-if, within, shift}
 use Rattle.stretches.specs.Given.{FairTables, Stretch}
 use Rattle.stretches.specs.Building.{Inside, shift-inside}
 use Rattle.stretches.specs.Edges.{left, right, Clear, inside, outside, clear-goes, within-inside, within-outside, Same, right-best-inside}
@@ -105,7 +105,7 @@ module _ {a n : ℕ} {ES es : List Edge} (h : Same a n ES es) where
 
 -- As edges of both
 pub path-inside : {D : Tables} {ds : List Decomposition} → FairTables D ds → {T st : Text} {a : ℕ} → Stretch T st a
-    → First st
+    → First-if (D .choices) st
     → Same a (length st) (path D ds T) (path D ds st)
 unfolding path path-of
 path-inside {D} {ds} fair {T} {st} {a} h first =

@@ -12,7 +12,7 @@ use Rattle.definition.specs.Decomposing.{edges, path, with-alternatives, altern
 use Rattle.definition.specs.Call.{Inputs, tables, decompositions, characters}
 use Rattle.definition.specs.Alternatives.{listed}
 use Rattle.definition.specs.Parts.{with-text, Accepts, part-accepted}
-use Rattle.stretches.specs.Demand.{Taken, Before, After, First, within, shift, Alone, Demand}
+use Rattle.stretches.specs.Demand.{Taken, Before, After, First-if, within, shift, Alone, Demand}
 use Rattle.stretches.specs.Given.{fair-tables, Stretch, stretch}
 use Rattle.stretches.specs.Lattice.{lattice-inside}
 use Rattle.stretches.specs.Path.{path-inside}
@@ -43,7 +43,8 @@ module _ (i : Inputs) (taken : Taken i) where
       ds : List Decomposition
       ds = decompositions (with-text i st)
 
-  alone : (x st y : Text) → characters i ≡ x ++ (st ++ y) → Before x → After y → First st → Accepts i st
+  alone : (x st y : Text) → characters i ≡ x ++ (st ++ y) → Before x → After y → First-if (tables i .choices) st
+      → Accepts i st
       → Alone (tables i) (decompositions i) (characters i) st (length x)
   unfolding edges
   alone x st y e b c first accepts =

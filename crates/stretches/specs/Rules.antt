@@ -14,7 +14,7 @@ use Rattle.base.specs.Lists.{put, keep, head, best, same}
 use Rattle.base.specs.Alls.{All-keep, Opt, All-head, bind-all}
 use Rattle.base.specs.ListLaws.{any-none, keep-none}
 use Rattle.definition.specs.Texts.{Text, the-space, at, fits, begins}
-use Rattle.definition.specs.Tables.{Rule, Lexicon}
+use Rattle.definition.specs.Tables.{Rule, Choices, Lexicon}
 use Rattle.definition.specs.Edges.{View, ret, _>>=_}
 use Rattle.definition.specs.Rules.{spans, is-prefix, winner, first-rule, asks-start, valid, sift, valids, choose, simple}
 use Rattle.definition.specs.Posts.{choose-all}
@@ -53,7 +53,7 @@ module _ {L : Lexicon} (fair : Fair L) {T st : Text} {a : ℕ} (h : Stretch T st
     eqb-alike (P + length (r .source)) E (p + length (r .source)) e (λ q. omega arith) (λ q. omega arith),
   )
 
-  module _ {W v : View} (g : See st a W v) where
+  module _ {c : Choices} {W v : View} (g : See c T st a W v) where
     valid-inside : {P E p e : ℕ} (r : Rule) → Span a (length st) P E p e → e ≤ length st
         → Agree a (length st) Bool (valid L T W P E r) (valid L st v p e r)
     unfolding valid

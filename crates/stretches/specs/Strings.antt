@@ -22,7 +22,7 @@ use Rattle.definition.specs.Call.{Inputs, tables, decompositions, characters}
 use Rattle.definition.specs.Cover.{Abut, path-whole}
 use Rattle.definition.specs.Alternatives.{path-sound}
 use Rattle.definition.specs.Parts.{Accepts}
-use Rattle.stretches.specs.Demand.{Taken, space-edge, over, Before, start, After, end, First, within, shift, Alone}
+use Rattle.stretches.specs.Demand.{Taken, space-edge, over, Before, start, After, end, First-if, within, shift, Alone}
 use Rattle.stretches.specs.Given.{fair-tables, Stretch, stretch}
 use Rattle.stretches.specs.Building.{Inside}
 use Rattle.stretches.specs.Lattice.{lattice-inside}
@@ -69,7 +69,7 @@ module _ (i : Inputs) (taken : Taken i) where
   abbrev T : Text
   T = characters i
 
-  word : (x w : Text) (ws : List Text) → T ≡ x ++ (w ++ spaced ws) → Before x → First w → Reading i w
+  word : (x w : Text) (ws : List Text) → T ≡ x ++ (w ++ spaced ws) → Before x → First-if (D .choices) w → Reading i w
   unfolding edges
   word x w ws e b f =
       let r = demand i taken .stretches x w (spaced ws) e b (after-spaced ws) f in
@@ -82,7 +82,7 @@ module _ (i : Inputs) (taken : Taken i) where
         full = lattice-inside (fair-tables i taken) h f .edges .full;
       }
 
-  words : (x w : Text) (ws : List Text) → T ≡ x ++ (w ++ spaced ws) → Before x → All First (w ∷ ws)
+  words : (x w : Text) (ws : List Text) → T ≡ x ++ (w ++ spaced ws) → Before x → All (First-if (D .choices)) (w ∷ ws)
       → All (Reading i) (w ∷ ws)
   unfolding spaced
   words x w [] e b f = (word x w [] e b (f .0), tt)
@@ -91,7 +91,7 @@ module _ (i : Inputs) (taken : Taken i) where
     words ((x ++ w) ++ the-space ∷ []) v vs (e ∙ past x w (v ++ spaced vs)) (Before.space (x ++ w)) (f .1),
   )
 
-  pub line-words : (ws : List Text) → T ≡ line-of ws → All First ws → All (Reading i) ws
+  pub line-words : (ws : List Text) → T ≡ line-of ws → All (First-if (D .choices)) ws → All (Reading i) ws
   unfolding line-of
   line-words [] e f = tt
   line-words (w ∷ ws) e f = words [] w ws e start f
@@ -142,7 +142,7 @@ module _ (i : Inputs) (taken : Taken i) where
     pub aft : Abut a (length T) l
 
   -- the edges of the path along a word are the word's own path, moved
-  along : (x w y : Text) (l r : List Edge) → T ≡ x ++ (w ++ y) → Before x → After y → First w
+  along : (x w y : Text) (l r : List Edge) → T ≡ x ++ (w ++ y) → Before x → After y → First-if (D .choices) w
       → Onward (length x) (l ++ r) → Abut (length x) (length x + length w) l → Abut (length x + length w) (length T) r
       → joined l ≡ string D ds w
   unfolding string
@@ -201,14 +201,14 @@ module _ (i : Inputs) (taken : Taken i) where
     gap-string : joined gap ≡ the-space ∷ []
     gap-string = over-space m long sp gap (All-left Mine gap rest (subst (All Mine) (two .is) mine-next)) (two .fore)
 
-    here-string : Before x → First w → joined here ≡ string D ds w
+    here-string : Before x → First-if (D .choices) w → joined here ≡ string D ds w
     here-string b f =
         along x w (the-space ∷ y) here (one .right) e b (After.space y) f own-onward (one .fore) (one .aft)
       where
         own-onward : Onward (length x) (here ++ one .right)
         own-onward = subst (Onward (length x)) (one .is) o
 
-    word-string : Before x → First w → joined l ≡ string D ds w ++ the-space ∷ joined rest
+    word-string : Before x → First-if (D .choices) w → joined l ≡ string D ds w ++ the-space ∷ joined rest
     word-string b f = ap joined is ∙ joined-append here (gap ++ rest)
         ∙ ap (λ t. t ++ joined (gap ++ rest)) (here-string b f)
         ∙ ap (λ t. string D ds w ++ t) (joined-append gap rest ∙ ap (λ t. t ++ joined rest) gap-string)
@@ -228,8 +228,8 @@ module _ (i : Inputs) (taken : Taken i) where
         })
 
   -- From a word's start on, word by word
-  from-word : (x w : Text) (ws : List Text) (l : List Edge) → T ≡ x ++ (w ++ spaced ws) → Before x → All First (w ∷ ws)
-      → Onward (length x) l → joined l ≡ line-of (map (string D ds) (w ∷ ws))
+  from-word : (x w : Text) (ws : List Text) (l : List Edge) → T ≡ x ++ (w ++ spaced ws) → Before x
+      → All (First-if (D .choices)) (w ∷ ws) → Onward (length x) l → joined l ≡ line-of (map (string D ds) (w ∷ ws))
   unfolding spaced line-of
   from-word x w [] l e b f o =
       let n : length T ≡ length x + length w =
@@ -244,7 +244,8 @@ module _ (i : Inputs) (taken : Taken i) where
       (from-word ((x ++ w) ++ the-space ∷ []) v vs (rest x w y l e o) (e ∙ past x w y) (Before.space (x ++ w)) (f .1)
       (onward x w y l e o))
 
-  line-string : (ws : List Text) → T ≡ line-of ws → All First ws → string D ds T ≡ line-of (map (string D ds) ws)
+  line-string : (ws : List Text) → T ≡ line-of ws → All (First-if (D .choices)) ws
+      → string D ds T ≡ line-of (map (string D ds) ws)
   unfolding line-of string path path-of path-from joined
   line-string [] e f = rw e
   line-string (w ∷ ws) e f = from-word [] w ws (path D ds T) e start f

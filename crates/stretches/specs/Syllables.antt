@@ -11,7 +11,7 @@ use Rattle.base.specs.Pick.{pick, pick-all}
 use Rattle.base.specs.Lists.{has}
 use Rattle.base.specs.Alls.{Opt}
 use Rattle.definition.specs.Texts.{Text, o-ang, at}
-use Rattle.definition.specs.Tables.{Lexicon}
+use Rattle.definition.specs.Tables.{Choices, Lexicon}
 use Rattle.definition.specs.Classes.{class, alpha}
 use Rattle.definition.specs.Edges.{View}
 use Rattle.definition.specs.Syllables.{opens, past-tone, next-rom, o-ang-test, vowel-test, syllable-at, syllable-end, full}
@@ -37,7 +37,7 @@ module _ {L : Lexicon} (fair : Fair L) {T st : Text} {a : ℕ} (h : Stretch T st
           (omega arith, omega arith)
       go false k = (omega arith, omega arith)
 
-  module _ {W v : View} (g : See st a W v) where
+  module _ {c : Choices} {W v : View} (g : See c T st a W v) where
     next-rom-inside : (Q q : ℕ) → Q ≡ a + q → q ≤ length st
         → Agree a (length st) (Option Text) (next-rom L T W Q) (next-rom L st v q)
     unfolding next-rom

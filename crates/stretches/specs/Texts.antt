@@ -1,4 +1,5 @@
--- What stands in a stretch: a character, a text, its first characters. And the two stretches that a space divides.
+-- What stands in a stretch: a character, a text, its first characters, and the nearest space left of a position. And
+-- the two stretches that a space divides.
 use mathlib.Core.Bool.{Bool, true, false, _&&_, true≢false, and-false}
 use mathlib.Core.Path.{_≡_, refl, sym, _∙_, ap}
 use mathlib.Core.List.{[], _∷_}
@@ -9,7 +10,10 @@ use lib.Dec.{eqb, ltb}
 use lib.ListN.{length, take, drop, length-take, length-drop}
 use lib.Seq.{getD-take, getD-drop}
 use borrow.Author.Tests.{lt-ltb, le-ltb, ne-eqb}
+use Rattle.base.specs.Pick.{pick}
 use Rattle.definition.specs.Texts.{Text, the-space, at, prev, stands, fits, begins}
+use Rattle.definition.specs.Expansion.{stretch-start}
+use Rattle.definition.specs.OAng.{starts-here}
 use Rattle.definition.specs.Within.{stands-bound}
 use Rattle.stretches.specs.Given.{Ink, Solid, Stretch, at-outside, prev-zero, prev-suc}
 
@@ -58,6 +62,26 @@ module _ {T st : Text} {a : ℕ} (h : Stretch T st a) where
   space-before-start z =
       let e : suc (a - 1) ≡ a = omega arith in
       sym (prev-suc T (a - 1)) ∙ ap (prev T) e ∙ h .back a 0 (omega arith) (omega arith) ∙ prev-zero st
+
+-- The nearest space left of a position of the stretch is one of the stretch, or the one right before it: on the
+-- whole text as on the stretch
+pub stretch-start-inside : {T st : Text} {a : ℕ} → Stretch T st a → (P p : ℕ) → P ≡ a + p → p ≤ length st
+    → stretch-start T P ≡ a + stretch-start st p
+unfolding stretch-start
+stretch-start-inside {T} {st} {a} h P zero e l =
+    starts-here T P (h .back P 0 e l ∙ prev-zero st) ∙ e
+stretch-start-inside {T} {st} {a} h P (suc p) e l =
+    let i : P ≡ suc (a + p) = omega arith in
+    rw (
+      i,
+      h .look (a + p) p refl (omega arith),
+      stretch-start-inside h (a + p) p refl (omega arith),
+    )
+    (moved (eqb (at st p) the-space))
+  where
+    moved : (b : Bool) → pick b (suc (a + p)) (a + stretch-start st p) ≡ a + pick b (suc p) (stretch-start st p)
+    moved true = unfold pick in omega arith
+    moved false = unfold pick in refl
 
 -- where something other than a space stands before a place, the place is not the start
 pub later : (t : Text) (p : ℕ) (q : ℕ → Bool) → q the-space ≡ false → q (prev t p) ≡ true → 0 < p

@@ -15,7 +15,7 @@ use Rattle.base.specs.Lists.{keep, all, head, maybe, bind}
 use Rattle.base.specs.Alls.{All-append, Opt, or-else-all, All-drop, maybe-all, bind-all, head-keep, Opt-map, Opt-with}
 use Rattle.definition.specs.Notes.{note-exp}
 use Rattle.definition.specs.Texts.{Text, o-ang, at, prev, consonants}
-use Rattle.definition.specs.Tables.{Rule, script-thai, Lexicon}
+use Rattle.definition.specs.Tables.{Rule, script-thai, Choices, Lexicon}
 use Rattle.definition.specs.Classes.{class, script}
 use Rattle.definition.specs.Edges.{View}
 use Rattle.definition.specs.Rules.{first-rule}
@@ -138,9 +138,9 @@ module _ {L : Lexicon} (fair : Fair L) {T st : Text} {a : ℕ} (h : Stretch T st
       })
 
   -- The silent O ang: what stands behind is seen alike, or O ang is first and has no Thai before it
-  module _ {W v : View} (g : See st a W v) where
+  module _ {c : Choices} {W v : View} (g : See c T st a W v) where
     between-inside : (p : ℕ) (w : Work) → Held (length st) p w → at st p ≡ o-ang
-        → between (L .rules) (L .classes) T W (move a w) ≡ between (L .rules) (L .classes) st v w
+        → between c (L .rules) (L .classes) T W (move a w) ≡ between c (L .rules) (L .classes) st v w
     unfolding between move
     between-inside p w y o =
         rw (h .back (a + w .from) (w .from) refl (omega arith), h .look (a + w .to) (w .to) refl (y .fit))
@@ -152,7 +152,7 @@ module _ {L : Lexicon} (fair : Fair L) {T st : Text} {a : ℕ} (h : Stretch T st
             rw (f, prev-zero st, blank-script (L .classes) (fair .blank))
 
     pub silent-inside : (p : ℕ) (w : Work) → Held (length st) p w
-        → silent (L .rules) (L .classes) T W (a + p) (move a w) ≡ silent (L .rules) (L .classes) st v p w
+        → silent c (L .rules) (L .classes) T W (a + p) (move a w) ≡ silent c (L .rules) (L .classes) st v p w
     unfolding silent
     silent-inside p w y = rw (h .look (a + p) p refl (omega arith), same-width)
         (and-then (eqb (at st p) o-ang) _ (λ b. ap not (between-inside p w y (eqb-true (at st p) o-ang b))))

@@ -13,7 +13,7 @@ use Rattle.base.specs.Lists.{put, keep, head, tail, front, after, is}
 use Rattle.base.specs.Alls.{All, All-append, All-reverse, All-tail, All-front, All-after, All-put, All-keep, Opt, All-head, All-getD, maybe-all}
 use Rattle.base.specs.Bools.{eqb-alike}
 use Rattle.definition.specs.Texts.{Text, hyphen, letter-a, letter-o, letter-y, at, latin, consonants, last-is}
-use Rattle.definition.specs.Tables.{Vowel, Lexicon}
+use Rattle.definition.specs.Tables.{Vowel, Choices, Lexicon}
 use Rattle.definition.specs.Classes.{class, mark, script}
 use Rattle.definition.specs.Edges.{View}
 use Rattle.definition.specs.Vowels.{vowel-row, before-y, pattern-y, pattern-c, bases, bare, vowel-in, vowel-by, vowel-step}
@@ -87,7 +87,7 @@ module _ {L : Lexicon} (fair : Fair L) {T st : Text} {a : ℕ} (h : Stretch T st
     after-mark (λ c. class (L .classes) c .virama) E e j l,
   )
 
-  module _ {W v : View} (g : See st a W v) where
+  module _ {c : Choices} {W v : View} (g : See c T st a W v) where
     vowel-in-inside : (rom base plus : Text) {P E p e : ℕ} → Span a (length st) P E p e → e ≤ length st
         → Solid rom → Solid base → Solid plus
         → Sim a (length st) Text (λ x. x) Solid (vowel-in L T W rom base plus P E) (vowel-in L st v rom base plus p e)
