@@ -2,17 +2,12 @@
 // one read. Adding an edge notes it at its end and, over one character, at its start; and a start of word is remembered
 // here. The layout of an entry is in specs/Entry.
 ghost use mathlib.Core.Path.{_≡_};
-ghost use mathlib.Core.List.{List};
-ghost use Prim.Native.Nat.{ℕ, _<_, _≤_, _-_};
+ghost use Prim.Native.Nat.{_<_, _-_};
 ghost use lib.ListN.{length, getD};
 ghost use Rattle.base.specs.Bits.{bit};
 ghost use Rattle.base.specs.Pick.{pick};
-ghost use Rattle.definition.specs.Texts.{last-is};
-ghost use Rattle.definition.specs.Tables.{Class};
-ghost use Rattle.definition.specs.Edges.{Edge, view};
-ghost use Rattle.definition.specs.Expansion.{o-ang-side};
-ghost use Rattle.edge_places.specs.Entry.{start-in, letter-in, over-in, closed-in, back-in, back-limit, lettered, with-longest, noted};
-ghost use Rattle.edge_places.specs.Shows.{Shows, noted-end, noted-over, noted-edge, remembered};
+ghost use Rattle.edge_places.specs.Entry.{start-in, letter-in, over-in, closed-in, side-in, back-in, back-limit, lettered, with-longest, noted};
+ghost use Rattle.edge_places.specs.Shows.{noted-end, noted-over, noted-edge, remembered};
 ghost use Rattle.edge_places.specs.Behind.{spoken-in, step-in};
 
 // How the text of an edge ends: in a letter or mark; in a consonant, w and y not counted; in one beside which O ang is
@@ -63,7 +58,7 @@ pub fn is_closed(places: &[u32], p: usize) -> bool
 }
 
 // Is there a longest edge that ends here, with a text that is not empty?
-fn is_spoken(x: u32) -> bool
+pub fn is_spoken(x: u32) -> bool
     ensures { λ r. ⌜ r ≡ spoken-in x ⌝ }
 {
     if x / 128 == 0 {
@@ -72,8 +67,15 @@ fn is_spoken(x: u32) -> bool
     x / 64 % 2 != 1
 }
 
+// Does that text end in a consonant beside which O ang is spoken?
+pub fn is_side(x: u32) -> bool
+    ensures { λ r. ⌜ r ≡ side-in x ⌝ }
+{
+    x / 32 % 2 == 1
+}
+
 // Where the walk back goes on from `at`: where that edge starts, or one back where none ends.
-fn step_back(x: u32, at: usize) -> usize
+pub fn step_back(x: u32, at: usize) -> usize
     ensures { λ r. ⌜ r ≡ at - step-in x ⌝ }
 {
     let back = (x / 128) as usize;
@@ -91,23 +93,6 @@ fn less(a: usize, b: usize) -> usize
         return 0;
     }
     a - b
-}
-
-// `find_rom_edge_path_backwards_str`, as far as it is asked: does the nearest text to the left of `p` that is not empty,
-// looked for back to `start`, end in a consonant beside which O ang is spoken?
-pub fn is_after_side(places: &[u32], start: usize, p: usize) -> bool
-    ensures { λ r. ⌜ ((ks : List Class) (es : List Edge) (n : ℕ) → Shows ks es n (now (places .entry)) → p ≤ n
-        → r ≡ last-is o-ang-side (view ks es .behind start p)) ⌝ }
-{
-    let mut at = p;
-    while start < at {
-        let x = entry(places, at);
-        if is_spoken(x) {
-            return x / 32 % 2 == 1;
-        }
-        at = step_back(x, at);
-    }
-    false
 }
 
 // A start of word, or none, is remembered.

@@ -1,37 +1,16 @@
--- How a text ends, by its last bytes: beside O ang, and before a small ya.
+-- How a text ends, by its last bytes, before a small ya.
 use mathlib.Core.Bool.{Bool, false, _&&_, and-false}
 use mathlib.Core.List.{[], _∷_}
-use mathlib.Core.Option.{Option, none, some}
 use mathlib.Core.Path.{_≡_, refl, sym, ap, _∙_}
 use Prim.Native.Nat.{ℕ, _-_, _≤_, _<_}
 use native.Mathlib.Omega.{arith}
 use lib.Dec.{eqb}
 use lib.ListN.{length, getD}
 use borrow.Author.Tests.{eq-eqb, ne-eqb}
-use Rattle.base.specs.Lists.{all, head, tail, is, same}
+use Rattle.base.specs.Lists.{head, tail, is}
 use Rattle.definition.specs.Texts.{Text, consonants, letter-i}
-use Rattle.definition.specs.Expansion.{o-ang-side}
-use Rattle.rom.specs.Sets.{member, o-ang-side-set, in-o-ang-side, all-as}
 use Rattle.rom.proofs.Backwards.{back-all, back-cons}
-use Rattle.rule_choice.specs.Chosen.{or-nothing}
-use Rattle.expand.specs.Sides.{beside, after-consonant}
-
--- one or more of them
-pub none-beside : (w : Text) → length w ≡ 0 → false ≡ beside w
-unfolding beside same
-none-beside [] h = refl
-none-beside (c ∷ w) h = absurd (omega arith)
-
-pub some-beside : (w : Text) → (length w ≡ 0 → ⊥) → all (member o-ang-side-set) w ≡ beside w
-unfolding beside same
-some-beside [] h = absurd (h refl)
-some-beside (c ∷ w) h = all-as o-ang-side-set o-ang-side in-o-ang-side (c ∷ w)
-
--- of what may be absent
-pub beside-text : (o : Option Text) → beside (or-nothing o) ≡ is beside o
-unfolding beside same
-beside-text none = refl
-beside-text (some w) = refl
+use Rattle.expand.specs.Sides.{after-consonant}
 
 -- an i after a consonant
 pub too-short : (w : Text) → length w < 2 → false ≡ after-consonant w

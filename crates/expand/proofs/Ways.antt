@@ -3,25 +3,23 @@ use mathlib.Core.Bool.{Bool, true, false, not, _&&_, or-false, true≢false}
 use mathlib.Core.List.{List, [], _∷_, reverse}
 use mathlib.Core.Option.{Option, none, some}
 use mathlib.Core.Path.{_≡_, refl, sym, ap, _∙_}
-use Prim.Native.Nat.{ℕ, _+_, _≤_}
+use Prim.Native.Nat.{ℕ, _≤_}
 use native.Mathlib.Omega.{arith}
 use lib.Dec.{eqb}
 use lib.ListN.{length}
-use borrow.Author.Tests.{eq-eqb, ne-eqb}
+use borrow.Author.Tests.{ne-eqb}
 use Rattle.base.specs.Pick.{pick}
 use Rattle.base.specs.Bools.{and-left, eqb-alike}
 use Rattle.base.specs.Lists.{has, is, head, tail, maybe, same}
-use Rattle.definition.specs.Texts.{Text, among, at, prev, consonants, last-is, letter-i, o-ang, coptic-grave}
-use Rattle.definition.specs.Tables.{Rule, Class, script-thai}
-use Rattle.definition.specs.Classes.{script}
-use Rattle.definition.specs.Edges.{View}
+use Rattle.definition.specs.Texts.{Text, among, at, consonants, letter-i, coptic-grave}
+use Rattle.definition.specs.Tables.{Rule, Class}
 use Rattle.definition.specs.Rules.{first-rule}
 use Rattle.definition.specs.Within.{inner}
 use Rattle.definition.specs.ExpandBounds.{space-not-small}
-use Rattle.definition.specs.Expansion.{Work, o-ang-side, between, silent, small-ya, small-target}
+use Rattle.definition.specs.Expansion.{Work, small-ya, small-target}
 use Rattle.rule_choice.specs.Chosen.{or-nothing}
 use Rattle.expand.specs.Tests.{has-grave}
-use Rattle.expand.specs.Sides.{beside, after-consonant, small-here}
+use Rattle.expand.specs.Sides.{after-consonant, small-here}
 
 -- what is there, and what is not
 pub told : (o : Option Text) → has o ≡ true → o ≡ some (or-nothing o)
@@ -95,32 +93,3 @@ module _ (rs : List Rule) (ks : List Class) (t : Text) (w : Work) where
     pub small-ruled-by : after-consonant (w .rom) ≡ true → first-rule rs (at t (w .to) ∷ []) ≡ small-target rs ks t w
     unfolding pick
     small-ruled-by f = by-tests e f
-
-  -- O ang between consonants
-  module _ (v : View) where
-    pub not-in-thai : (eqb (script ks (prev t (w .from))) script-thai && eqb (script ks (at t (w .to))) script-thai) ≡ false → false ≡ between rs ks t v w
-    unfolding between
-    not-in-thai e = sym (rw e)
-
-    module _ (e : (eqb (script ks (prev t (w .from))) script-thai && eqb (script ks (at t (w .to))) script-thai) ≡ true) where
-      pub not-behind : last-is o-ang-side (v .behind 0 (w .from)) ≡ false → false ≡ between rs ks t v w
-      unfolding between
-      not-behind f = sym (rw (e, f))
-
-      pub by-next : last-is o-ang-side (v .behind 0 (w .from)) ≡ true → is beside (first-rule rs (at t (w .to) ∷ [])) ≡ between rs ks t v w
-      unfolding between beside
-      by-next f = sym (rw (e, f))
-
-    module _ (o : ℕ) where
-      pub no-o-ang : (at t o ≡ o-ang → ⊥) → false ≡ silent rs ks t v o w
-      unfolding silent
-      no-o-ang e = sym (rw (ne-eqb (at t o) o-ang e))
-
-      module _ (e : at t o ≡ o-ang) where
-        pub not-alone : (w .from + 1 ≡ w .to → ⊥) → false ≡ silent rs ks t v o w
-        unfolding silent
-        not-alone f = sym (rw (eq-eqb (at t o) o-ang e, ne-eqb (w .from + 1) (w .to) f))
-
-        pub alone : w .from + 1 ≡ w .to → {b : Bool} → between rs ks t v w ≡ b → not b ≡ silent rs ks t v o w
-        unfolding silent
-        alone f g = sym (rw (eq-eqb (at t o) o-ang e, eq-eqb (w .from + 1) (w .to) f, g))

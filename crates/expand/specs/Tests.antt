@@ -75,26 +75,26 @@ module _ (L : Lexicon) (t : Text) (v : View) where
     goes-on d e h = did (ap (λ (g : M Work). g m) (sym e) ∙ rw d (outcome h))
 
   -- Thai
-  module _ (o : ℕ) (w : Work) where
-    pub patterned : {b : Bool} {x y : Work} → b ≡ true → y ≡ x → around (L .rules) (L .classes) t w ≡ some x → onward o b y ≡ thai L t v o w
+  module _ (c : Choices) (o : ℕ) (w : Work) where
+    pub patterned : {b : Bool} {x y : Work} → b ≡ true → y ≡ x → around (L .rules) (L .classes) t w ≡ some x → onward o b y ≡ thai L t v c o w
     unfolding thai onward pick maybe
     patterned d f e = rw (d, f) (sym (rw e))
 
     module _ (e : around (L .rules) (L .classes) t w ≡ none) (u : Work) (d : u ≡ before (L .rules) (L .classes) t w) where
-      pub deleted : {y : Text} → y ≡ [] → silent (L .rules) (L .classes) t v o u ≡ true → onward o true (work y (u .from) (u .to) note-del) ≡ thai L t v o w
+      pub deleted : {y : Text} → y ≡ [] → silent c (L .rules) (L .classes) t v o u ≡ true → onward o true (work y (u .from) (u .to) note-del) ≡ thai L t v c o w
       unfolding thai o-ang-step onward pick maybe
       deleted h f = rw h (sym (rw (e, sym d, f)))
 
-      pub spoken : silent (L .rules) (L .classes) t v o u ≡ false → onward o false u ≡ thai L t v o w
+      pub spoken : silent c (L .rules) (L .classes) t v o u ≡ false → onward o false u ≡ thai L t v c o w
       unfolding thai o-ang-step onward pick maybe
       spoken f = sym (rw (e, sym d, f))
 
     -- by script
-    pub in-thai : eqb (script (L .classes) (at t o)) script-thai ≡ true → {f : M Work} → f ≡ thai L t v o w → f ≡ by-script L t v o w
+    pub in-thai : eqb (script (L .classes) (at t o)) script-thai ≡ true → {f : M Work} → f ≡ thai L t v c o w → f ≡ by-script L t v c o w
     unfolding by-script pick
     in-thai e d = d ∙ sym (rw e)
 
-    pub elsewhere : eqb (script (L .classes) (at t o)) script-thai ≡ false → onward o false w ≡ by-script L t v o w
+    pub elsewhere : eqb (script (L .classes) (at t o)) script-thai ≡ false → onward o false w ≡ by-script L t v c o w
     unfolding by-script onward pick
     elsewhere e = sym (rw e)
 
@@ -105,6 +105,6 @@ module _ (L : Lexicon) (t : Text) (v : View) where
     nothing-to-expand f = did (rw f)
 
     pub expanded : same rom [] ≡ false → {y x : Work} {m₁ : Mem} → y ≡ double (L .classes) t s (capitalize c (L .classes) t (work rom s e note-none))
-        → Did (by-script L t v s y m) x m₁ → Did (expand L t v c rom s e m) x m₁
+        → Did (by-script L t v c s y m) x m₁ → Did (expand L t v c rom s e m) x m₁
     unfolding expand pick
     expanded f h d = did (rw (f, sym h) (outcome d))

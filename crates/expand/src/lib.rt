@@ -1,28 +1,25 @@
 // The expansion (`expand_rom_with_special_chars`): its steps in the file's order.
-ghost use mathlib.Core.Bool.{true, _&&_};
-ghost use mathlib.Core.List.{[], _∷_, _++_};
+ghost use mathlib.Core.Bool.{true};
+ghost use mathlib.Core.List.{_∷_, _++_};
 ghost use mathlib.Core.Path.{_≡_};
 ghost use Prim.Native.Nat.{_+_, _<_, _≤_};
-ghost use lib.Dec.{eqb};
 ghost use lib.ListN.{length, take};
 ghost use Rattle.base.specs.Lists.{has, is};
 ghost use Rattle.definition.specs.Limits.{most-bytes, most-target, most-vowel};
-ghost use Rattle.definition.specs.Texts.{Text, without-last, letter-e, at, prev};
-ghost use Rattle.definition.specs.Tables.{script-thai};
+ghost use Rattle.definition.specs.Texts.{without-last, letter-e, at};
 ghost use Rattle.definition.specs.Notes.{note-exp};
 ghost use Rattle.definition.specs.RuleRows.{rules-of};
 ghost use Rattle.definition.specs.Classes.{script};
-ghost use Rattle.definition.specs.Rules.{first-rule};
-ghost use Rattle.definition.specs.Expansion.{work, capitalize, double, between, silent, small-ya, small-target, grave, small-y, rest, thai, by-script, expand};
+ghost use Rattle.definition.specs.Expansion.{work, capitalize, double, small-ya, small-target, grave, small-y, rest, thai, by-script, expand};
 ghost use Rattle.rom.specs.Rom.{text, held, Clean};
-ghost use Rattle.words.specs.Given.{World, kinds, seen, size-in, Prepared, Lined, Lent};
+ghost use Rattle.words.specs.Given.{World, kinds, size-in, Prepared, Lined};
 ghost use Rattle.rule_choice.specs.Lent.{Answers};
 ghost use Rattle.rule_choice.specs.Chosen.{chosen-means, Said, or-nothing};
 ghost use Rattle.words.specs.Choosing.{choices-of};
 ghost use Rattle.capitals.specs.Spans.{over};
 ghost use Rattle.steps.specs.Works.{work-of, work-in, Held};
 ghost use Rattle.expand.specs.Tests.{has-grave};
-ghost use Rattle.expand.specs.Sides.{beside, after-consonant, small-here};
+ghost use Rattle.expand.specs.Sides.{after-consonant, small-here};
 ghost use Rattle.expand.specs.Steps.{Workable, Opens};
 use rom::Rom;
 use rule_choice::Chosen;
@@ -34,9 +31,6 @@ use words::Span;
 
 // U+0300, the grave over a Coptic letter.
 const GRAVE: u32 = 0x0300;
-
-// U+0E2D, O ang.
-const O_ANG: u32 = 0x0E2D;
 
 // The letter i.
 const LETTER_I: u32 = 105;
@@ -269,79 +263,9 @@ fn rest(
     steps::ending(line, bytes, x)
 }
 
-// Is a text one or more of the consonants beside which O ang is spoken?
-fn is_beside(text: &[u8]) -> bool
-    ensures { λ r. ⌜ r ≡ beside (now (text .entry)) ⌝ }
-{
-    if text.len() == 0 {
-        return false;
-    }
-    rom::all_in(text, rom::O_ANG_SIDE)
-}
-
-// Is what the first rule of a character says one or more of the consonants beside which O ang is spoken?
-fn starts_beside(rules: &[u8], ready: &[u32], c: u32) -> bool
-    requires { ⌜ Prepared (now rules) (now ready) ⌝ }
-    ensures { λ r. ⌜ r ≡ is beside (first-rule (rules-of (now (rules .entry))) (c ∷ [])) ⌝ }
-{
-    let target = rule_choice::romanization_by_first_rule(rules, ready, &[c]);
-    is_beside(rule_choice::chosen_text(rules, target))
-}
-
-// Are both neighbours of the span Thai?
-fn is_in_thai(line: &[u32], g: Growing) -> bool
-    requires { ⌜ (g .from ≤ g .to) × (g .to ≤ size-in (now line)) × (1 ≤ g .to) ⌝ }
-    ensures { λ r. ⌜ ((x : World) → Lined x (now (line .entry))
-        → r ≡ (eqb (script (kinds x) (prev (x .text) (g .from))) script-thai && eqb (script (kinds x) (at (x .text) (g .to))) script-thai)) ⌝ }
-{
-    if table_classes::script(words::kind_at(line, g.from)) == table_classes::THAI {
-        return table_classes::script(words::kind_at(line, g.to + 1)) == table_classes::THAI;
-    }
-    false
-}
-
-// Does the span stand between Thai consonants?
-fn is_between(rules: &[u8], ready: &[u32], line: &[u32], places: &[u32], g: Growing) -> bool
-    requires { ⌜ Prepared (now rules) (now ready) × (g .from ≤ g .to) × (g .to ≤ size-in (now line)) × (1 ≤ g .to) ⌝ }
-    ensures { λ r. ⌜ ((x : World) (w : Text) → Lent x (now (line .entry)) (now (places .entry))
-        → r ≡ between (rules-of (now (rules .entry))) (kinds x) (x .text) (seen x) (work w (g .from) (g .to) (g .note))) ⌝ }
-{
-    if is_in_thai(line, g) {
-        if edge_places::is_after_side(places, 0, g.from) {
-            return starts_beside(rules, ready, words::number_at(line, g.to + 1));
-        }
-        return false;
-    }
-    false
-}
-
-// O ang alone is silent unless it stands between Thai consonants.
-fn is_silent(
-    rules: &[u8],
-    ready: &[u32],
-    line: &[u32],
-    places: &[u32],
-    o: usize,
-    g: Growing,
-) -> bool
-    requires { ⌜ Prepared (now rules) (now ready) × (g .from ≤ g .to) × (g .to ≤ size-in (now line)) × (1 ≤ g .to) × (o ≤ size-in (now line)) ⌝ }
-    ensures { λ r. ⌜ ((x : World) (w : Text) → Lent x (now (line .entry)) (now (places .entry))
-        → r ≡ silent (rules-of (now (rules .entry))) (kinds x) (x .text) (seen x) o (work w (g .from) (g .to) (g .note))) ⌝ }
-{
-    if words::number_at(line, o + 1) == O_ANG {
-        if g.from + 1 == g.to {
-            if is_between(rules, ready, line, places, g) {
-                return false;
-            }
-            return true;
-        }
-        return false;
-    }
-    false
-}
-
 // Thai: the pattern ends the expansion; else comes the vowel written before, and then a silent O ang is deleted, which ends it too.
 fn thai(
+    choices: Choices,
     rules: &[u8],
     ready: &[u32],
     line: &[u32],
@@ -352,14 +276,14 @@ fn thai(
 ) -> Tried
     requires { ⌜ Workable (g .len + most-target + most-target < most-bytes) (now rules) (now ready) (now line) o (now bytes) g ⌝ }
     ensures { λ r. ⌜ Opens (now (rules .entry)) (now (ready .entry)) (now (line .entry)) (now (places .entry)) o
-        (λ L t v. thai L t v o (work-in (now (bytes .entry)) g)) (now (bytes .exit)) r ⌝ }
+        (λ L t v. thai L t v (choices-of choices) o (work-in (now (bytes .entry)) g)) (now (bytes .exit)) r ⌝ }
 {
     let tried = steps::vowel_around(rules, ready, line, bytes, g);
     if tried.done {
         return tried;
     }
     let u = steps::vowel_before(rules, ready, line, bytes, g);
-    if is_silent(rules, ready, line, places, o, u) {
+    if o_ang::is_silent(choices, rules, ready, line, places, o, u) {
         let growing = Growing {
             len: rom::keep(bytes, u.len, 0, 0),
             from: u.from,
@@ -379,6 +303,7 @@ fn thai(
 
 // What the script of the span's first character, at `o`, asks for before the rest.
 fn by_script(
+    choices: Choices,
     rules: &[u8],
     ready: &[u32],
     line: &[u32],
@@ -389,10 +314,10 @@ fn by_script(
 ) -> Tried
     requires { ⌜ Workable (g .len + most-target + most-target < most-bytes) (now rules) (now ready) (now line) o (now bytes) g ⌝ }
     ensures { λ r. ⌜ Opens (now (rules .entry)) (now (ready .entry)) (now (line .entry)) (now (places .entry)) o
-        (λ L t v. by-script L t v o (work-in (now (bytes .entry)) g)) (now (bytes .exit)) r ⌝ }
+        (λ L t v. by-script L t v (choices-of choices) o (work-in (now (bytes .entry)) g)) (now (bytes .exit)) r ⌝ }
 {
     if table_classes::script(words::kind_at(line, o + 1)) == table_classes::THAI {
-        return thai(rules, ready, line, places, bytes, o, g);
+        return thai(choices, rules, ready, line, places, bytes, o, g);
     }
     Tried {
         growing: g,
@@ -447,7 +372,7 @@ fn all_steps(
         };
     }
     let g = first_steps(line, choices, bytes, n, span);
-    let tried = by_script(rules, ready, line, places, bytes, span.from, g);
+    let tried = by_script(choices, rules, ready, line, places, bytes, span.from, g);
     if tried.done {
         return tried.growing;
     }

@@ -20,6 +20,10 @@ use Rattle.words.specs.Given.{letters-in, choices-in, mode-in, form-entries, fo
 use Rattle.jettyfig.specs.Verdicts.{choose}
 use Rattle.jettyfig.specs.Steps.{with-kinds, Blank, MadeReady}
 
+-- both choices
+chosen-by : {a b c d : ℕ} → a ≡ b → c ≡ d → choose a c ≡ choose b d
+chosen-by {a} {b} {c} {d} e f = ap (λ (n : ℕ). choose n c) e ∙ ap (choose b) f
+
 -- A front of a list, and others behind it: what stands within the front stays
 module _ (l : List ℕ) (a : ℕ) (h : a ≤ length l) where
   front-length : length (take a l) ≡ a
@@ -109,10 +113,10 @@ module _ (classes old letters : List ℕ) (long : all-ready ≤ length old) (a :
     made-ready = record {
       letters = ap (take ascii-characters) after-is ∙ stays-part came index-from within back 0 ascii-characters (omega arith)
           ∙ take-at letters (drop ascii-characters old) ascii-characters lettered ∙ a;
-      choices = ap choose (kept-at ascii-characters 0 refl (omega arith));
-      mode = kept-at (ascii-characters + 1) 1 refl (omega arith);
+      choices = chosen-by (kept-at ascii-characters 0 refl (omega arith)) (kept-at (ascii-characters + 1) 1 refl (omega arith));
+      mode = kept-at (ascii-characters + 2) 2 refl (omega arith);
       forms = ap forms-in after-is ∙ stays-part came index-from within back forms-from form-entries (omega arith)
-          ∙ ap (take form-entries) (came-from forms-from 2 refl);
+          ∙ ap (take form-entries) (came-from forms-from 3 refl);
       index = subst (Kept rules) (sym (ap (take all-places) behind)) k;
       line = sym (drop-drop all-places index-from after) ∙ ap (drop all-places) behind ∙ b ∙ ap (drop all-places) lent-is
           ∙ drop-drop all-places index-from old;
@@ -142,11 +146,14 @@ module _ (old line : List ℕ) (long : all-ready ≤ length old) (k : ℕ) (h : 
   pub whole-long : all-ready + k ≤ length whole
   whole-long = omega (arith, ap length whole-is, length-append (take all-ready old) line, fronted, h)
 
+  cut-at : (i : ℕ) → i < all-ready → getD cut i 0 ≡ getD old i 0
+  cut-at i l = ap (λ (l : List ℕ). getD l i 0) cut-is ∙ stays-at old all-ready long (take k line) i l
+
   pub cut-mode : mode-in cut ≡ mode-in old
-  cut-mode = ap mode-in cut-is ∙ stays-at old all-ready long (take k line) (ascii-characters + 1) (omega arith)
+  cut-mode = cut-at (ascii-characters + 2) (omega arith)
 
   pub cut-choices : choices-in cut ≡ choices-in old
-  cut-choices = ap choose (ap (λ (l : List ℕ). getD l ascii-characters 0) cut-is ∙ stays-at old all-ready long (take k line) ascii-characters (omega arith))
+  cut-choices = chosen-by (cut-at ascii-characters (omega arith)) (cut-at (ascii-characters + 1) (omega arith))
 
   pub cut-line : line-in cut ≡ take k line
   cut-line = ap line-in cut-is ∙ stays-behind old all-ready long (take k line)
@@ -164,10 +171,11 @@ module _ (prepared : List ℕ) (long : all-ready ≤ length prepared) where
   ready-letters = cut-part prepared all-ready long 0 ascii-characters (omega arith)
 
   pub ready-choices : choices-in (ready-in prepared) ≡ choices-in prepared
-  ready-choices = ap choose (getD-take all-ready prepared ascii-characters 0 (omega arith))
+  ready-choices =
+      chosen-by (getD-take all-ready prepared ascii-characters 0 (omega arith)) (getD-take all-ready prepared (ascii-characters + 1) 0 (omega arith))
 
   pub ready-mode : mode-in (ready-in prepared) ≡ mode-in prepared
-  ready-mode = getD-take all-ready prepared (ascii-characters + 1) 0 (omega arith)
+  ready-mode = getD-take all-ready prepared (ascii-characters + 2) 0 (omega arith)
 
   pub ready-forms : forms-in (ready-in prepared) ≡ forms-in prepared
   ready-forms = cut-part prepared all-ready long forms-from form-entries (omega arith)
@@ -178,59 +186,89 @@ module _ (prepared : List ℕ) (long : all-ready ≤ length prepared) where
   pub ready-long : index-from ≤ length (ready-in prepared)
   ready-long = omega (arith, length-take-le all-ready prepared long)
 
--- The index of the decomposition table has come back into zeros, then the choice and the mode are written
-module _ (zeros index : List ℕ) (capitals mode : ℕ) (z : zeros ≡ replicate (all-ready + 2 * (most-characters + 3)) 0) (l : length index ≡ form-entries) where
-  abbrev filled : List ℕ
-  filled = putMid forms-from form-entries zeros index
+-- The choices and the mode are written over zeros, and then the index of the decomposition table has come back behind them
+module _ (zeros : List ℕ) (capitals o-ang mode : ℕ) (z : zeros ≡ replicate (all-ready + 2 * (most-characters + 3)) 0) where
+  abbrev first : List ℕ
+  first = set zeros ascii-characters capitals
 
-  abbrev pub asked : List ℕ
-  asked = set (set filled ascii-characters capitals) (ascii-characters + 1) mode
+  abbrev second : List ℕ
+  second = set first (ascii-characters + 1) o-ang
 
-  abbrev rest : List ℕ
-  rest = replicate (all-places + 2 * (most-characters + 3)) 0
+  abbrev pub written : List ℕ
+  written = set second (ascii-characters + 2) mode
 
-  filled-is : filled ≡ replicate forms-from 0 ++ (index ++ rest)
-  filled-is = ap (λ (x : List ℕ). putMid forms-from form-entries x index) z
+  zeros-long : length zeros ≡ all-ready + 2 * (most-characters + 3)
+  zeros-long = ap length z ∙ length-replicate {A = ℕ} (all-ready + 2 * (most-characters + 3)) 0
 
-  filled-long : length filled ≡ all-ready + 2 * (most-characters + 3)
-  filled-long =
-      omega (
-        arith,
-        ap length filled-is,
-        length-append (replicate forms-from 0) (index ++ rest),
-        length-append index rest,
-        l,
-        length-replicate {A = ℕ} forms-from 0,
-        length-replicate {A = ℕ} (all-places + 2 * (most-characters + 3)) 0,
-      )
+  first-long : length first ≡ all-ready + 2 * (most-characters + 3)
+  first-long = length-set zeros ascii-characters capitals ∙ zeros-long
 
-  pub asked-long : length asked ≡ all-ready + 2 * (most-characters + 3)
-  asked-long =
-      length-set (set filled ascii-characters capitals) (ascii-characters + 1) mode ∙ length-set filled ascii-characters capitals ∙ filled-long
+  second-long : length second ≡ all-ready + 2 * (most-characters + 3)
+  second-long = length-set first (ascii-characters + 1) o-ang ∙ first-long
 
-  pub asked-mode : mode-in asked ≡ mode
-  asked-mode = getD-set-same (set filled ascii-characters capitals) (ascii-characters + 1) mode 0
-      (omega (arith, length-set filled ascii-characters capitals, filled-long))
+  pub written-long : length written ≡ all-ready + 2 * (most-characters + 3)
+  written-long = length-set second (ascii-characters + 2) mode ∙ second-long
 
-  pub asked-choices : choices-in asked ≡ choose capitals
-  asked-choices = ap choose
-      (getD-set-other (set filled ascii-characters capitals) (ascii-characters + 1) ascii-characters mode 0 (λ e. omega arith)
-      ∙ getD-set-same filled ascii-characters capitals 0 (omega (arith, filled-long)))
+  written-mode : mode-in written ≡ mode
+  written-mode = getD-set-same second (ascii-characters + 2) mode 0 (omega (arith, second-long))
 
-  asked-from : (i : ℕ) → ascii-characters + 1 < i → drop i asked ≡ drop i filled
-  asked-from i h =
-      drop-set-lt i (set filled ascii-characters capitals) (ascii-characters + 1) mode h ∙ drop-set-lt i filled ascii-characters capitals (omega arith)
+  written-choices : choices-in written ≡ choose capitals o-ang
+  written-choices = chosen-by
+      (getD-set-other second (ascii-characters + 2) ascii-characters mode 0 (λ e. omega arith)
+      ∙ getD-set-other first (ascii-characters + 1) ascii-characters o-ang 0 (λ e. omega arith)
+      ∙ getD-set-same zeros ascii-characters capitals 0 (omega (arith, zeros-long)))
+      (getD-set-other second (ascii-characters + 2) (ascii-characters + 1) mode 0 (λ e. omega arith)
+      ∙ getD-set-same first (ascii-characters + 1) o-ang 0 (omega (arith, first-long)))
 
-  from-forms : drop forms-from filled ≡ index ++ rest
-  from-forms = ap (drop forms-from) filled-is ∙ drop-at (replicate forms-from 0) (index ++ rest) forms-from (length-replicate {A = ℕ} forms-from 0)
+  -- behind them there are zeros still
+  from-forms : drop forms-from written ≡ replicate (form-entries + (all-places + 2 * (most-characters + 3))) 0
+  from-forms =
+      drop-set-lt forms-from second (ascii-characters + 2) mode (omega arith) ∙ drop-set-lt forms-from first (ascii-characters + 1) o-ang (omega arith)
+      ∙ drop-set-lt forms-from zeros ascii-characters capitals (omega arith) ∙ ap (drop forms-from) z
 
-  pub asked-blank : (decompositions : List ℕ) → index ≡ index-of decompositions → Blank decompositions asked
-  asked-blank decompositions e = record {
-    long = omega (arith, asked-long);
-    zeros = ap (take all-places) (asked-from index-from (omega arith) ∙ sym (drop-drop form-entries forms-from filled) ∙ ap (drop form-entries) from-forms
-        ∙ drop-at index rest form-entries l);
-    forms = ap (take form-entries) (asked-from forms-from (omega arith) ∙ from-forms) ∙ take-at index rest form-entries l ∙ e;
-  }
+  pub forms-lent : midOf forms-from form-entries written ≡ replicate form-entries 0
+  forms-lent = ap (take form-entries) from-forms
+
+  module _ (index : List ℕ) (l : length index ≡ form-entries) where
+    abbrev pub asked : List ℕ
+    asked = putMid forms-from form-entries written index
+
+    abbrev rest : List ℕ
+    rest = drop form-entries (drop forms-from written)
+
+    within-written : forms-from ≤ length written
+    within-written = omega (arith, written-long)
+
+    pub asked-long : length asked ≡ all-ready + 2 * (most-characters + 3)
+    asked-long =
+        omega (
+          arith,
+          length-append (take forms-from written) (index ++ rest),
+          length-append index rest,
+          l,
+          length-take-le forms-from written within-written,
+          ap (λ (x : List ℕ). length (drop form-entries x)) from-forms,
+        )
+
+    asked-at : (i : ℕ) → i < forms-from → getD asked i 0 ≡ getD written i 0
+    asked-at i h = stays-at written forms-from within-written (index ++ rest) i h
+
+    pub asked-mode : mode-in asked ≡ mode
+    asked-mode = asked-at (ascii-characters + 2) (omega arith) ∙ written-mode
+
+    pub asked-choices : choices-in asked ≡ choose capitals o-ang
+    asked-choices = chosen-by (asked-at ascii-characters (omega arith)) (asked-at (ascii-characters + 1) (omega arith)) ∙ written-choices
+
+    asked-forms : drop forms-from asked ≡ index ++ rest
+    asked-forms = stays-behind written forms-from within-written (index ++ rest)
+
+    pub asked-blank : (decompositions : List ℕ) → index ≡ index-of decompositions → Blank decompositions asked
+    asked-blank decompositions e = record {
+      long = omega (arith, asked-long);
+      zeros = ap (take all-places) (sym (drop-drop form-entries forms-from asked) ∙ ap (drop form-entries) asked-forms ∙ drop-at index rest form-entries l
+          ∙ ap (drop form-entries) from-forms);
+      forms = ap (take form-entries) asked-forms ∙ take-at index rest form-entries l ∙ e;
+    }
 
 -- A line begins with a text between spaces, and as much again is lent with it for the classes
 module _ (line : List ℕ) (t : Text) (n : ℕ) (full : length line ≡ 2 * (most-characters + 3)) (few : n ≤ most-characters)

@@ -1,7 +1,7 @@
 -- What the call's own answers say in the definition's terms.
 use Prim.Native.Nat.{ℕ, _-_, _≤_, _<_}
 use mathlib.Core.Bool.{true, false, not, _&&_, _||_}
-use mathlib.Core.List.{List, [], _∷_}
+use mathlib.Core.List.{List, [], _∷_, _++_}
 use mathlib.Core.Option.{Option, none, some}
 use mathlib.Core.Path.{_≡_, refl, sym, ap, _∙_}
 use native.Mathlib.Omega.{arith}
@@ -14,7 +14,8 @@ use Rattle.base.specs.Lists.{all, same, or-else, first-of}
 use Rattle.base.specs.ListLaws.{same-some, first-past, first-here}
 use Rattle.definition.specs.Blocks.{small}
 use Rattle.definition.specs.DecompositionRows.{right-part, decomposition-fault}
-use Rattle.definition.specs.Refusals.{Refusal, refuse, when, placed, refused-code}
+use Rattle.definition.specs.Limits.{most-mode, most-choice}
+use Rattle.definition.specs.Refusals.{Refusal, refuse, when, placed, refused-mode, refused-capitals, refused-o-ang, refused-code}
 use Rattle.definition.specs.Utf8.{bad-sequence, bad-from, decoded, decode-by}
 use Rattle.definition.specs.Call.{Inputs, Called, code-right, first-left-out, before-text, text-refusal, refusal}
 use Rattle.definition.specs.Accepted as accepted
@@ -42,11 +43,11 @@ indexed-so b x e f Accepted = (e, f ∙ ap index-of (checked-ready b e .0))
 indexed-so b x e f (Refused n p) = tt
 
 -- the choices of a call
-abbrev pub choose : ℕ → Choices
-choose capitals = record { capitals = capitals }
+abbrev pub choose : ℕ → ℕ → Choices
+choose capitals o-ang = record { capitals = capitals; o-ang = o-ang }
 
 abbrev pub chosen : Asked → Choices
-chosen a = choose (a .capitals)
+chosen a = choose (a .capitals) (a .«o_ang»)
 
 -- what a call was given, and what it returned with the whole output
 abbrev pub given : ℕ → Choices → List ℕ → List ℕ → List ℕ → List ℕ → List ℕ → List ℕ → ℕ → ℕ → ℕ → Inputs
@@ -66,6 +67,14 @@ given mode choices rules classes vowels decompositions code text slots room out 
 
 abbrev pub returned : Answer → List ℕ → Called
 returned a out = record { number = a .number; place = a .place; length = a .length; edges = a .edges; output = out }
+
+-- the refusal of mode and choices
+unfoldable pub by-asked : ℕ → Choices → Option Refusal
+by-asked mode choices = first-of
+    (when (ltb most-mode mode) refused-mode 0
+    ∷ when (ltb most-choice (choices .capitals)) refused-capitals 0
+    ∷ when (ltb most-choice (choices .o-ang)) refused-o-ang 0
+    ∷ [])
 
 -- the refusal of a language code
 abbrev pub by-code : List ℕ → Option Refusal
@@ -117,6 +126,21 @@ module _ (most n number : ℕ) (l : List (Option Refusal)) where
   pub not-above : n ≤ most → first-of l ≡ first-of (when (ltb most n) number 0 ∷ l)
   unfolding when pick
   not-above h = sym (first-past (when (ltb most n) number 0) l (rw (le-ltb most n h)))
+
+-- what is refused of mode and choices goes before the other tests
+first-firsts : (k l : List (Option Refusal)) → first-of (first-of k ∷ l) ≡ first-of (k ++ l)
+unfolding first-of
+first-firsts [] l = refl
+first-firsts (none ∷ k) l = first-firsts k l
+first-firsts (some r ∷ k) l = refl
+
+pub asked-first : (mode : ℕ) (choices : Choices) (l : List (Option Refusal)) → first-of (by-asked mode choices ∷ l)
+    ≡ first-of (when (ltb most-mode mode) refused-mode 0 ∷ when (ltb most-choice (choices .capitals)) refused-capitals 0
+    ∷ when (ltb most-choice (choices .o-ang)) refused-o-ang 0 ∷ l)
+unfolding by-asked
+asked-first mode choices l =
+    first-firsts (when (ltb most-mode mode) refused-mode 0 ∷ when (ltb most-choice (choices .capitals)) refused-capitals 0
+    ∷ when (ltb most-choice (choices .o-ang)) refused-o-ang 0 ∷ []) l
 
 -- nothing refused of either is nothing refused
 pub nothing-refused : (i : Inputs) → before-text (i .mode) (i .choices) (i .rules) (i .classes) (i .vowels) (i .decompositions) (i .code) ≡ none → text-refusal (i .text) ≡ none → refusal i ≡ none

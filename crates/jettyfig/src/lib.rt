@@ -16,7 +16,7 @@ ghost use Rattle.rule_table_check.specs.Told.{rules-means};
 ghost use Rattle.utf8.specs.Read.{text-means};
 ghost use Rattle.words.specs.Given.{form-entries, choices-in, mode-in};
 ghost use Rattle.output.specs.Whole.{Whole};
-ghost use Rattle.jettyfig.specs.Verdicts.{verdict-means, Indexed, choose, chosen, given, returned, by-code};
+ghost use Rattle.jettyfig.specs.Verdicts.{verdict-means, Indexed, choose, chosen, given, returned, by-asked, by-code};
 ghost use Rattle.jettyfig.specs.Steps.{with-kinds, Blank, ReadReady, PrepareReady, MadeReady, FinishReady, RomanizeReady, Writes, Finishes, Romanizes, Prepares, Reads};
 use decomp::Grew;
 use edge::Added;
@@ -46,6 +46,8 @@ const CODE_LETTERS: usize = 3;
 const REFUSED_MODE: u64 = 1;
 
 const REFUSED_CAPITALS: u64 = 12;
+
+const REFUSED_O_ANG: u64 = 15;
 
 const REFUSED_CLASSES: u64 = 3;
 
@@ -82,6 +84,7 @@ pub struct Answer {
 pub struct Asked {
     pub mode: u8,
     pub capitals: u8,
+    pub o_ang: u8,
 }
 
 // What was found of the tables and the code: nothing, or a refusal.
@@ -141,6 +144,22 @@ fn check_code(code: &[u8]) -> Verdict
     Verdict::Refused(REFUSED_CODE, 0)
 }
 
+// What is refused of mode and choices, in this order.
+fn check_asked(asked: Asked) -> Verdict
+    ensures { λ r. ⌜ verdict-means r ≡ by-asked (asked .mode) (chosen asked) ⌝ }
+{
+    if MOST_MODE < asked.mode {
+        return Verdict::Refused(REFUSED_MODE, 0);
+    }
+    if MOST_CHOICE < asked.capitals {
+        return Verdict::Refused(REFUSED_CAPITALS, 0);
+    }
+    if MOST_CHOICE < asked.o_ang {
+        return Verdict::Refused(REFUSED_O_ANG, 0);
+    }
+    Verdict::Accepted
+}
+
 // What is refused before the text is read, in this order. The decomposition table's index is filled by the way.
 fn check(
     asked: Asked,
@@ -156,12 +175,10 @@ fn check(
         (now (decompositions .entry)) (now (code .entry)) ⌝ }
     ensures index { λ r. ⌜ Indexed (now (decompositions .entry)) (now (index .exit)) r ⌝ }
 {
-    if MOST_MODE < asked.mode {
-        return Verdict::Refused(REFUSED_MODE, 0);
-    }
-    if MOST_CHOICE < asked.capitals {
-        return Verdict::Refused(REFUSED_CAPITALS, 0);
-    }
+    let of_asked = check_asked(asked);
+    let Verdict::Accepted = of_asked else {
+        return of_asked;
+    };
     let of_rules = of_rule_table(rule_table_check::check_rules(rules));
     let Verdict::Accepted = of_rules else {
         return of_rules;
@@ -444,7 +461,8 @@ fn read<'a>(
     }
 }
 
-// The whole call, but for clearing the rooms.
+// The whole call, but for clearing the rooms. What is asked is written into what is prepared before the tables are checked, so
+// that no check has to keep it at hand.
 fn respond<'a>(
     asked: Asked,
     rules: &'a [u8],
@@ -462,6 +480,9 @@ fn respond<'a>(
 {
     lent_bytes::clear(out);
     let mut prepared = [0u32; PREPARED];
+    prepared[words::CAPITALS] = asked.capitals as u32;
+    prepared[words::O_ANG] = asked.o_ang as u32;
+    prepared[words::MODE] = asked.mode as u32;
     match check(
         asked,
         rules,
@@ -472,22 +493,18 @@ fn respond<'a>(
         &mut prepared[words::FORMS..words::INDEX],
     ) {
         Verdict::Refused(number, place) => refuse(number, place),
-        Verdict::Accepted => {
-            prepared[words::CAPITALS] = asked.capitals as u32;
-            prepared[words::MODE] = asked.mode as u32;
-            read(
-                rules,
-                classes,
-                vowels,
-                decompositions,
-                code,
-                text,
-                &mut prepared,
-                slots,
-                room,
-                out,
-            )
-        }
+        Verdict::Accepted => read(
+            rules,
+            classes,
+            vowels,
+            decompositions,
+            code,
+            text,
+            &mut prepared,
+            slots,
+            room,
+            out,
+        ),
     }
 }
 
@@ -496,6 +513,7 @@ fn respond<'a>(
 pub extern "C" fn jettyfig_romanize<'a>(
     mode: u8,
     capitals: u8,
+    o_ang: u8,
     rules: &'a [u8],
     classes: &[u8],
     vowels: &[u8],
@@ -506,12 +524,16 @@ pub extern "C" fn jettyfig_romanize<'a>(
     room: &mut [u8],
     out: &mut [u8],
 ) -> Answer
-    ensures answer { λ r. ⌜ returned r (now (out .exit)) ≡ called (given mode (choose capitals) (now (rules .entry)) (now (classes .entry)) (now (vowels .entry))
+    ensures answer { λ r. ⌜ returned r (now (out .exit)) ≡ called (given mode (choose capitals «o_ang») (now (rules .entry)) (now (classes .entry)) (now (vowels .entry))
         (now (decompositions .entry)) (now (code .entry)) (now (text .entry)) (length (now (slots .entry))) (length (now (room .entry))) (length (now (out .entry)))) ⌝ }
     ensures slots { λ _. ⌜ now (slots .exit) ≡ replicate (length (now (slots .entry))) 0 ⌝ }
     ensures room { λ _. ⌜ now (room .exit) ≡ replicate (length (now (room .entry))) 0 ⌝ }
 {
-    let asked = Asked { mode, capitals };
+    let asked = Asked {
+        mode,
+        capitals,
+        o_ang,
+    };
     let answered = respond(
         asked,
         rules,

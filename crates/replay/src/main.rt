@@ -94,7 +94,7 @@ fn skip(input: &[u8], at: usize) -> usize
     at + 4 + number(input, at)
 }
 
-// The call at `at` over rubbish, in rooms as large as it says: its fields stand at `at + 14`, `a`, `b`, `c`, `d` and `e`.
+// The call at `at` over rubbish, in rooms as large as it says: its fields stand at `at + 15`, `a`, `b`, `c`, `d` and `e`.
 fn run_fields(
     input: &[u8],
     at: usize,
@@ -111,13 +111,15 @@ fn run_fields(
 {
     let mode = (base::byte(input, at) % 256) as u8;
     let capitals = (base::byte(input, at + 1) % 256) as u8;
+    let o_ang = (base::byte(input, at + 2) % 256) as u8;
     fill(slots, RUBBISH);
     fill(room, RUBBISH);
     fill(out, RUBBISH);
     jettyfig::jettyfig_romanize(
         mode,
         capitals,
-        field(input, at + 14),
+        o_ang,
+        field(input, at + 15),
         field(input, a),
         field(input, b),
         field(input, c),
@@ -134,7 +136,7 @@ fn run_in(input: &[u8], at: usize, slots: &mut [u8], room: &mut [u8], out: &mut 
     requires { ⌜ at < 16777216 ⌝ }
     ensures { λ r. ⌜ at < r .next ⌝ }
 {
-    let a = skip(input, at + 14);
+    let a = skip(input, at + 15);
     let b = skip(input, a);
     let c = skip(input, b);
     let d = skip(input, c);
@@ -153,9 +155,9 @@ fn run_one(input: &[u8], at: usize, slots: &mut [u8], room: &mut [u8], out: &mut
     requires { ⌜ at < 16777216 ⌝ }
     ensures { λ r. ⌜ at < r .next ⌝ }
 {
-    let s = number(input, at + 2);
-    let r = number(input, at + 6);
-    let o = number(input, at + 10);
+    let s = number(input, at + 3);
+    let r = number(input, at + 7);
+    let o = number(input, at + 11);
     let wrong = Ran {
         next: at + 1,
         right: false,
@@ -178,8 +180,8 @@ fn lent_room() -> [u8; 131072] {
     [0u8; 131072]
 }
 
-fn calls_room() -> [u8; 2700000] {
-    [0u8; 2700000]
+fn calls_room() -> [u8; 3100000] {
+    [0u8; 3100000]
 }
 
 // All calls, one behind the other.

@@ -11,7 +11,8 @@ use borrow.Author.Tests.{eq-eqb, ne-eqb, le-leb, lt-leb}
 use Rattle.base.specs.Pick.{pick}
 use Rattle.base.specs.Lists.{head, tail, is, same}
 use Rattle.definition.specs.Texts.{chars, last-is}
-use Rattle.romanize.specs.Arguments.{no-mode, mode-of, no-choice, capitals-of, is-dash, code-of, without-line-end}
+use Rattle.romanize.specs.declared.Chosen.{Chosen}
+use Rattle.romanize.specs.Arguments.{no-mode, mode-of, with-choice, is-dash, code-of, without-line-end}
 
 -- A mode that is not one byte; one byte that is below the digits, above them, or a digit
 pub no-digit : (w : List ℕ) → (length w ≡ 1 → ⊥) → no-mode ≡ mode-of w
@@ -38,14 +39,22 @@ digit [] l h k = absurd (omega arith)
 digit (d ∷ []) l h k = sym (rw (le-leb 48 d h, le-leb d 57 k) refl)
 digit (d ∷ e ∷ w) l h k = absurd (omega arith)
 
--- The word for capitals, and any other
-pub named : (w : List ℕ) → true ≡ same w (chars "capitals") → 1 ≡ capitals-of w
-unfolding capitals-of pick
-named w e = rw (sym e) refl
+-- The word of each choice, and any other
+module _ (w : List ℕ) (c : Chosen) where
+  pub for-capitals : true ≡ same w (chars "capitals") → {right : Bool} → right ≡ (c .right && eqb (c .capitals) 0)
+      → record { capitals = 1; «o_ang» = c .«o_ang»; right = right } ≡ with-choice w c
+  unfolding with-choice pick
+  for-capitals e f = rw (sym e, f) refl
 
-pub not-named : (w : List ℕ) → false ≡ same w (chars "capitals") → no-choice ≡ capitals-of w
-unfolding capitals-of pick
-not-named w e = rw (sym e) refl
+  pub for-o-ang : false ≡ same w (chars "capitals") → true ≡ same w (chars "o_ang") → {right : Bool} → right ≡ (c .right && eqb (c .«o_ang») 0)
+      → record { capitals = c .capitals; «o_ang» = 1; right = right } ≡ with-choice w c
+  unfolding with-choice pick
+  for-o-ang e f g = rw (sym e, sym f, g) refl
+
+  pub for-none : false ≡ same w (chars "capitals") → false ≡ same w (chars "o_ang")
+      → record { capitals = c .capitals; «o_ang» = c .«o_ang»; right = false } ≡ with-choice w c
+  unfolding with-choice pick
+  for-none e f = rw (sym e, sym f) refl
 
 -- A code that is not one byte is no dash; one byte may be
 and-false : (b : Bool) → false ≡ (b && false)

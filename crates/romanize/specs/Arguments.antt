@@ -1,11 +1,12 @@
 -- What the arguments and the text on standard input say.
-use mathlib.Core.Bool.{Bool, _&&_}
+use mathlib.Core.Bool.{Bool, false, _&&_}
 use mathlib.Core.List.{List, [], _∷_}
 use Prim.Native.Nat.{ℕ, _-_}
 use lib.Dec.{eqb, leb}
 use Rattle.base.specs.Pick.{pick}
 use Rattle.base.specs.Lists.{same}
 use Rattle.definition.specs.Texts.{chars, last-is, without-last}
+use Rattle.romanize.specs.declared.Chosen.{Chosen}
 
 -- no mode, which the call refuses
 abbrev pub no-mode : ℕ
@@ -17,13 +18,15 @@ mode-of [] = no-mode
 mode-of (d ∷ []) = pick (leb 48 d && leb d 57) (d - 48) no-mode
 mode-of (d ∷ e ∷ w) = no-mode
 
--- no choice: bad usage
-abbrev pub no-choice : ℕ
-no-choice = 255
+-- what words behind the mode choose: one more names a choice, and no word may name one twice or name none
+abbrev chosen-as : ℕ → ℕ → Bool → Chosen
+chosen-as capitals o-ang right = record { capitals = capitals; «o_ang» = o-ang; right = right }
 
--- the word that turns capitals on
-unfoldable pub capitals-of : List ℕ → ℕ
-capitals-of w = pick (same w (chars "capitals")) 1 no-choice
+unfoldable pub with-choice : List ℕ → Chosen → Chosen
+with-choice w c =
+    pick (same w (chars "capitals")) (chosen-as 1 (c .«o_ang») (c .right && eqb (c .capitals) 0))
+    (pick (same w (chars "o_ang")) (chosen-as (c .capitals) 1 (c .right && eqb (c .«o_ang») 0))
+    (chosen-as (c .capitals) (c .«o_ang») false))
 
 -- a dash is no language code
 unfoldable pub is-dash : List ℕ → Bool

@@ -1,14 +1,17 @@
-// romanize RULES CLASSES VOWELS DECOMPOSITIONS CODE MODE [capitals]: romanizes standard input by the tables of four files.
+// romanize RULES CLASSES VOWELS DECOMPOSITIONS CODE MODE [capitals] [o_ang]: romanizes standard input by the tables of four files.
 //
 // CODE is a language code, or - for none. MODE is 0 for the string, 1 for the path, 2 for the path and its alternatives, 3 for
-// all edges; these are written a line for each edge: start, end, annotation, core length and text. The word `capitals` turns that
-// choice on. One line end behind the text is no part of it. A refusal is one line on standard error, and nothing is written.
+// all edges; these are written a line for each edge: start, end, annotation, core length and text. The words `capitals` and
+// `o_ang`, in either order, turn these choices on. One line end behind the text is no part of it. A refusal is one line on
+// standard error, and nothing is written.
+ghost use mathlib.Core.Bool.{_&&_};
 ghost use mathlib.Core.Path.{_≡_};
 ghost use Prim.Native.Nat.{_+_, _<_, _≤_};
+ghost use lib.Dec.{eqb};
 ghost use lib.ListN.{length};
 ghost use Rattle.io.specs.Counts.{Counts};
 ghost use Rattle.definition.specs.Limits.{most-rows};
-ghost use Rattle.romanize.specs.Arguments.{mode-of, capitals-of, is-dash, code-of, without-line-end};
+ghost use Rattle.romanize.specs.Arguments.{mode-of, with-choice, is-dash, code-of, without-line-end};
 use jettyfig::Answer;
 use libc::STDERR_FILENO;
 use libc::STDIN_FILENO;
@@ -23,12 +26,17 @@ const NAMES: [u8; 128] =
 // No mode.
 const NO_MODE: u8 = 255;
 
-// The choice of capitals; and what a word behind the mode that names no choice says, which is bad usage.
-const CAPITALS_OFF: u8 = 0;
+// A choice.
+const OFF: u8 = 0;
 
-const CAPITALS_ON: u8 = 1;
+const ON: u8 = 1;
 
-const NO_CHOICE: u8 = 255;
+// What the words behind the mode choose, and whether they are right: each names a choice, and none one that another has named.
+pub struct Chosen {
+    pub capitals: u8,
+    pub o_ang: u8,
+    pub right: bool,
+}
 
 // The rooms are returned by functions so that `main` knows their lengths alone, and no proof goes through their bytes. Slots
 // and text room are as large as any text can need, and the output holds all edges of any text.
@@ -67,7 +75,7 @@ fn out_room() -> [u8; 1793029] {
 fn usage() {
     io::write_all(
         STDERR_FILENO,
-        b"usage: romanize RULES CLASSES VOWELS DECOMPOSITIONS CODE MODE [capitals] < TEXT\n",
+        b"usage: romanize RULES CLASSES VOWELS DECOMPOSITIONS CODE MODE [capitals] [o_ang] < TEXT\n",
     );
     io::write_all(
         STDERR_FILENO,
@@ -76,6 +84,10 @@ fn usage() {
     io::write_all(
         STDERR_FILENO,
         b"capitals: before lower case a character in upper case keeps its first letter so, Zh and not ZH\n",
+    );
+    io::write_all(
+        STDERR_FILENO,
+        b"o_ang: Thai O ang asks no further back than its word, so a word reads in its line as alone\n",
     );
 }
 
@@ -124,28 +136,62 @@ fn mode_of(arg: &[u8]) -> u8
     digit - b'0'
 }
 
-// The choice that a word behind the mode names.
-fn capitals_of(word: &[u8]) -> u8
-    ensures { λ r. ⌜ r ≡ capitals-of (now (word .entry)) ⌝ }
+// Is a choice still off, and were the words before right?
+fn is_new(choice: u8, right: bool) -> bool
+    ensures { λ r. ⌜ r ≡ (right && eqb choice 0) ⌝ }
 {
-    if lent_bytes::same(word, b"capitals") {
-        return CAPITALS_ON;
+    if right {
+        return choice == OFF;
     }
-    NO_CHOICE
+    false
 }
 
-// The choice of capitals by the arguments behind the mode.
-fn capitals_chosen() -> u8 {
-    let count = os::arg_count();
-    if count == 7 {
-        return CAPITALS_OFF;
+// A word more, which names a choice.
+fn with_choice(word: &[u8], chosen: Chosen) -> Chosen
+    ensures { λ r. ⌜ r ≡ with-choice (now (word .entry)) chosen ⌝ }
+{
+    if lent_bytes::same(word, b"capitals") {
+        return Chosen {
+            capitals: ON,
+            o_ang: chosen.o_ang,
+            right: is_new(chosen.capitals, chosen.right),
+        };
     }
-    if count != 8 {
-        return NO_CHOICE;
+    if lent_bytes::same(word, b"o_ang") {
+        return Chosen {
+            capitals: chosen.capitals,
+            o_ang: ON,
+            right: is_new(chosen.o_ang, chosen.right),
+        };
     }
+    Chosen {
+        capitals: chosen.capitals,
+        o_ang: chosen.o_ang,
+        right: false,
+    }
+}
+
+// The argument `i` behind those before it.
+fn with_argument(i: usize, chosen: Chosen) -> Chosen {
     let mut word = [0u8; 16];
-    let n = os::arg(7, &mut word);
-    capitals_of(&word[..n])
+    let n = os::arg(i, &mut word);
+    with_choice(&word[..n], chosen)
+}
+
+// The choices by the arguments behind the mode.
+fn choices() -> Chosen {
+    let count = os::arg_count();
+    let mut chosen = Chosen {
+        capitals: OFF,
+        o_ang: OFF,
+        right: 7 <= count,
+    };
+    let mut i: usize = 7;
+    while i < count {
+        chosen = with_argument(i, chosen);
+        i += 1;
+    }
+    chosen
 }
 
 fn is_dash(arg: &[u8]) -> bool
@@ -297,10 +343,17 @@ fn say_room(number: u64) {
 }
 
 // What a refusal of a choice means, and what its place is.
-fn say_choice() {
+fn say_choice(number: u64) {
+    if number == 12 {
+        io::write_all(
+            STDERR_FILENO,
+            b"the choice of capitals is neither 0 nor 1; place ",
+        );
+        return;
+    }
     io::write_all(
         STDERR_FILENO,
-        b"the choice of capitals is neither 0 nor 1; place ",
+        b"the choice of O ang is neither 0 nor 1; place ",
     );
 }
 
@@ -328,7 +381,9 @@ fn say_meaning(number: u64, place: u64) {
     } else if number < 12 {
         say_room(number);
     } else if number == 12 {
-        say_choice();
+        say_choice(number);
+    } else if number == 15 {
+        say_choice(number);
     } else {
         say_decomposition(number);
     }
@@ -399,7 +454,7 @@ fn print_refusal(answer: Answer, rules: &[u8]) {
 // One call, and what it answers, printed.
 fn romanize<'a>(
     mode: u8,
-    capitals: u8,
+    chosen: Chosen,
     rules: &'a [u8],
     classes: &[u8],
     vowels: &[u8],
@@ -412,7 +467,8 @@ fn romanize<'a>(
     let mut out = out_room();
     let answer = jettyfig::jettyfig_romanize(
         mode,
-        capitals,
+        chosen.capitals,
+        chosen.o_ang,
         rules,
         classes,
         vowels,
@@ -436,7 +492,7 @@ fn romanize<'a>(
 }
 
 // The tables are read; code, mode and text are not yet.
-fn with_tables(capitals: u8, rules: &[u8], classes: &[u8], vowels: &[u8], decompositions: &[u8]) {
+fn with_tables(chosen: Chosen, rules: &[u8], classes: &[u8], vowels: &[u8], decompositions: &[u8]) {
     let mut code = io::buffer();
     let c = os::arg(5, &mut code);
     if os::errno() != 0 {
@@ -452,7 +508,7 @@ fn with_tables(capitals: u8, rules: &[u8], classes: &[u8], vowels: &[u8], decomp
     }
     romanize(
         mode_of(&mode[..m]),
-        capitals,
+        chosen,
         rules,
         classes,
         vowels,
@@ -463,8 +519,8 @@ fn with_tables(capitals: u8, rules: &[u8], classes: &[u8], vowels: &[u8], decomp
 }
 
 fn main() {
-    let capitals = capitals_chosen();
-    if capitals == NO_CHOICE {
+    let chosen = choices();
+    if !chosen.right {
         usage();
         return;
     }
@@ -489,7 +545,7 @@ fn main() {
         return;
     }
     with_tables(
-        capitals,
+        chosen,
         &rules[..r],
         &classes[..c],
         &vowels[..v],

@@ -521,6 +521,7 @@ fn main() {
     let answer = jettyfig::jettyfig_romanize(
         1,
         0,
+        0,
         &RULES,
         &CLASSES,
         &VOWELS,

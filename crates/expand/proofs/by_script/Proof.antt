@@ -6,6 +6,7 @@ use Rattle.definition.specs.Texts.{at}
 use Rattle.definition.specs.Tables.{script-thai}
 use Rattle.definition.specs.Classes.{script}
 use Rattle.words.specs.Given.{kinds, seen, line-size}
+use Rattle.words.specs.Choosing.{choices-of}
 use Rattle.words.specs.Characters.{script-here}
 use Rattle.rule_choice.specs.Lent.{lexicon-of}
 use Rattle.steps.specs.Works.{work-in}
@@ -38,7 +39,7 @@ returns c =
       (λ u code h.
           let L = lexicon-of (now (a .rules)) u code in
           let k = script-here (h .text) (a .o) (omega (arith, p .3, p .5, line-size (h .text))) (c .before .before .before .before .before .before .kind-at .ensures) (c .before .before .before .before .before .script .ensures) in
-          in-thai L (u .text) (seen u) (a .o) (work-in (now (a .bytes)) (a .g))
+          in-thai L (u .text) (seen u) (choices-of (a .choices)) (a .o) (work-in (now (a .bytes)) (a .g))
           (eq-eqb (script (kinds u) (at (u .text) (a .o))) script-thai (omega (arith, k))) (x .0 u code h)),
       x .1,
       x .2,
@@ -52,7 +53,7 @@ returns-2 c =
       (λ u code h.
           let L = lexicon-of (now (a .rules)) u code in
           let k = script-here (h .text) (a .o) (omega (arith, p .3, p .5, line-size (h .text))) (c .before .before .kind-at .ensures) (c .before .script .ensures) in
-          elsewhere L (u .text) (seen u) (a .o) (work-in (now (a .bytes)) (a .g))
+          elsewhere L (u .text) (seen u) (choices-of (a .choices)) (a .o) (work-in (now (a .bytes)) (a .g))
           (ne-eqb (script (kinds u) (at (u .text) (a .o))) script-thai (λ d. omega (arith, d, k)))),
       p .1,
       λ z. (p .0, p .1, omega (arith, p .2), p .3, p .4, p .5),

@@ -9,6 +9,7 @@ use Rattle.definition.specs.RuleRows.{rules-of}
 use Rattle.definition.specs.Expansion.{around, before}
 use Rattle.rom.specs.Rom.{text-by, clean-by}
 use Rattle.words.specs.Given.{kinds, seen}
+use Rattle.words.specs.Choosing.{choices-of}
 use Rattle.rule_choice.specs.Lent.{lexicon-of}
 use Rattle.steps.specs.Works.{work-in, Held}
 use Rattle.expand.specs.Tests.{patterned, deleted, spoken}
@@ -35,7 +36,7 @@ returns c =
           let L = lexicon-of (now (a .rules)) x code in
           let d = X .0 x (h .text) in
           let o = around (rules-of (now (a .rules))) (kinds x) (x .text) w in
-          patterned L (x .text) (seen x) (a .o) w I (d .work) (there o w (sym (d .done) ∙ I))),
+          patterned L (x .text) (seen x) (choices-of (a .choices)) (a .o) w I (d .work) (there o w (sym (d .done) ∙ I))),
       X .1,
       λ z. absurd (true≢false (sym I ∙ z)),
     )
@@ -83,7 +84,7 @@ returns-2 c =
           let d = k .vowel-around .ensures .0 x (h .text) in
           let none = absent (around R (kinds x) (x .text) w) (sym (d .done) ∙ J) in
           let made = U .0 x (h .text) ∙ ap (λ (b : List ℕ). before R (kinds x) (x .text) (work-in b (a .g))) E in
-          deleted L (x .text) (seen x) (a .o) w none (work-in _ (T .result)) made (text-by [] K (omega arith)) (sym (S x _ h) ∙ I)),
+          deleted L (x .text) (seen x) (choices-of (a .choices)) (a .o) w none (work-in _ (T .result)) made (text-by [] K (omega arith)) (sym (S x _ h) ∙ I)),
       clean-by [] K (omega arith),
       λ z. absurd (true≢false z),
     )
@@ -111,7 +112,7 @@ returns-3 c =
           let d = k .vowel-around .ensures .0 x (h .text) in
           let none = absent (around R (kinds x) (x .text) w) (sym (d .done) ∙ J) in
           let made = U .0 x (h .text) ∙ ap (λ (b : List ℕ). before R (kinds x) (x .text) (work-in b (a .g))) E in
-          spoken L (x .text) (seen x) (a .o) w none (work-in _ (T .result)) made (sym (S x _ h) ∙ I)),
+          spoken L (x .text) (seen x) (choices-of (a .choices)) (a .o) w none (work-in _ (T .result)) made (sym (S x _ h) ∙ I)),
       U .1,
       λ z. (p .0, U .1, omega (arith, U .2, p .2), omega (arith, U .4, p .3), omega (arith, U .3, U .4, p .4), omega (arith, U .4, p .5)),
     )

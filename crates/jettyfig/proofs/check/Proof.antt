@@ -1,15 +1,13 @@
 -- `jettyfig::check`: the mode, the choices, each table and the code, in the definition's order; the decomposition table's index
 -- is filled where that table is checked.
-use Prim.Native.Nat.{ℕ, _≤_}
+use Prim.Native.Nat.{ℕ}
 use mathlib.Core.List.{List, [], _∷_}
 use mathlib.Core.Option.{Option, none, some}
 use mathlib.Core.Path.{_≡_, refl, ap, _∙_, sym, subst}
 use native.Mathlib.Omega.{arith}
-use lib.Dec.{ltb}
 use denote.Ref.{now}
-use Rattle.definition.specs.Limits.{most-mode, most-choice}
 use Rattle.base.specs.ListLaws.{first-only}
-use Rattle.definition.specs.Refusals.{Refusal, when, placed, refused-mode, refused-capitals, refused-classes, refused-vowels, refused-decompositions}
+use Rattle.definition.specs.Refusals.{Refusal, placed, refused-classes, refused-vowels, refused-decompositions}
 use Rattle.definition.specs.RuleFaults.{rule-fault}
 use Rattle.definition.specs.ClassRows.{class-fault}
 use Rattle.definition.specs.VowelRows.{vowel-fault}
@@ -17,7 +15,9 @@ use Rattle.definition.specs.DecompositionRows.{decomposition-fault}
 use Rattle.definition.specs.Call.{before-text}
 use Rattle.jettyfig.specs.declared.Verdict.{Verdict}
 use Rattle.jettyfig.specs.declared.Verdict.the-variants.{Accepted, Refused}
-use Rattle.jettyfig.specs.Verdicts.{Indexed, verdict-means, indexed-so, by-code, goes-on, ends-here, above, not-above}
+use Rattle.base.specs.Lists.{first-of}
+use Rattle.jettyfig.specs.declared.Asked.{Asked}
+use Rattle.jettyfig.specs.Verdicts.{Indexed, verdict-means, indexed-so, chosen, by-asked, asked-first, by-code, goes-on, ends-here}
 use borrow.Author.Needs.{needs}
 use Rattle.jettyfig.proofs.check.Statement.{statement}
 use Rattle.jettyfig.proofs.check.Tie as tie
@@ -38,10 +38,6 @@ from-classes classes vowels decompositions code = placed refused-classes (class-
 abbrev from-rules : List ℕ → List ℕ → List ℕ → List ℕ → List ℕ → List (Option Refusal)
 from-rules rules classes vowels decompositions code = rule-fault rules ∷ from-classes classes vowels decompositions code
 
-abbrev from-choices : ℕ → List ℕ → List ℕ → List ℕ → List ℕ → List ℕ → List (Option Refusal)
-from-choices capitals rules classes vowels decompositions code =
-    when (ltb most-choice capitals) refused-capitals 0 ∷ from-rules rules classes vowels decompositions code
-
 -- a refusal asks nothing of the index
 refused-so : (b x : List ℕ) (v : Verdict) (n p : ℕ) → v ≡ Refused n p → Indexed b x v
 refused-so b x v n p e = subst (Indexed b x) (sym e) tt
@@ -55,29 +51,52 @@ placed-none n (some p) e = absurd (let w : _≡_ {A = ℕ} 0 1 = cc in omega ari
 no-fault : (v : Verdict) (n : ℕ) (o : Option ℕ) → verdict-means v ≡ placed n o → v ≡ Accepted → o ≡ none
 no-fault v n o e q = placed-none n o (sym e ∙ ap verdict-means q)
 
--- the mode and the choice passed their tests
-module _ (t : tie.After-of-rule-table) where
-  mode-low : t .before .before .before .before .before .before .before .before .before .before .before .before .args .asked .mode ≤ most-mode
-  mode-low = omega arith
+-- what is found of mode and choices: the tests go on past it, or end with it
+module _ (asked : Asked) (v : Verdict) (told : verdict-means v ≡ by-asked (asked .mode) (chosen asked)) (rules classes vowels decompositions code : List ℕ) where
+  past-asked : v ≡ Accepted
+      → first-of (from-rules rules classes vowels decompositions code) ≡ before-text (asked .mode) (chosen asked) rules classes vowels decompositions code
+  unfolding before-text
+  past-asked e =
+      let l = from-rules rules classes vowels decompositions code in
+      goes-on v _ l told e ∙ asked-first (asked .mode) (chosen asked) l
 
-  choice-low : t .before .before .before .before .before .before .before .before .before .before .before .before .args .asked .capitals ≤ most-choice
-  choice-low = omega arith
+  at-asked : (n p : ℕ) → v ≡ Refused n p → verdict-means v ≡ before-text (asked .mode) (chosen asked) rules classes vowels decompositions code
+  unfolding before-text
+  at-asked n p e =
+      let l = from-rules rules classes vowels decompositions code in
+      ends-here v _ l told n p e ∙ asked-first (asked .mode) (chosen asked) l
+
+-- mode and choices passed their tests
+module _ (t : tie.After-of-rule-table) where
+  abbrev given : tie.Start
+  given = t .before .before .before .before .before .before .before .before .before .before .before
+
+  passed : first-of (from-rules (now (given .args .rules)) (now (given .args .classes)) (now (given .args .vowels)) (now (given .args .decompositions)) (now (given .args .code)))
+      ≡ before-text (given .args .asked .mode) (chosen (given .args .asked)) (now (given .args .rules)) (now (given .args .classes)) (now (given .args .vowels))
+      (now (given .args .decompositions)) (now (given .args .code))
+  passed =
+      let a = given .args in
+      let k = t .before .before .before .before .check-asked in
+      past-asked (a .asked) (k .result) (k .ensures) (now (a .rules)) (now (a .classes)) (now (a .vowels)) (now (a .decompositions)) (now (a .code))
+      (t .before .before .enum-told .given .1)
+
+check-asked-requires : tie.Need-check-asked-requires
+check-asked-requires c κs = search needs
+
+enum-told : tie.Need-enum-told
+enum-told c = search needs
+
+enum-told-2 : tie.Need-enum-told-2
+enum-told-2 c = search needs
 
 returns : tie.Need-returns
-unfolding before-text
 returns c =
-    let a = c .before .before .before .before .before .before .before .before .args in
-    let rest = from-choices (a .asked .capitals) (now (a .rules)) (now (a .classes)) (now (a .vowels)) (now (a .decompositions)) (now (a .code)) in
-    (above most-mode (a .asked .mode) refused-mode rest (omega arith), tt)
-
-returns-2 : tie.Need-returns-2
-unfolding before-text
-returns-2 c =
-    let a = c .before .before .before .before .before .before .before .before .before .before .args in (
-      above most-choice (a .asked .capitals) refused-capitals (from-rules (now (a .rules)) (now (a .classes)) (now (a .vowels)) (now (a .decompositions)) (now (a .code))) (omega arith)
-          ∙ not-above most-mode (a .asked .mode) refused-mode
-          (from-choices (a .asked .capitals) (now (a .rules)) (now (a .classes)) (now (a .vowels)) (now (a .decompositions)) (now (a .code))) (omega arith),
-      tt,
+    let k = c .before .before in
+    let a = k .before .before .before .before .before .before .before .args in
+    let g = c .enum-told2 .given in (
+      at-asked (a .asked) (k .check-asked .result) (k .check-asked .ensures) (now (a .rules)) (now (a .classes)) (now (a .vowels)) (now (a .decompositions))
+          (now (a .code)) (g .0 .0) (g .0 .1 .0) (g .1),
+      refused-so (now (a .decompositions)) (now (a .index)) (k .check-asked .result) (g .0 .0) (g .0 .1 .0) (g .1),
     )
 
 check-rules-requires : tie.Need-check-rules-requires
@@ -86,23 +105,21 @@ check-rules-requires c κs = search needs
 of-rule-table-requires : tie.Need-of-rule-table-requires
 of-rule-table-requires c κs = search needs
 
-enum-told : tie.Need-enum-told
-enum-told c = search needs
+enum-told-3 : tie.Need-enum-told-3
+enum-told-3 c = search needs
 
-enum-told-2 : tie.Need-enum-told-2
-enum-told-2 c = search needs
+enum-told-4 : tie.Need-enum-told-4
+enum-told-4 c = search needs
 
-returns-3 : tie.Need-returns-3
+returns-2 : tie.Need-returns-2
 unfolding before-text
-returns-3 c =
+returns-2 c =
     let t = c .before .before in
-    let a = t .before .before .before .before .before .before .before .before .before .before .before .before .args in
+    let a = given t .args in
     let ruled = t .of-rule-table .ensures ∙ t .before .check-rules .ensures in
-    let g = c .enum-told2 .given in (
+    let g = c .enum-told4 .given in (
       ends-here (t .of-rule-table .result) _ (from-classes (now (a .classes)) (now (a .vowels)) (now (a .decompositions)) (now (a .code))) ruled (g .0 .0) (g .0 .1 .0) (g .1)
-          ∙ not-above most-choice (a .asked .capitals) refused-capitals (from-rules (now (a .rules)) (now (a .classes)) (now (a .vowels)) (now (a .decompositions)) (now (a .code))) (choice-low t)
-          ∙ not-above most-mode (a .asked .mode) refused-mode
-          (from-choices (a .asked .capitals) (now (a .rules)) (now (a .classes)) (now (a .vowels)) (now (a .decompositions)) (now (a .code))) (mode-low t),
+          ∙ passed t,
       refused-so (now (a .decompositions)) (now (a .index)) (t .of-rule-table .result) (g .0 .0) (g .0 .1 .0) (g .1),
     )
 
@@ -112,26 +129,24 @@ check-classes-requires c κs = search needs
 of-table-requires : tie.Need-of-table-requires
 of-table-requires c κs = search needs
 
-enum-told-3 : tie.Need-enum-told-3
-enum-told-3 c = search needs
+enum-told-5 : tie.Need-enum-told-5
+enum-told-5 c = search needs
 
-enum-told-4 : tie.Need-enum-told-4
-enum-told-4 c = search needs
+enum-told-6 : tie.Need-enum-told-6
+enum-told-6 c = search needs
 
-returns-4 : tie.Need-returns-4
+returns-3 : tie.Need-returns-3
 unfolding before-text
-returns-4 c =
+returns-3 c =
     let u = c .before .before in
     let t = u .before .before .before .before in
-    let a = t .before .before .before .before .before .before .before .before .before .before .before .before .args in
+    let a = given t .args in
     let ruled = t .of-rule-table .ensures ∙ t .before .check-rules .ensures in
     let classed = u .of-table .ensures ∙ ap (placed refused-classes) (u .before .check-classes .ensures) in
-    let g = c .enum-told4 .given in (
+    let g = c .enum-told6 .given in (
       ends-here (u .of-table .result) _ (from-vowels (now (a .vowels)) (now (a .decompositions)) (now (a .code))) classed (g .0 .0) (g .0 .1 .0) (g .1)
-          ∙ goes-on (t .of-rule-table .result) _ (from-classes (now (a .classes)) (now (a .vowels)) (now (a .decompositions)) (now (a .code))) ruled (u .before .before .enum-told .given .1)
-          ∙ not-above most-choice (a .asked .capitals) refused-capitals (from-rules (now (a .rules)) (now (a .classes)) (now (a .vowels)) (now (a .decompositions)) (now (a .code))) (choice-low t)
-          ∙ not-above most-mode (a .asked .mode) refused-mode
-          (from-choices (a .asked .capitals) (now (a .rules)) (now (a .classes)) (now (a .vowels)) (now (a .decompositions)) (now (a .code))) (mode-low t),
+          ∙ goes-on (t .of-rule-table .result) _ (from-classes (now (a .classes)) (now (a .vowels)) (now (a .decompositions)) (now (a .code))) ruled (u .before .before .enum-told3 .given .1)
+          ∙ passed t,
       refused-so (now (a .decompositions)) (now (a .index)) (u .of-table .result) (g .0 .0) (g .0 .1 .0) (g .1),
     )
 
@@ -141,29 +156,27 @@ check-vowels-requires c κs = search needs
 of-table-requires-2 : tie.Need-of-table-requires-2
 of-table-requires-2 c κs = search needs
 
-enum-told-5 : tie.Need-enum-told-5
-enum-told-5 c = search needs
+enum-told-7 : tie.Need-enum-told-7
+enum-told-7 c = search needs
 
-enum-told-6 : tie.Need-enum-told-6
-enum-told-6 c = search needs
+enum-told-8 : tie.Need-enum-told-8
+enum-told-8 c = search needs
 
-returns-5 : tie.Need-returns-5
+returns-4 : tie.Need-returns-4
 unfolding before-text
-returns-5 c =
+returns-4 c =
     let v = c .before .before in
     let u = v .before .before .before .before in
     let t = u .before .before .before .before in
-    let a = t .before .before .before .before .before .before .before .before .before .before .before .before .args in
+    let a = given t .args in
     let ruled = t .of-rule-table .ensures ∙ t .before .check-rules .ensures in
     let classed = u .of-table .ensures ∙ ap (placed refused-classes) (u .before .check-classes .ensures) in
     let voiced = v .of-table2 .ensures ∙ ap (placed refused-vowels) (v .before .check-vowels .ensures) in
-    let g = c .enum-told6 .given in (
+    let g = c .enum-told8 .given in (
       ends-here (v .of-table2 .result) _ (from-forms (now (a .decompositions)) (now (a .code))) voiced (g .0 .0) (g .0 .1 .0) (g .1)
-          ∙ goes-on (u .of-table .result) _ (from-vowels (now (a .vowels)) (now (a .decompositions)) (now (a .code))) classed (v .before .before .enum-told3 .given .1)
-          ∙ goes-on (t .of-rule-table .result) _ (from-classes (now (a .classes)) (now (a .vowels)) (now (a .decompositions)) (now (a .code))) ruled (u .before .before .enum-told .given .1)
-          ∙ not-above most-choice (a .asked .capitals) refused-capitals (from-rules (now (a .rules)) (now (a .classes)) (now (a .vowels)) (now (a .decompositions)) (now (a .code))) (choice-low t)
-          ∙ not-above most-mode (a .asked .mode) refused-mode
-          (from-choices (a .asked .capitals) (now (a .rules)) (now (a .classes)) (now (a .vowels)) (now (a .decompositions)) (now (a .code))) (mode-low t),
+          ∙ goes-on (u .of-table .result) _ (from-vowels (now (a .vowels)) (now (a .decompositions)) (now (a .code))) classed (v .before .before .enum-told5 .given .1)
+          ∙ goes-on (t .of-rule-table .result) _ (from-classes (now (a .classes)) (now (a .vowels)) (now (a .decompositions)) (now (a .code))) ruled (u .before .before .enum-told3 .given .1)
+          ∙ passed t,
       refused-so (now (a .decompositions)) (now (a .index)) (v .of-table2 .result) (g .0 .0) (g .0 .1 .0) (g .1),
     )
 
@@ -173,35 +186,33 @@ check-decompositions-requires c κs = search needs
 of-table-requires-3 : tie.Need-of-table-requires-3
 of-table-requires-3 c κs = search needs
 
-enum-told-7 : tie.Need-enum-told-7
-enum-told-7 c = search needs
+enum-told-9 : tie.Need-enum-told-9
+enum-told-9 c = search needs
 
-enum-told-8 : tie.Need-enum-told-8
-enum-told-8 c = search needs
+enum-told-10 : tie.Need-enum-told-10
+enum-told-10 c = search needs
 
 same-length : tie.Need-same-length
 same-length c = search needs
 
-returns-6 : tie.Need-returns-6
+returns-5 : tie.Need-returns-5
 unfolding before-text
-returns-6 c =
+returns-5 c =
     let w = c .before .before in
     let v = w .before .before .before .before .before .before .before in
     let u = v .before .before .before .before in
     let t = u .before .before .before .before in
-    let a = t .before .before .before .before .before .before .before .before .before .before .before .before .args in
+    let a = given t .args in
     let ruled = t .of-rule-table .ensures ∙ t .before .check-rules .ensures in
     let classed = u .of-table .ensures ∙ ap (placed refused-classes) (u .before .check-classes .ensures) in
     let voiced = v .of-table2 .ensures ∙ ap (placed refused-vowels) (v .before .check-vowels .ensures) in
     let formed = w .of-table3 .ensures ∙ ap (placed refused-decompositions) (w .before .before .before .check-decompositions .ensures .0) in
-    let g = c .enum-told8 .given in (
+    let g = c .enum-told10 .given in (
       ends-here (w .of-table3 .result) _ (from-code (now (a .code))) formed (g .0 .0) (g .0 .1 .0) (g .1)
-          ∙ goes-on (v .of-table2 .result) _ (from-forms (now (a .decompositions)) (now (a .code))) voiced (w .before .before .before .before .before .enum-told5 .given .1)
-          ∙ goes-on (u .of-table .result) _ (from-vowels (now (a .vowels)) (now (a .decompositions)) (now (a .code))) classed (v .before .before .enum-told3 .given .1)
-          ∙ goes-on (t .of-rule-table .result) _ (from-classes (now (a .classes)) (now (a .vowels)) (now (a .decompositions)) (now (a .code))) ruled (u .before .before .enum-told .given .1)
-          ∙ not-above most-choice (a .asked .capitals) refused-capitals (from-rules (now (a .rules)) (now (a .classes)) (now (a .vowels)) (now (a .decompositions)) (now (a .code))) (choice-low t)
-          ∙ not-above most-mode (a .asked .mode) refused-mode
-          (from-choices (a .asked .capitals) (now (a .rules)) (now (a .classes)) (now (a .vowels)) (now (a .decompositions)) (now (a .code))) (mode-low t),
+          ∙ goes-on (v .of-table2 .result) _ (from-forms (now (a .decompositions)) (now (a .code))) voiced (w .before .before .before .before .before .enum-told7 .given .1)
+          ∙ goes-on (u .of-table .result) _ (from-vowels (now (a .vowels)) (now (a .decompositions)) (now (a .code))) classed (v .before .before .enum-told5 .given .1)
+          ∙ goes-on (t .of-rule-table .result) _ (from-classes (now (a .classes)) (now (a .vowels)) (now (a .decompositions)) (now (a .code))) ruled (u .before .before .enum-told3 .given .1)
+          ∙ passed t,
       refused-so (now (a .decompositions)) (w .before .before .before .check-decompositions .last .1 .0) (w .of-table3 .result) (g .0 .0) (g .0 .1 .0) (g .1),
     )
 
@@ -211,29 +222,27 @@ check-code-requires c κs = search needs
 same-length-2 : tie.Need-same-length-2
 same-length-2 c = search needs
 
-returns-7 : tie.Need-returns-7
+returns-6 : tie.Need-returns-6
 unfolding before-text
-returns-7 c =
+returns-6 c =
     let k = c in
     let w = k .before .before .before in
     let v = w .before .before .before .before .before .before .before in
     let u = v .before .before .before .before in
     let t = u .before .before .before .before in
-    let a = t .before .before .before .before .before .before .before .before .before .before .before .before .args in
+    let a = given t .args in
     let ruled = t .of-rule-table .ensures ∙ t .before .check-rules .ensures in
     let classed = u .of-table .ensures ∙ ap (placed refused-classes) (u .before .check-classes .ensures) in
     let voiced = v .of-table2 .ensures ∙ ap (placed refused-vowels) (v .before .check-vowels .ensures) in
     let formed = w .of-table3 .ensures ∙ ap (placed refused-decompositions) (w .before .before .before .check-decompositions .ensures .0) in
-    let q = k .before .enum-told7 .given .1 in
+    let q = k .before .enum-told9 .given .1 in
     let d = w .before .before .before .check-decompositions in (
       k .check-code .ensures ∙ sym (first-only (by-code (now (a .code))))
           ∙ goes-on (w .of-table3 .result) _ (from-code (now (a .code))) formed q
-          ∙ goes-on (v .of-table2 .result) _ (from-forms (now (a .decompositions)) (now (a .code))) voiced (w .before .before .before .before .before .enum-told5 .given .1)
-          ∙ goes-on (u .of-table .result) _ (from-vowels (now (a .vowels)) (now (a .decompositions)) (now (a .code))) classed (v .before .before .enum-told3 .given .1)
-          ∙ goes-on (t .of-rule-table .result) _ (from-classes (now (a .classes)) (now (a .vowels)) (now (a .decompositions)) (now (a .code))) ruled (u .before .before .enum-told .given .1)
-          ∙ not-above most-choice (a .asked .capitals) refused-capitals (from-rules (now (a .rules)) (now (a .classes)) (now (a .vowels)) (now (a .decompositions)) (now (a .code))) (choice-low t)
-          ∙ not-above most-mode (a .asked .mode) refused-mode
-          (from-choices (a .asked .capitals) (now (a .rules)) (now (a .classes)) (now (a .vowels)) (now (a .decompositions)) (now (a .code))) (mode-low t),
+          ∙ goes-on (v .of-table2 .result) _ (from-forms (now (a .decompositions)) (now (a .code))) voiced (w .before .before .before .before .before .enum-told7 .given .1)
+          ∙ goes-on (u .of-table .result) _ (from-vowels (now (a .vowels)) (now (a .decompositions)) (now (a .code))) classed (v .before .before .enum-told5 .given .1)
+          ∙ goes-on (t .of-rule-table .result) _ (from-classes (now (a .classes)) (now (a .vowels)) (now (a .decompositions)) (now (a .code))) ruled (u .before .before .enum-told3 .given .1)
+          ∙ passed t,
       indexed-so (now (a .decompositions)) (d .last .1 .0)
           (no-fault (w .of-table3 .result) refused-decompositions (decomposition-fault (now (a .decompositions))) formed q) (d .ensures .1) (k .check-code .result),
     )
@@ -242,29 +251,31 @@ pub check-spec : {M : Type 1} → statement M
 check-spec =
     tie.close
     (tie.spec
-    returns
-    returns-2
-    check-rules-requires
-    of-rule-table-requires
+    check-asked-requires
     enum-told
     enum-told-2
-    returns-3
-    check-classes-requires
-    of-table-requires
+    returns
+    check-rules-requires
+    of-rule-table-requires
     enum-told-3
     enum-told-4
-    returns-4
-    check-vowels-requires
-    of-table-requires-2
+    returns-2
+    check-classes-requires
+    of-table-requires
     enum-told-5
     enum-told-6
-    returns-5
-    check-decompositions-requires
-    of-table-requires-3
+    returns-3
+    check-vowels-requires
+    of-table-requires-2
     enum-told-7
     enum-told-8
+    returns-4
+    check-decompositions-requires
+    of-table-requires-3
+    enum-told-9
+    enum-told-10
     same-length
-    returns-6
+    returns-5
     check-code-requires
     same-length-2
-    returns-7)
+    returns-6)

@@ -19,6 +19,15 @@ byte-requires-2 c κs = search needs
 cast-capitals : tie.Need-cast-capitals
 cast-capitals c = search needs
 
+add-byte-2 : tie.Need-add-byte-2
+add-byte-2 c = search needs
+
+byte-requires-3 : tie.Need-byte-requires-3
+byte-requires-3 c κs = search needs
+
+cast-o-ang : tie.Need-cast-o-ang
+cast-o-ang c = search needs
+
 fill-requires : tie.Need-fill-requires
 fill-requires c κs = search needs
 
@@ -57,14 +66,14 @@ same-length c =
     let x = c .before .before .before .before .before .before in
     let m = x .before .before .before .before .before .before .before .before .before .before in
     let f = m .before .before .before .before .before .before .before .before .before .before in
-    omega (arith, x .jettyfig-romanize .kept .1 .1 .1 .1 .1 .1 .1 .1 .0, f .fill .kept .0)
+    omega (arith, x .jettyfig-romanize .kept .1 .1 .1 .1 .1 .1 .1 .1 .1 .0, f .fill .kept .0)
 
 same-length-2 : tie.Need-same-length-2
 same-length-2 c =
     let x = c .before .before .before .before .before .before in
     let m = x .before .before .before .before .before .before .before .before .before .before in
     let f = m .before .before .before .before .before .before in
-    omega (arith, x .jettyfig-romanize .kept .1 .1 .1 .1 .1 .1 .1 .1 .1 .0, f .fill2 .kept .0)
+    omega (arith, x .jettyfig-romanize .kept .1 .1 .1 .1 .1 .1 .1 .1 .1 .1 .0, f .fill2 .kept .0)
 
 same-length-3 : tie.Need-same-length-3
 same-length-3 c = search needs
@@ -81,6 +90,9 @@ run-fields-spec =
     add-byte
     byte-requires-2
     cast-capitals
+    add-byte-2
+    byte-requires-3
+    cast-o-ang
     fill-requires
     fill-requires-2
     fill-requires-3

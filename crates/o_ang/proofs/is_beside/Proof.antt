@@ -1,11 +1,11 @@
--- `expand::is_beside`
+-- `o_ang::is_beside`
 use mathlib.Core.Path.{_∙_}
 use native.Mathlib.Omega.{arith}
 use denote.Ref.{now}
-use Rattle.expand.proofs.Sounds.{none-beside, some-beside}
+use Rattle.o_ang.proofs.Sounds.{none-beside, some-beside}
 use borrow.Author.Needs.{needs}
-use Rattle.expand.proofs.is_beside.Statement.{statement}
-use Rattle.expand.proofs.is_beside.Tie as tie
+use Rattle.o_ang.proofs.is_beside.Statement.{statement}
+use Rattle.o_ang.proofs.is_beside.Tie as tie
 
 returns : tie.Need-returns
 returns c = none-beside (now (c .before .before .args .text)) (omega arith)

@@ -1,4 +1,4 @@
--- `expand::is_in_thai`
+-- `o_ang::is_in_thai`
 use mathlib.Core.Path.{_≡_, sym, ap, _∙_}
 use Prim.Native.Nat.{ℕ}
 use native.Mathlib.Omega.{arith}
@@ -10,8 +10,8 @@ use Rattle.definition.specs.Classes.{script}
 use Rattle.words.specs.Given.{kinds, line-size}
 use Rattle.words.specs.Characters.{script-prev, script-here}
 use borrow.Author.Needs.{needs}
-use Rattle.expand.proofs.is_in_thai.Statement.{statement}
-use Rattle.expand.proofs.is_in_thai.Tie as tie
+use Rattle.o_ang.proofs.is_in_thai.Statement.{statement}
+use Rattle.o_ang.proofs.is_in_thai.Tie as tie
 
 kind-at-requires : tie.Need-kind-at-requires
 kind-at-requires c κs = search needs

@@ -1,13 +1,13 @@
--- `expand::starts_beside`: no text is none of them.
+-- `o_ang::starts_beside`: no text is none of them.
 use mathlib.Core.Path.{ap, _∙_}
 use denote.Ref.{now}
 use Rattle.base.specs.Lists.{is}
 use Rattle.rule_choice.specs.Chosen.{chosen-means}
-use Rattle.expand.specs.Sides.{beside}
-use Rattle.expand.proofs.Sounds.{beside-text}
+use Rattle.o_ang.specs.Sides.{beside}
+use Rattle.o_ang.proofs.Sounds.{beside-text}
 use borrow.Author.Needs.{needs}
-use Rattle.expand.proofs.starts_beside.Statement.{statement}
-use Rattle.expand.proofs.starts_beside.Tie as tie
+use Rattle.o_ang.proofs.starts_beside.Statement.{statement}
+use Rattle.o_ang.proofs.starts_beside.Tie as tie
 
 slice-aggregate-romanization-by-first-rule : tie.Need-slice-aggregate-romanization-by-first-rule
 slice-aggregate-romanization-by-first-rule c = search needs
