@@ -19,8 +19,8 @@ extern "C" {
 #endif
 
 /* The version of this header and its library: as text, and as a number that rises. */
-#define JETTYFIG_VERSION "4.0.1"
-#define JETTYFIG_VERSION_NUMBER 40001 /* 10000 for the first part, 100 for the second, 1 for the third */
+#define JETTYFIG_VERSION "5.0.0"
+#define JETTYFIG_VERSION_NUMBER 50000 /* 10000 for the first part, 100 for the second, 1 for the third */
 
 /* What a call shows: its argument `mode`. */
 enum jettyfig_show {
@@ -37,6 +37,16 @@ enum jettyfig_show {
 enum jettyfig_capitals {
     JETTYFIG_CAPITALS_OFF = 0, /* it stays: "ZHzh" */
     JETTYFIG_CAPITALS_ON = 1   /* its first byte stays, and its later letters become small: "Zhzh" */
+};
+
+/* `o_ang`: how far back a consonant is looked for before U+0E2D, which is silent unless it stands between two. Off, as the
+ * published Rust has it, U+0E2D inside a word may become "o" because of a consonant at the end of an earlier word of the line: a
+ * word can read otherwise in its line than alone. On, every word reads in its line as alone, under rules with no space in a source
+ * or target. So whoever fills a search index with words, or looks a label's words up in one, should turn it on, for the index and
+ * the labels alike. U+0E01, a space, U+0E48, U+0E2D, U+0E01 are an example. */
+enum jettyfig_o_ang {
+    JETTYFIG_O_ANG_OFF = 0, /* to the text's start: "k ok" */
+    JETTYFIG_O_ANG_ON = 1   /* to the nearest space, U+0020 and no other: "k k" */
 };
 
 /* A listing is a version byte 1, a 4-byte length of all that follows, and a row for each edge: the length of the rest of the
@@ -69,6 +79,7 @@ enum jettyfig_number {
     JETTYFIG_DONE = 0,
     JETTYFIG_REFUSED_MODE = 1,      /* the mode is above 3; 0 */
     JETTYFIG_REFUSED_CAPITALS = 12, /* the choice of capitals is above 1; 0 */
+    JETTYFIG_REFUSED_O_ANG = 15,    /* the choice of O ang is above 1; 0 */
     JETTYFIG_REFUSED_LENGTH = 20,   /* the rule table's header; 0. A row that the table ends in; its offset. A field that its row
                                      * ends before or in; the field's offset. Bytes that a row has left over; the first's */
     JETTYFIG_REFUSED_RANGE = 21,    /* a rule's flag bit 7, or a count or a text's length out of its range; its offset */
@@ -134,7 +145,7 @@ typedef struct {
  * length says can be read there, and in slots, room and output written; these three overlap no other slice, nor each other;
  * no other thread writes any of the nine, or reads these three, before the call returns; and there are JETTYFIG_STACK bytes of
  * stack. */
-jettyfig_answer jettyfig_romanize(uint8_t mode, uint8_t capitals,
+jettyfig_answer jettyfig_romanize(uint8_t mode, uint8_t capitals, uint8_t o_ang,
                                   const uint8_t *rules, size_t rules_length,
                                   const uint8_t *classes, size_t classes_length,
                                   const uint8_t *vowels, size_t vowels_length,

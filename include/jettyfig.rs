@@ -5,8 +5,8 @@
 #![allow(dead_code)]
 
 /// The version of this file and its library: as text, and as a number that rises.
-pub const VERSION: &str = "4.0.1";
-pub const VERSION_NUMBER: u32 = 40001;
+pub const VERSION: &str = "5.0.0";
+pub const VERSION_NUMBER: u32 = 50000;
 
 /// What a call shows: its mode. The string, the path, the path and its alternatives, all edges.
 pub const SHOW_STRING: u8 = 0;
@@ -17,6 +17,10 @@ pub const SHOW_ALL_EDGES: u8 = 3;
 /// The choice of capitals; `jettyfig.h` explains both.
 pub const CAPITALS_OFF: u8 = 0;
 pub const CAPITALS_ON: u8 = 1;
+
+/// The choice of O ang; `jettyfig.h` explains both, and says who should turn it on.
+pub const O_ANG_OFF: u8 = 0;
+pub const O_ANG_ON: u8 = 1;
 
 /// What an edge is: the annotation of its row in a listing; `jettyfig.h` explains each.
 pub const EDGE_ROM: u8 = 1;
@@ -42,6 +46,7 @@ pub const DONE: u64 = 0;
 pub enum Refusal {
     Mode = 1,
     Capitals = 12,
+    OAng = 15,
     Length = 20,
     Range = 21,
     Letter = 22,
@@ -67,6 +72,7 @@ impl Refusal {
         Some(match number {
             1 => Refusal::Mode,
             12 => Refusal::Capitals,
+            15 => Refusal::OAng,
             20 => Refusal::Length,
             21 => Refusal::Range,
             22 => Refusal::Letter,
@@ -139,6 +145,7 @@ pub const STACK: usize = 21504;
 #[derive(Clone, Copy, Debug, Default, PartialEq, Eq)]
 pub struct Choices {
     pub capitals: u8,
+    pub o_ang: u8,
 }
 
 /// Tables that are lent to calls. They need not be right: a call checks them. One without rows is `&[1, 0, 0, 0, 0]`.
@@ -162,6 +169,7 @@ unsafe extern "C" {
     fn jettyfig_romanize(
         mode: u8,
         capitals: u8,
+        o_ang: u8,
         rules: *const u8,
         rules_length: usize,
         classes: *const u8,
@@ -190,6 +198,7 @@ pub fn romanize(mode: u8, choices: Choices, tables: Tables, code: &[u8], text: &
         jettyfig_romanize(
             mode,
             choices.capitals,
+            choices.o_ang,
             tables.rules.as_ptr(),
             tables.rules.len(),
             tables.classes.as_ptr(),

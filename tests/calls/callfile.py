@@ -1,8 +1,8 @@
 """Call files: calls and their answers, one after another, all numbers big-endian.
 
-A call is its mode (1 byte), capitals (1), the bytes of slots, room and output (4 each), then rules, classes, vowels, decompositions, code
-and text (each a 4-byte length and its bytes). Its answer follows: number (1), place, length and edges (4 each), and `length` output bytes; past
-these the output must be zero to its end. A file whose name ends in .xz is compressed."""
+A call is its mode (1 byte), capitals (1), O ang (1), the bytes of slots, room and output (4 each), then rules, classes, vowels,
+decompositions, code and text (each a 4-byte length and its bytes). Its answer follows: number (1), place, length and edges (4 each), and
+`length` output bytes; past these the output must be zero to its end. A file whose name ends in .xz is compressed."""
 import lzma
 import pathlib
 import sys
@@ -11,11 +11,15 @@ from typing import NamedTuple
 sys.path.insert(0, str(pathlib.Path(__file__).resolve().parents[2] / "tools"))
 from tables import Bytes
 
+# numbers of a call that stand before its tables: mode and choices
+NUMBERS = 3
+
 
 class Given(NamedTuple):
     """what the engine itself is asked: a call without the room that it is lent"""
     mode: int
     capitals: int
+    o_ang: int
     rules: bytes
     classes: bytes
     vowels: bytes
@@ -54,8 +58,8 @@ def four(n):
 
 
 def parts(given):
-    """mode and capitals, then tables, code and text as a call file and the oracle hold them"""
-    return bytes(given[:2]), b"".join(four(len(part)) + part for part in given[2:])
+    """mode and choices, then tables, code and text as a call file and the oracle hold them"""
+    return bytes(given[:NUMBERS]), b"".join(four(len(part)) + part for part in given[NUMBERS:])
 
 
 def encode(call):
@@ -66,9 +70,9 @@ def encode(call):
 
 
 def decode(b):
-    mode, capitals = b.number(1), b.number(1)
+    numbers = [b.number(1) for _ in range(NUMBERS)]
     lent = Lent(b.number(4), b.number(4), b.number(4))
-    given = Given(mode, capitals, *(b.take(b.number(4)) for _ in range(6)))
+    given = Given(*numbers, *(b.take(b.number(4)) for _ in range(6)))
     number, place, length, edges = b.number(1), b.number(4), b.number(4), b.number(4)
     return Call(given, lent, Answer(number, place, length, edges, b.take(length)))
 

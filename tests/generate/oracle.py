@@ -47,7 +47,7 @@ def added(b):
 
 
 def ask(program, cases):
-    """the oracle's answers to cases (Given); None where it refuses mode, capitals, tables, code or text"""
+    """the oracle's answers to cases (Given); None where it refuses mode, choices, tables, code or text"""
     asked = b"".join(b"".join(parts(case)) for case in cases)
     b = Bytes(subprocess.run([program], input=asked, stdout=subprocess.PIPE, check=True).stdout)
     answers = []

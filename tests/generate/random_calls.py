@@ -61,6 +61,11 @@ TARGETS = """k t n ng ch y w m b d z c h ka ki ku ta na cha chi ya yu kya tya by
     bcd xyz nn kk ngy ' ~""".split() + ["", "", " ", " k", "k ", " ka ", "  k", "k  ", " a", "a ", " i"]
 # what the choice of capitals may change, and what it must leave; more of these in worlds with lower case
 CAPITALS = "K ZH Zh A Ka Ya KI KKI KA KYO SHCH A1B 1ZH Z-H 1 N7 +N +NG +A zH".split()
+# words of Thai lines, and such as begin with what the walk back behind O ang passes: only over a space it finds a consonant
+WORDS = ["ก", "น", "ขน", "กก", "กา", "กอน", "ขอ", "เกา", "แก", "ก\u0e48อก", "อก", "ก\u00a0\u0e48อก", ""]
+OPEN_WORDS = ["\u0e48อก", "\u0e48อน", "\u0e34อก", "\u0e48\u0e34อข", "\u0e48ออก", "\u0e48อกอน", "ะอก", "เอน"]
+# what the walk passes where there is no rule for it, or one with an empty text
+PASSED = "\u0e48\u0e34ะเ "
 CODES = ["san", "asm", "ben", "guj", "kas", "pan", "hin", "abc"]
 
 # characters that have decompositions, their usual classes, and what stands together with them
@@ -81,7 +86,8 @@ class World:
     """the tables and texts of one case"""
     def __init__(self, rng):
         self.rng = rng
-        names = list(dict.fromkeys(rng.choice(LIKELY) for _ in range(rng.choice((1, 1, 2, 2, 3)))))
+        self.lined = self.chance(0.4)
+        names = list(dict.fromkeys(["thai"] * self.lined + [rng.choice(LIKELY) for _ in range(rng.choice((1, 1, 2, 2, 3)))]))
         self.kinds = {}
         for name in names:
             part = list(ALPHABETS[name].items())
@@ -98,13 +104,17 @@ class World:
         for name in names:
             self.kinds.update((c, kind) for c, kind in ALPHABETS[name].items() if c in self.text)
         self.bend()
-        self.cased = self.chance(0.4)
+        self.cased = self.odd(0.5)
         self.lower = [c for c in self.kinds if c != " " and self.chance(0.7 if self.cased else 0.03)]
         self.forms = self.some_forms() if self.formed else {}
         self.rules = self.some_rules() + self.long_rules()
 
     def chance(self, p):
         return self.rng.random() < p
+
+    def odd(self, p):
+        """what is odd is rare in lines, where most of it keeps the walk from a consonant"""
+        return self.chance(p / 4 if self.lined else p)
 
     def vowel_rows(self, names):
         rows = {}
@@ -114,8 +124,16 @@ class World:
                 rows[VOWEL_ROWS[name]] = (VOWEL_ROWS[name], self.rng.choice((A, A, AO)), letters)
         return list(rows.values())
 
+    def some_words(self, least, most):
+        return [self.rng.choice(OPEN_WORDS if self.chance(0.5) else WORDS) for _ in range(self.rng.randint(least, most))]
+
     def some_text(self):
-        """letters of the alphabets, phrases, a few spaces, now and then a repeated stretch"""
+        """words of a line; or letters of the alphabets, phrases, a few spaces, now and then a repeated stretch"""
+        if self.lined and self.chance(0.9):
+            words = self.some_words(2, 6)
+            if self.formed and self.chance(0.5):
+                words.insert(self.rng.randrange(len(words)), self.rng.choice([c for c in FORMS if c in self.kinds]))
+            return " ".join(words)
         length = self.rng.choice((0, 1, 1, 2, 2, 3, 3, 4, 4, 5, 6, 7, 8, 10, 12, 16, 20))
         if self.chance(0.01):
             length = self.rng.randint(21, 60)
@@ -134,7 +152,7 @@ class World:
         rng = self.rng
         if self.chance(0.7):
             self.kinds[" "] = (ZS,)
-        strange = self.chance(0.4)
+        strange = self.odd(0.4)
         scripts = [0] + [kind[1] for kind in self.kinds.values() if len(kind) > 1]
         for c in [c for c in self.kinds if c != " "]:
             category, script, flags = (*self.kinds[c], 0, 0)[:3]
@@ -152,7 +170,9 @@ class World:
                 self.kinds[c] = (LETTER if c == "y" else rng.randrange(8), rng.choice(scripts), 0)
 
     def target(self, source=""):
-        if source in USUAL and self.chance(0.5):
+        if self.lined and source and (source in PASSED or " " in source) and self.chance(0.6):
+            return ""
+        if source in USUAL and not self.odd(0.5):
             return USUAL[source].upper() if self.cased and self.chance(0.5) else USUAL[source]
         if self.cased and self.chance(0.6):
             return self.rng.choice(CAPITALS)
@@ -166,13 +186,16 @@ class World:
 
     def some_forms(self):
         """rows for most of the characters that usually have one, and for some others; none holds a character with a row"""
-        has = [c for c in dict.fromkeys([*FORMS, *self.text]) if c != " " and self.chance(0.8 if c in FORMS else 0.06)]
+        has = [c for c in dict.fromkeys([*FORMS, *self.text]) if c != " " and (self.chance(0.8) if c in FORMS else self.odd(0.06))]
         free = [c for c in [*self.kinds, *self.text, *HELD] if c not in has]
         return {c: (self.held(c, free), self.rng.choice((FORM, FORM, FORM, FORM, FORM, FORM, self.rng.randrange(5)))) for c in has}
 
     def held(self, char, free):
-        """what a row holds: the usual, a phrase, a few characters, many, or about as many bytes as a text may have"""
+        """what a row holds: a line, the usual, a phrase, a few characters, many, or about as many bytes as a text may have"""
         rng = self.rng
+        line = "".join(c for c in " ".join(self.some_words(2, 4)) if c in free)[:MOST_FORM] if self.lined and self.chance(0.6) else ""
+        if line:
+            return line
         usual = USUAL_FORMS.get(char, "")
         if usual and self.chance(0.4) and set(usual) <= set(free):
             return usual
@@ -190,7 +213,8 @@ class World:
     def sources(self):
         """characters of the text, stretches of it, patterns around a character, and strangers; and the same of what rows hold"""
         rng, text = self.rng, self.text
-        sources = [c for c in dict.fromkeys(text) if self.chance(0.25 if c in self.forms else 0.85)]
+        passed = [*self.forms, *PASSED] if self.lined else self.forms
+        sources = [c for c in dict.fromkeys(text) if (self.chance(0.25) if c in passed else not self.odd(0.15))]
         for held in (held for held, _ in self.forms.values() if LONG not in held):
             sources += [c for c in dict.fromkeys(held) if c not in text and self.chance(0.5)]
             if len(held) > 1 and self.chance(0.3):
@@ -201,6 +225,8 @@ class World:
                 at = rng.randrange(len(text) - 1)
                 sources.append(text[at:at + rng.choice((2, 2, 2, 3, 3, 4, 6, 16))])
         for at in range(1, len(text) - 1):
+            if self.lined and text[at] == " " and self.chance(0.1):
+                sources.append(text[at - rng.randint(0, 1):at + rng.randint(1, 3)])
             if self.kinds.get(text[at - 1], (0, 0, 0))[-1] & PRE and self.chance(0.4):
                 sources.append(text[at - 1] + EN_DASH + text[at + 1:at + 1 + rng.randint(1, 3)])
         if self.chance(0.3):
@@ -209,14 +235,14 @@ class World:
 
     def rule(self, source):
         rng = self.rng
-        plain = self.chance(0.55)
+        plain = not self.odd(0.45)
         flags = 0 if plain else rng.choice((0, 1 << rng.randrange(5), rng.randrange(32)))
         count = 0 if plain else rng.choice((0, 1, 1, 2, 255, 256, 65535))
-        codes = rng.sample(CODES, rng.randint(1, 3)) if self.chance(0.15) else []
+        codes = rng.sample(CODES, rng.randint(1, 3)) if self.odd(0.15) else []
         if codes and self.code and self.chance(0.5):
             codes[0] = self.code
-        target = None if self.chance(0.08) else self.target(source)
-        end = self.target() if self.chance(0.25) else None
+        target = None if self.odd(0.08) else self.target(source)
+        end = self.target() if self.odd(0.25) else None
         others = [self.target() for _ in range(rng.choice((0, 0, 0, 1, 2, 3)))]
         return Rule(source, target, flags, count, list(dict.fromkeys(codes)), end, others)
 
@@ -228,9 +254,11 @@ class World:
                 made.append(Rule(source, "k", others=["x", "k"]))
         return made
 
+    def choice(self):
+        return self.rng.randint(2, 255) if self.chance(0.01) else self.rng.choice((0, 1))
+
     def given(self):
-        capitals = self.rng.randint(2, 255) if self.chance(0.01) else self.rng.choice((0, 1))
-        return Given(self.rng.choice((0, 1, 2, 2, 3, 3)), capitals, rules(*self.rules), lowered(classes(self.kinds), self.lower),
+        return Given(self.rng.choice((0, 1, 2, 2, 3, 3)), self.choice(), self.choice(), rules(*self.rules), lowered(classes(self.kinds), self.lower),
                      vowels(*self.vowels), forms(self.forms), self.code.encode(), self.text.encode())
 
 
@@ -251,9 +279,11 @@ def lent(rng, built):
 
 
 def made(rng, case, built):
-    """the call; it is refused where its choice is, and only there"""
-    assert (built is None) == (case.capitals > 1), case
-    return call(case, built, lent(rng, built)) if built else Call(case, Lent(12, 9, 9), refused(12, 0))
+    """the call; it is refused where a choice is, and only there"""
+    assert (built is None) == (case.capitals > 1 or case.o_ang > 1), case
+    if built:
+        return call(case, built, lent(rng, built))
+    return Call(case, Lent(12, 9, 9), refused(12 if case.capitals > 1 else 15, 0))
 
 
 def generated(program, seed, count):

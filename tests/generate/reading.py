@@ -26,14 +26,21 @@ A6, A5 = (6, A, "a"), (5, A, "a")
 class Corner:
     """a case in all four modes; `want` is the path's string, `begins` how it begins, `edges` the lattice's count, where stated;
     `lower` are the characters of lower case, `made` the decompositions"""
-    def __init__(self, text, rows, kinds, vowel_rows=(), code="", want=None, edges=None, begins="", capitals=0, lower="", made={}):
-        self.text, self.code, self.want, self.edges, self.begins, self.capitals = text, code, want, edges, begins, capitals
+    def __init__(self, text, rows, kinds, vowel_rows=(), code="", want=None, edges=None, begins="", capitals=0, o_ang=0, lower="",
+                 made={}):
+        self.text, self.code, self.want, self.edges, self.begins, self.choices = text, code, want, edges, begins, (capitals, o_ang)
         self.tables = rows if isinstance(rows, bytes) else rules(*rows), \
             lowered(kinds if isinstance(kinds, bytes) else classes(kinds), lower), \
             vowel_rows if isinstance(vowel_rows, bytes) else vowels(*vowel_rows), forms(made)
 
     def given(self, mode):
-        return Given(mode, self.capitals, *self.tables, self.code.encode(), self.text.encode())
+        return Given(mode, *self.choices, *self.tables, self.code.encode(), self.text.encode())
+
+
+def by_o_ang(text, rows, kinds, wants, **more):
+    """the case with the choice of O ang off and on, and the string that each gives"""
+    for o_ang, want in enumerate(wants):
+        yield Corner(text, rows, kinds, want=want, o_ang=o_ang, **more)
 
 
 def sample_results():
@@ -351,6 +358,114 @@ def capitals():
     yield chosen("ขกา", [("ข", "AK"), Rule("ก", "k", end="t"), ("า", "a")], thai, lower="า")
 
 
+O_ANG_KINDS = {**{c: T for c in "กขคงจนาอ①"}, "เ": (LETTER, THAI, PRE), "แ": (LETTER, THAI, PRE), "\u0e48": TONE_MARK, "\u0e34": (NONSPACING, THAI),
+               " ": (ZS,), "\u00a0": (ZS,), "\u00b7": (ZS,), "\u3000": (ZS,), "\u200b": (CF,)}
+O_ANG_RULES = [("ก", "k"), ("น", "n"), ("า", "a"), ("อ", "o")]
+
+
+def o_ang():
+    """the walk back behind O ang ends at the nearest space where that is chosen; each text has a string for both choices"""
+    def read(text, off, on, *more, rows=O_ANG_RULES, kinds=O_ANG_KINDS, **others):
+        return by_o_ang(text, [*rows, *more], kinds, (off, on), **others)
+
+    def same(text, want, *more, **others):
+        return read(text, want, want, *more, **others)
+
+    for text, *wants in sample.O_ANG_RESULTS:
+        yield from by_o_ang(text, sample.RULES, sample.CLASSES, wants, vowel_rows=sample.VOWELS)
+    # several spaces: the nearest ends it, whatever stands before
+    yield from read("ก ก ก \u0e48อก", "k k k ok", "k k k k")
+    yield from read("ก   \u0e48อก", "k   ok", "k   k")
+    yield from read("ก \u0e48อก \u0e48อก", "k ok ok", "k k k")
+    yield from read("ก \u0e48อก ก\u0e48อก", "k ok kok", "k k kok")
+    yield from read("ก \u0e48 \u0e48อก", "k  ok", "k  k")
+    yield from read("ก " + "\u0e48" * 40 + "อก", "k ok", "k k", edges=44)
+    yield from read(" ก \u0e48อก ", " k ok ", " k k ")
+    yield from read("ก \u0e48อก", "k ok", "k k", kinds={c: kind for c, kind in O_ANG_KINDS.items() if c != " "})
+    # behind the space nothing is spoken, and before it neither
+    yield from same(" \u0e48อก", " k")
+    yield from same("\u0e48 \u0e48อก", " k")
+    yield from same("กา \u0e48อก", "ka k")
+    yield from same("ก\u0e48อก \u0e48อ", "kok ")
+    # a space beside it is no Thai neighbour
+    yield from same("ก อก", "k k")
+    yield from same(" อก", " k")
+    yield from same("ก  อก", "k  k")
+    yield from same("กอ ก", "k k")
+    # in a word with a consonant of its own, and without a space
+    yield from same("ก กอก", "k kok")
+    yield from same("กา ก\u0e48อน น\u0e48อก", "ka kon nok")
+    for text, want in (("อ", ""), ("กอ", "k"), ("อก", "k"), ("กออก", "kok"), ("ก\u0e48อก", "kok"), ("กอ\u0e48ก", "kk"), ("xอก", "xk"), ("กอx", "kx"),
+                       ("\u0e48อก", "k"), ("กาอก", "kak"), ("ก\u0e48\u0e34อน", "kon")):
+        yield from same(text, want)
+    # O ang behind O ang: silent ones are empty edges, which the walk passes; a spoken one is read
+    yield from read("กอ \u0e48อก", "k ok", "k k")
+    yield from read("ก \u0e48ออก", "k ok", "k k")
+    yield from read("ก \u0e48อ \u0e48อก", "k  ok", "k  k")
+    yield from read("ก \u0e48อ\u0e48อก", "k ok", "k k")
+    h = [("ก", "k"), ("อ", "h")]
+    yield from read("ก \u0e48ออก", "k hhk", "k k", rows=h)
+    yield from read("ก \u0e48อก\u0e48อก", "k hkhk", "k khk", rows=h)
+    yield from same("กออ อก", "kh k", rows=h)
+    # marks with rules: an empty text is passed, another is read
+    yield from read("ก \u0e48อก", "k ok", "k k", ("\u0e48", ""))
+    yield from same("ก \u0e48อก", "k tok", ("\u0e48", "t"))
+    yield from same("ก \u0e48อก", "k ak", ("\u0e48", "a"))
+    yield from read("ก \u0e34\u0e48อก", "k ok", "k k", ("\u0e34", ""))
+    # a rule over the space: its edge is read whole where it ends behind the space, and where its text is empty the walk is over
+    yield from same("ง จอก", "ngok", ("ง จ", "ng"))
+    yield from same("ง จ\u0e48อก", "ngok", ("ง จ", "ng"))
+    yield from same("ก ข คอก", "ngok", ("ก ข ค", "ng"))
+    yield from same("ง จอก", "ak", ("ง จ", "a"))
+    yield from read("กข คอก", "kok", "kk", ("ข ค", ""))
+    yield from read("กข ค\u0e48อก", "kok", "kk", ("ข ค", ""))
+    yield from read("กข ข คอก", "kok", "kk", ("ข ข ค", ""))
+    yield from same(" งอก", "ngok", (" ง", "ng"))
+    yield from read("ก ขอก", "kok", "kk", (" ข", ""))
+    yield from same("ก ข\u0e48นอก", "knok", (" ข", ""))
+    # one that ends at the space is not reached; one over O ang is not asked
+    yield from read("ก \u0e48อก", "kok", "kk", ("ก ", "k"))
+    yield from read("ก  \u0e48อก", "kok", "kk", ("ก  ", "k"))
+    yield from same("ก อก", "xk", ("ก อ", "x"))
+    # a rule of the space itself
+    yield from read(" \u0e48อก", "kok", "kk", (" ", "k"))
+    yield from read("ก \u0e48อก", "kok", "kk", (" ", ""))
+    yield from read("กา \u0e48อก", "katok", "katk", (" ", "t"))
+    yield from same("ก \u0e48อก", "kak", (" ", "a"))
+    # no other character ends it: not one of category 7, a line's end or a blank without width
+    for c, shown in (("\u00a0", " "), ("\u00b7", " "), ("\u3000", " "), ("\n", "\n"), ("\t", "\t"), ("_", "_"), ("\u200b", "")):
+        yield from same("ก" + c + "\u0e48อก", "k" + shown + "ok")
+        yield from read("ก " + c + "\u0e48อก", "k " + shown + "ok", "k " + shown + "k")
+        yield from read("ก" + c + " \u0e48อก", "k" + shown + " ok", "k" + shown + " k")
+    # pre-vowels: one that is spoken behind its consonant ends the word before, one of an empty text is passed
+    e, none = ("เ", "e"), ("เ", "")
+    yield from same("เก \u0e48อก", "ke k", e)
+    yield from read("เก \u0e48อก", "k ok", "k k", none)
+    yield from read("เกา \u0e48อก", "kn ok", "kn k", e, ("เ\u2013า", "n"))
+    yield from same("ก เ\u0e48อก", "k ek", e)
+    yield from read("ก เ\u0e48อก", "k ok", "k k", none)
+    yield from read("ก เอก", "k ok", "k k", none)
+    yield from same("ก แอ", "k k", ("แ", ""), rows=[("ก", "k"), ("อ", "k")])
+    # both choices: each does its own
+    for capitals, spoken in enumerate(("OO", "Oo")):
+        yield from by_o_ang("ก \u0e48อข", [("ก", "k"), ("อ", "OO"), ("ข", "k")], O_ANG_KINDS, ("k %sk" % spoken, "k k"), capitals=capitals, lower="ข")
+    # a decomposition's string is a text of its own, with the same choice
+    for row, off, on in (("ก \u0e48อก", "k ok", "k k"), ("ก\u0e48อก", "kok", "kok"), ("ก ก \u0e48อก", "k k ok", "k k k")):
+        yield from read("①", off, on, made={"①": row}, edges=1)
+        yield from read("ก ①", "k " + off, "k " + on, made={"①": row})
+    yield from same("ก①", "k k", made={"①": " \u0e48อก"})
+    yield from same("ก ①", "k k", made={"①": "\u0e48อก"})
+    # what it comes to is read as any edge, and spaces in its row end nothing in the text around
+    yield from same("①อก", "kok", made={"①": "ก"})
+    yield from read("① \u0e48อก", "k ok", "k k", made={"①": "ก"})
+    yield from read("① \u0e48อก", "k ok ok", "k k k", made={"①": "ก \u0e48อก"})
+    yield from same("①อก", " kok", made={"①": " ก"})
+    yield from same("①อก", "k k", made={"①": "ก "})
+    yield from same("ก①\u0e48อก", "k k", made={"①": " "})
+    yield from read("ก ①อก", "k ok", "k k", made={"①": "\u0301"}, kinds={**O_ANG_KINDS, "\u0301": (NONSPACING,)})
+    yield from same("ก①อก", "kok", made={"①": "\u0301"}, kinds={**O_ANG_KINDS, "\u0301": (NONSPACING,)})
+
+
 def made(text, rows, want=None, table=(), kinds=(), **more):
     """a case with decompositions"""
     return Corner(text, table, dict(kinds), want=want, made=rows, **more)
@@ -581,7 +696,7 @@ GROUPS = {
     sample_results: lambda k: range(4), longest_and_most: lambda k: range(4), vowel_step: TURNS, word_boundaries: TURNS, rule_choice: TURNS,
     syllables: TURNS, expansion: TURNS, thai: TURNS, capitals: TURNS, decompositions: TURNS,
     decompositions_and_rules: TURNS, decompositions_and_words: TURNS, fallbacks: TURNS,
-    alternatives: lambda k: (k % 2, 2), letters: lambda k: (3,),
+    alternatives: lambda k: (k % 2, 2), letters: lambda k: (3,), o_ang: TURNS,
 }
 
 

@@ -1,7 +1,7 @@
 #!/usr/bin/env python3
-"""Refusals made by hand from document 01's table 'Numbers a call returns' and from docs/FORMAT.md's 12 to 14 and 20 to 25: each number
+"""Refusals made by hand from document 01's table 'Numbers a call returns' and from docs/FORMAT.md's 12 to 15 and 20 to 25: each number
 with its place, and both sides of each border. Number and place are written here; the oracle only confirms that it refuses too (1, 3 to
-8, 12, 13 and 20 to 25), or that its edges in their adding order give the same (9 to 11 and 14). The accepted side of a border is
+8, 12, 13, 15 and 20 to 25), or that its edges in their adding order give the same (9 to 11 and 14). The accepted side of a border is
 answered by it.
 
 usage: refusals.py ORACLE FILE.calls.xz MOST_RULES.calls.xz MOST_DECOMPOSITIONS.calls.xz"""
@@ -13,12 +13,12 @@ from lower import lowered
 from oracle import Call, Given, Lent, answered, ask, call, callfile, refused
 from tables import *
 
-PLAIN = Given(0, 0, rules(("b", "B"), ("d", "D")), classes({"b": (LETTER, 6), "d": (LETTER,)}), vowels((5, A, "a"), (9, AO, "o")),
+PLAIN = Given(0, 0, 0, rules(("b", "B"), ("d", "D")), classes({"b": (LETTER, 6), "d": (LETTER,)}), vowels((5, A, "a"), (9, AO, "o")),
               forms({"①": "1", "½": "1\u20442"}), b"", b"bad")
 PLENTY = Lent(1200, 400, 8)
 NONE = block([])
-# refused for mode, capitals, tables, code or text, so that there is no lattice
-WITHOUT_LATTICE = {1, 12, 13, *FAULTS, *range(3, 9)}
+# refused for mode, choices, tables, code or text, so that there is no lattice
+WITHOUT_LATTICE = {1, 12, 13, 15, *FAULTS, *range(3, 9)}
 
 
 class Border:
@@ -64,6 +64,23 @@ def choices():
         yield Border((9, 1), Lent(12, 3, 40), **cased, capitals=capitals)
         yield Border((10, 1), Lent(24, 2, 40), **cased, capitals=capitals)
         yield Border((11, 24), Lent(24, 3, 23), **cased, capitals=capitals)
+    for o_ang in (2, 3, 127, 128, 254, 255):
+        for mode in (0, 1, 3):
+            yield Border((15, 0), mode=mode, o_ang=o_ang)
+        yield Border((15, 0), capitals=1, o_ang=o_ang)
+    # O ang behind a space: where it is silent its edge needs no room, but a slot
+    thai = dict(rules=rules(("ก", "k"), ("อ", "o")), classes=classes({**{c: (LETTER, THAI) for c in "กอ"}, "\u0e48": (NONSPACING, THAI, TONE), " ": (ZS,)}),
+                text="ก \u0e48อก".encode())
+    for o_ang, size in ((0, 4), (1, 3)):
+        for mode in range(4):
+            for capitals in (0, 1):
+                yield accepted(**thai, mode=mode, capitals=capitals, o_ang=o_ang)
+        yield Border((9, 2), Lent(59, size, 9), **thai, o_ang=o_ang)
+        yield Border((9, 3), Lent(12, size, 9), **thai, o_ang=o_ang)
+        yield Border((10, 1), Lent(60, size - 1, 9), **thai, o_ang=o_ang)
+        yield Border((11, size), Lent(60, size, size - 1), **thai, o_ang=o_ang)
+    yield Border((10, 3), Lent(60, 1, 9), **thai)
+    yield Border((10, 4), Lent(60, 1, 9), **thai, o_ang=1)
 
 
 def headers():
@@ -535,6 +552,9 @@ def too_long():
     # as long as it can get
     yield Border((14, 0), Lent(9999, 9999, 300), **long({"①": "x" * 18}, "①", table=(("x", "k" * 64),)))
     yield Border((14, 511), Lent(99999, 99999, 9999), **long({"①": more}, "a" * 511 + "①"))
+    # a choice is refused before it
+    for choice, refusal in (("capitals", 12), ("o_ang", 15)):
+        yield Border((refusal, 0), Lent(9999, 9999, 300), **long({"①": more}, "①"), **{choice: 2})
 
 
 def orders():
@@ -542,7 +562,7 @@ def orders():
     b, c = rule_row("b", "B"), rule_row("c", "C")
     # in their order: number, place, what is changed
     faults = [
-        (1, 0, dict(mode=9)), (12, 0, dict(capitals=2)), (20, 5 + len(b), dict(rules=block([b, b"\0"]))), (3, 5, dict(classes=block([class_row("b", 2)]))),
+        (1, 0, dict(mode=9)), (12, 0, dict(capitals=2)), (15, 0, dict(o_ang=2)), (20, 5 + len(b), dict(rules=block([b, b"\0"]))), (3, 5, dict(classes=block([class_row("b", 2)]))),
         (4, 0, dict(vowels=b"\x02\0\0\0\0")), (13, 13, dict(decompositions=block([form_row("①", "1"), form_row("②", "①")]))), (5, 0, dict(code=b"xx")), (6, 1, dict(text=b"a\xff")), (7, 512, dict(text=b"a" * 513)),
         (8, 2, dict(text="ab\u0f00".encode())),
     ]
@@ -562,7 +582,7 @@ def orders():
                 yield Border((number, place), **{**changes, **more})
         for lent in small.values():
             yield Border((number, place), lent, **changes)
-    for rank, (number, place, _) in enumerate(faults[:7]):
+    for rank, (number, place, _) in enumerate(faults[:8]):
         yield Border((number, place), Lent(0, 0, 0), **from_rank(rank))
         yield Border((number, place), Lent(5, 5, 5), **from_rank(rank))
     yield Border((9, 0), small[9])
@@ -573,8 +593,10 @@ def orders():
                                  (23, 5 + TEXT + 1, block([rule_row("c", "\x7f")])), (24, 5 + len(c), block([c, b]))):
         yield Border((1, 0), **{**from_rank(0), "rules": table})
         yield Border((12, 0), **{**from_rank(1), "rules": table})
-        yield Border((number, place), **{**from_rank(3), "rules": table})
-        for _, _, more in faults[3:]:
+        yield Border((15, 0), **{**from_rank(2), "rules": table})
+        yield Border((15, 0), o_ang=255, rules=table)
+        yield Border((number, place), **{**from_rank(4), "rules": table})
+        for _, _, more in faults[4:]:
             yield Border((number, place), **more, rules=table)
 
 
@@ -590,6 +612,7 @@ def most_rules():
     rule = rule_row("b")
     yield Border((25, 5 + 8192 * len(rule)), rules=block([rule] * 8193))
     yield Border((25, 5 + 8192 * len(rule)), rules=block([rule] * 8192 + [b"\0"]))
+    yield Border((15, 0), rules=block([rule] * 8193), o_ang=2)
     yield accepted(rules=block([rule] * 8192), text=b"")
     yield accepted(rules=block([rule] * 8191 + [rule_row("b", "x")]), text=b"b")
 

@@ -45,6 +45,12 @@ RESULTS = [
 # strings of Жж under the cased classes, by capitals
 CASED_RESULTS = ["ZHzh", "Zhzh"]
 
+# strings with O ang by its choice: text, off, on
+O_ANG_RESULTS = [
+    ("ก \u0e48อก", "k ok", "k k"), ("ก\u0e48อก", "kok", "kok"), ("ก ก \u0e48อก", "k k ok", "k k k"), ("ก  \u0e48อก", "k  ok", "k  k"),
+    ("\u0e48 ก\u0e48อก", " kok", " kok"),
+]
+
 # the sample program's output in mode 1, with and without a line end
 LINE = "010000001300080000000102016b61000700010002010074"
 LINE_WITH_END = "010000001c00080000000102016b610007000100020100740007000200030b000a"

@@ -32,7 +32,7 @@ def of_rust(text):
     arms = dict(re.findall(r"(\d+) => Refusal::(\w+),", text))
     for name, number in re.findall(r"(\w+) = (\d+),", body):
         if arms.pop(number, None) == name:
-            found["REFUSED_" + re.sub(r"(?<=[a-z])(?=[A-Z])", "_", name).upper()] = [int(number)]
+            found["REFUSED_" + re.sub(r"(?<!^)(?=[A-Z])", "_", name).upper()] = [int(number)]
     if arms:
         sys.exit("jettyfig.rs: from_number knows %s, which the enum does not" % arms)
     return found

@@ -39,10 +39,10 @@ def cases(count, seed):
     for path in sorted((TESTS / "calls").glob("*.calls.xz")):
         for call in callfile.read(path):
             if call.answer.number == 0 or call.answer.number in NEEDS_ROOM:
-                yield call.given[2:]
+                yield call.given[callfile.NUMBERS:]
     rng = random.Random(seed)
     for _ in range(count):
-        yield World(rng).given()[2:]
+        yield World(rng).given()[callfile.NUMBERS:]
     yield from worst()
 
 

@@ -44,6 +44,9 @@ edited_too() {
 }
 # --- one line more, which does add logic: the Python rule for capitals, where a call chooses it ---
 edited_too capitals 's|^        // Gemination: .*|        rom = crate::capitals::as_python(rom, start, end, next_char);|'
+# --- and one more: where the walk back behind O ang ends, where a call chooses it ---
+walk='self.find_rom_edge_path_backwards_str'
+edited_too o_ang "s/$walk(0, start, Some(1), false)/crate::o_ang::walked(\&self.s_chars, start, |from| $walk(from, start, Some(1), false))/"
 # --- two lines more: whether the neighbours of a decomposed character are numbers, from the class table ---
 edited_too numbers 's/c\.is_numeric()/crate::dicts::is_number(*c)/'
 cp "$here"/src/*.rs "$out/src/"

@@ -254,5 +254,12 @@ pub const CAPITALS: [&str; 24] = [
     "K", "ZH", "Zh", "A", "Ka", "Ya", "KI", "KKI", "KA", "KYO", "SHCH", "A1B", "1ZH", "Z-H", "1", "N7", "+N", "+NG",
     "+A", "zH", "CHI", " ZH", "ZH ", "AK",
 ];
+/// words of Thai lines, and such as begin with what the walk back behind O ang passes: only over a space it finds a consonant
+pub const WORDS: [&str; 13] =
+    ["ก", "น", "ขน", "กก", "กา", "กอน", "ขอ", "เกา", "แก", "ก\u{0e48}อก", "อก", "ก\u{00a0}\u{0e48}อก", ""];
+pub const OPEN_WORDS: [&str; 8] =
+    ["\u{0e48}อก", "\u{0e48}อน", "\u{0e34}อก", "\u{0e48}\u{0e34}อข", "\u{0e48}ออก", "\u{0e48}อกอน", "ะอก", "เอน"];
+/// what the walk passes where there is no rule for it, or one with an empty text
+pub const PASSED: [char; 5] = ['\u{0e48}', '\u{0e34}', 'ะ', 'เ', ' '];
 pub const CODES: [&str; 8] = ["san", "asm", "ben", "guj", "kas", "pan", "hin", "abc"];
 pub const VOWELS: [&str; 8] = ["a", "a", "o", "aa", "an", "n", "aeio", "u"];

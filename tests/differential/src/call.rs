@@ -9,10 +9,17 @@ pub const ROOMS: [&str; 3] = ["slots", "room", "output"];
 /// bytes of slots, text room and output
 pub type Lent = [usize; 3];
 
+/// what a call chooses; above 1 each is refused
+#[derive(Clone, Copy)]
+pub struct Choices {
+    pub capitals: u8,
+    pub o_ang: u8,
+}
+
 #[derive(Clone, Copy)]
 pub struct Call<'a> {
     pub mode: u8,
-    pub capitals: u8,
+    pub choices: Choices,
     pub parts: Parts<'a>,
     pub lent: Lent,
 }

@@ -1,6 +1,6 @@
 //! Call files, as tests/calls/callfile.py reads and writes them.
 
-use crate::call::{Answer, Call, Numbers, Parts};
+use crate::call::{Answer, Call, Choices, Numbers, Parts};
 use oracle::Reader;
 use std::path::Path;
 use std::process::Command;
@@ -26,7 +26,8 @@ pub fn calls(bytes: &[u8]) -> Option<Vec<(Call<'_>, Answer<'_>)>> {
 }
 
 fn next<'a>(r: &mut Reader<'a>) -> Option<(Call<'a>, Answer<'a>)> {
-    let (mode, capitals) = (r.number(1)? as u8, r.number(1)? as u8);
+    let mode = r.number(1)? as u8;
+    let choices = Choices { capitals: r.number(1)? as u8, o_ang: r.number(1)? as u8 };
     let mut lent = [0; 3];
     for n in &mut lent {
         *n = r.number(4)? as usize;
@@ -39,11 +40,11 @@ fn next<'a>(r: &mut Reader<'a>) -> Option<(Call<'a>, Answer<'a>)> {
     let mut four = |n| Some(r.number(n)? as u64);
     let numbers = Numbers { number: four(1)?, place: four(4)?, length: four(4)?, edges: four(4)? };
     let output = r.take(numbers.length as usize)?;
-    Some((Call { mode, capitals, parts, lent }, Answer { numbers, output }))
+    Some((Call { mode, choices, parts, lent }, Answer { numbers, output }))
 }
 
 fn encoded(call: &Call, answer: &Answer) -> Vec<u8> {
-    let mut bytes = vec![call.mode, call.capitals];
+    let mut bytes = vec![call.mode, call.choices.capitals, call.choices.o_ang];
     let four = |n: usize| (n as u32).to_be_bytes();
     bytes.extend(call.lent.iter().flat_map(|n| four(*n)));
     for part in call.parts {

@@ -1,17 +1,18 @@
-//! Damages a call: mode or capitals, a table, the code or the text. What it leaves may still be valid.
+//! Damages a call: mode or a choice, a table, the code or the text. What it leaves may still be valid.
 
-use crate::call::PARTS;
+use crate::call::{Choices, PARTS};
 use crate::damaged_table::{DECOMPOSITIONS, table};
 use crate::random::Random;
 
 /// tables, code and text, to be changed in place
 pub type Damaged = [Vec<u8>; PARTS.len()];
 
-pub fn damage(random: &mut Random, mode: &mut u8, capitals: &mut u8, parts: &mut Damaged) {
+pub fn damage(random: &mut Random, mode: &mut u8, choices: &mut Choices, parts: &mut Damaged) {
     match random.below(100) {
         0..3 => *mode = random.between(4, 255) as u8,
-        3..5 => *capitals = random.between(2, 255) as u8,
-        5..33 => table(random, 0, &mut parts[0]),
+        3..5 => choices.capitals = random.between(2, 255) as u8,
+        5..7 => choices.o_ang = random.between(2, 255) as u8,
+        7..33 => table(random, 0, &mut parts[0]),
         33..44 => table(random, 1, &mut parts[1]),
         44..53 => table(random, 2, &mut parts[2]),
         53..73 => table(random, DECOMPOSITIONS, &mut parts[3]),
@@ -19,8 +20,8 @@ pub fn damage(random: &mut Random, mode: &mut u8, capitals: &mut u8, parts: &mut
         77..92 => text(random, &mut parts[5]),
         // two at once: the one that is looked for first is named
         _ => {
-            damage(random, mode, capitals, parts);
-            damage(random, mode, capitals, parts);
+            damage(random, mode, choices, parts);
+            damage(random, mode, choices, parts);
         }
     }
 }

@@ -31,8 +31,8 @@ impl Callee {
     /// One call; the slices become what it has left of them.
     pub fn call(&mut self, call: &Call, parts: &mut Given, rooms: &mut Rooms) -> Numbers {
         self.bytes.clear();
-        for choice in [call.mode, call.capitals] {
-            self.bytes.extend((choice as u32).to_le_bytes());
+        for number in [call.mode, call.choices.capitals, call.choices.o_ang] {
+            self.bytes.extend((number as u32).to_le_bytes());
         }
         for slice in parts.iter().chain(&*rooms) {
             self.bytes.extend((slice.lent().len() as u32).to_le_bytes());

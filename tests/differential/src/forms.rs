@@ -32,8 +32,10 @@ impl Maker<'_> {
             FORM_KINDS.iter().map(|(c, _)| *c).chain(texts.concat()).filter(|c| *c != ' ').collect();
         characters.sort_unstable();
         characters.dedup();
-        let has: Text =
-            characters.into_iter().filter(|c| self.chance(if usually_has(*c) { 0.8 } else { 0.06 })).collect();
+        let has: Text = characters
+            .into_iter()
+            .filter(|c| if usually_has(*c) { self.chance(0.8) } else { self.odd(0.06) })
+            .collect();
         let all = self.kinds.iter().map(|(c, _)| *c).chain(texts[0].iter().copied()).chain(HELD);
         let free: Text = all.filter(|c| !has.contains(c)).collect();
         for c in has {
@@ -43,8 +45,16 @@ impl Maker<'_> {
         }
     }
 
-    /// what a row holds: the usual, a phrase, a few characters, many, or about as many bytes as a text may have
+    /// what a row holds: a line, the usual, a phrase, a few characters, many, or about as many bytes as a text may have
     fn held(&mut self, c: char, free: &Text) -> Text {
+        if self.lined && self.chance(0.6) {
+            let mut line = self.some_words(2, 4);
+            line.retain(|c| free.contains(c));
+            line.truncate(MOST_FORM);
+            if !line.is_empty() {
+                return line;
+            }
+        }
         let usual = USUAL_FORMS.iter().find(|(d, _)| *d == c).map_or("", |(_, usual)| usual);
         if !usual.is_empty() && usual.chars().all(|c| free.contains(&c)) && self.chance(0.4) {
             return usual.chars().collect();
@@ -77,6 +87,6 @@ impl Maker<'_> {
     }
 }
 
-fn usually_has(c: char) -> bool {
+pub fn usually_has(c: char) -> bool {
     FORM_KINDS.iter().any(|(d, _)| *d == c)
 }

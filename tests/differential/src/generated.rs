@@ -1,6 +1,6 @@
 //! Cases from a seed, until the time is over.
 
-use crate::call::{Call, Parts};
+use crate::call::{Call, Choices, Parts};
 use crate::damage::{Damaged, damage};
 use crate::judge::{Judged, judge, tables as read};
 use crate::random::Random;
@@ -36,6 +36,7 @@ pub fn run(tester: &mut Tester, seconds: u64, seed: u64) {
     let (cases, numbers) = (tester.cases, tester.by_number());
     let speed = cases as f64 / begun.elapsed().as_secs_f64();
     println!("in {} cases the choice of capitals has changed letters", tester.capitalized);
+    println!("in {} cases the walk behind O ang ended at a space before what it would have found", tester.walk_ended);
     println!("in {} cases a decomposition has an edge", tester.decomposed);
     println!("{cases} cases, {} differ (seed {seed}: {numbers}), {speed:.0}/s", tester.differ());
 }
@@ -44,14 +45,18 @@ fn parts<'a>(world: &'a World, (code, text): &'a (&'static str, String)) -> Part
     [&world.rules, &world.classes, &world.vowels, &world.decompositions, code.as_bytes(), text.as_bytes()]
 }
 
+fn some_choices(random: &mut Random) -> Choices {
+    Choices { capitals: random.below(2) as u8, o_ang: random.below(2) as u8 }
+}
+
 /// one lattice in each mode, and some more; what is strange is strange in all of them
 fn ask(tester: &mut Tester, name: &str, random: &mut Random, parts: Parts, tables: Option<&Tables>) {
-    let capitals = random.below(2) as u8;
-    let judged = judge(0, capitals, parts, tables);
+    let choices = some_choices(random);
+    let judged = judge(0, choices, parts, tables);
     let modes = [0, 1, 2, 3, random.below(4) as u8, random.below(4) as u8];
     let asked = if judged.strange().is_some() { 1 } else { modes.len() };
     for mode in &modes[..asked] {
-        test(tester, name, random, (*mode, capitals), parts, &judged);
+        test(tester, name, random, (*mode, choices), parts, &judged);
     }
 }
 
@@ -60,7 +65,7 @@ fn test(
     tester: &mut Tester,
     name: &str,
     random: &mut Random,
-    (mode, capitals): (u8, u8),
+    (mode, choices): (u8, Choices),
     parts: Parts,
     judged: &Judged,
 ) {
@@ -68,8 +73,9 @@ fn test(
         Judged::Shown(shown) => rooms::some(random, &shown.added, &shown.outputs[mode as usize]),
         _ => [random.below(100), random.below(60), random.below(60)],
     };
-    let call = Call { mode, capitals, parts, lent };
+    let call = Call { mode, choices, parts, lent };
     tester.capitalized += judged.capitalized() as u64;
+    tester.walk_ended += judged.walk_ended() as u64;
     tester.decomposed += judged.decomposed() as u64;
     tester.test(name, &call, &judged.wanted(mode, lent), judged.strange(), random.next());
 }
@@ -78,14 +84,14 @@ fn ask_damaged(tester: &mut Tester, name: &str, random: &mut Random, world: &Wor
     let asked = &world.asked[random.below(world.asked.len())];
     let whole = parts(world, asked);
     let mut damaged: Damaged = whole.map(<[u8]>::to_vec);
-    let (mut mode, mut capitals) = (random.below(4) as u8, random.below(2) as u8);
-    damage(random, &mut mode, &mut capitals, &mut damaged);
+    let (mut mode, mut choices) = (random.below(4) as u8, some_choices(random));
+    damage(random, &mut mode, &mut choices, &mut damaged);
     let parts = damaged.each_ref().map(|part| &part[..]);
     let others = if parts[..TABLES] == whole[..TABLES] { None } else { Some(read(parts)) };
     let tables = match &others {
         None => tables,
         Some(others) => others.as_ref(),
     };
-    let judged = judge(mode, capitals, parts, tables);
-    test(tester, name, random, (mode, capitals), parts, &judged);
+    let judged = judge(mode, choices, parts, tables);
+    test(tester, name, random, (mode, choices), parts, &judged);
 }

@@ -1,10 +1,10 @@
-//! What a call must answer: by the checker where mode, capitals, tables, code or text are refused, all else by the oracle;
+//! What a call must answer: by the checker where mode, choices, tables, code or text are refused, all else by the oracle;
 //! both must agree on which it is.
 
-use crate::call::{Answer, Lent, Parts};
+use crate::call::{Answer, Choices, Lent, Parts};
 use crate::refusals::refusal;
 use crate::rooms::answered;
-use oracle::{Shown, Tables, allowed_capitals, allowed_code, allowed_text};
+use oracle::{Shown, Tables, allowed_choices, allowed_code, allowed_text};
 
 pub enum Judged {
     Refused(u64, u64),
@@ -19,14 +19,15 @@ pub fn tables([rules, classes, vowels, decompositions, ..]: Parts) -> Option<Tab
 }
 
 /// `tables` are what the oracle read of the parts
-pub fn judge(mode: u8, capitals: u8, parts: Parts, tables: Option<&Tables>) -> Judged {
-    let refused = refusal(mode, capitals, parts);
+pub fn judge(mode: u8, choices: Choices, parts: Parts, tables: Option<&Tables>) -> Judged {
+    let refused = refusal(mode, choices, parts);
     let [.., code, text] = parts;
-    let allowed = || Some((tables?, allowed_capitals(capitals)?, allowed_code(code)?, allowed_text(text)?));
+    let chosen = allowed_choices([choices.capitals, choices.o_ang]);
+    let allowed = || Some((tables?, chosen?, allowed_code(code)?, allowed_text(text)?));
     let accepted = if mode <= 3 { allowed() } else { None };
     match (refused, accepted) {
         (Some((number, place)), None) => Judged::Refused(number, place),
-        (None, Some((tables, capitals, code, text))) => match tables.show(capitals, code, text) {
+        (None, Some((tables, chosen, code, text))) => match tables.show(chosen, code, text) {
             Some(shown) => Judged::Shown(shown),
             None => Judged::Strange("the oracle panicked", None),
         },
@@ -49,6 +50,11 @@ impl Judged {
     /// whether the choice of capitals has changed letters
     pub fn capitalized(&self) -> bool {
         matches!(self, Judged::Shown(shown) if shown.capitalized > 0)
+    }
+
+    /// whether a walk behind O ang ended at a space before what it would have found
+    pub fn walk_ended(&self) -> bool {
+        matches!(self, Judged::Shown(shown) if shown.ended_walks > 0)
     }
 
     /// whether a decomposition has an edge

@@ -32,7 +32,7 @@ pub fn run(tester: &mut Tester, paths: &[String]) -> Result<(), String> {
 /// how oracle and checker differ from what is recorded
 fn unlike(call: &Call, recorded: &Answer) -> Option<String> {
     let tables = tables(call.parts);
-    let judged = judge(call.mode, call.capitals, call.parts, tables.as_ref());
+    let judged = judge(call.mode, call.choices, call.parts, tables.as_ref());
     judged.strange().or_else(|| {
         let wanted = judged.wanted(call.mode, call.lent);
         let both = || format!("{}, recorded {}", told(&wanted.numbers), told(&recorded.numbers));

@@ -1,8 +1,8 @@
 //! What a call is refused by before its lattice, and where: document 01's "Numbers a call returns" and "Table and output
-//! bytes", and for capitals and decompositions tickets 2 and 3 (docs/DECISIONS.md), written from their words alone. The rule
+//! bytes", and for the choices and decompositions tickets 2, 3 and 5 (docs/DECISIONS.md), written from their words alone. The rule
 //! table's refusals are in rule_refusals.rs.
 
-use crate::call::Parts;
+use crate::call::{Choices, Parts};
 use crate::rule_refusals::rule_fault;
 
 pub const MOST_ROWS: usize = 8192;
@@ -11,12 +11,15 @@ const MOST_TEXT: usize = 512;
 /// number and place; none where the call goes on to its lattice
 pub type Refusal = Option<(u64, u64)>;
 
-pub fn refusal(mode: u8, capitals: u8, [rules, classes, vowels, decompositions, code, text]: Parts) -> Refusal {
+pub fn refusal(mode: u8, choices: Choices, [rules, classes, vowels, decompositions, code, text]: Parts) -> Refusal {
     if mode > 3 {
         return Some((1, 0));
     }
-    if capitals > 1 {
+    if choices.capitals > 1 {
         return Some((12, 0));
+    }
+    if choices.o_ang > 1 {
+        return Some((15, 0));
     }
     let faulty = |number| move |place: usize| (number, place as u64);
     rule_fault(rules)

@@ -1,6 +1,6 @@
 //! The rules of a world, made from pieces of its texts.
 
-use crate::alphabets::{CAPITALS, CODES, EN_DASH, LONG, PRE, TARGETS, USUAL};
+use crate::alphabets::{CAPITALS, CODES, EN_DASH, LONG, PASSED, PRE, TARGETS, USUAL};
 use crate::rows::{Rule, block};
 use crate::world::{Maker, Text};
 
@@ -73,7 +73,8 @@ impl Maker<'_> {
     fn sources(&mut self, text: &Text) -> Vec<Text> {
         let mut sources: Vec<Text> = Vec::new();
         for (k, c) in text.iter().enumerate() {
-            if !text[..k].contains(c) && self.chance(if self.has_form(*c) { 0.25 } else { 0.85 }) {
+            let passed = self.has_form(*c) || self.lined && PASSED.contains(c);
+            if !text[..k].contains(c) && (if passed { self.chance(0.25) } else { !self.odd(0.15) }) {
                 sources.push(vec![*c]);
             }
         }
@@ -85,6 +86,10 @@ impl Maker<'_> {
             }
         }
         for at in 1..text.len().saturating_sub(1) {
+            if self.lined && text[at] == ' ' && self.chance(0.1) {
+                let (start, end) = (at - self.random.below(2), at + self.random.between(1, 3));
+                sources.push(text[start..end.min(text.len())].to_vec());
+            }
             if self.kind(text[at - 1]).is_some_and(|kind| kind.2 & PRE > 0) && self.chance(0.4) {
                 let n = self.random.between(1, 3);
                 let mut source = vec![text[at - 1], EN_DASH];
@@ -100,21 +105,21 @@ impl Maker<'_> {
     }
 
     fn rule(&mut self, source: &Text) -> Vec<u8> {
-        let plain = self.chance(0.55);
+        let plain = !self.odd(0.45);
         let flags = match (plain, self.random.below(3)) {
             (true, _) | (_, 0) => 0,
             (_, 1) => 1 << self.random.below(5),
             _ => self.random.below(32) as u8,
         };
         let count = if plain { 0 } else { self.random.choice(&[0, 1, 1, 2, 255, 256, 65535]) };
-        let target = if self.chance(0.08) { None } else { Some(self.target(source)) };
-        let end = if self.chance(0.25) { Some(self.target(&[])) } else { None };
+        let target = if self.odd(0.08) { None } else { Some(self.target(source)) };
+        let end = if self.odd(0.25) { Some(self.target(&[])) } else { None };
         let others = (0..self.random.choice(&[0, 0, 0, 1, 2, 3])).map(|_| self.target(&[])).collect();
         Rule { source, flags, count, codes: self.rule_codes(), target, end, others }.row()
     }
 
     fn rule_codes(&mut self) -> Vec<&'static str> {
-        if !self.chance(0.15) {
+        if !self.odd(0.15) {
             return Vec::new();
         }
         let n = self.random.between(1, 3);
@@ -126,9 +131,13 @@ impl Maker<'_> {
     }
 
     fn target(&mut self, source: &[char]) -> Vec<u8> {
+        let passed = matches!(source, [c] if PASSED.contains(c)) || source.contains(&' ');
+        if self.lined && passed && self.chance(0.6) {
+            return Vec::new();
+        }
         if let [c] = source
             && let Some((_, usual)) = USUAL.iter().find(|(d, _)| d == c)
-            && self.chance(0.5)
+            && !self.odd(0.5)
         {
             let large = self.cased && self.chance(0.5);
             return if large { usual.to_ascii_uppercase() } else { usual.to_string() }.into_bytes();

@@ -1,6 +1,6 @@
 //! Calls the library, compares, and counts.
 
-use crate::call::{Answer, Call};
+use crate::call::{Answer, Call, Choices};
 use crate::callfile::keep;
 use crate::compare::{difference, told};
 use crate::library::Library;
@@ -19,6 +19,8 @@ pub struct Tester {
     pub cases: u64,
     /// cases in which the choice of capitals has changed letters
     pub capitalized: u64,
+    /// cases in which a walk behind O ang ended at a space before what it would have found
+    pub walk_ended: u64,
     /// cases in which a decomposition has an edge
     pub decomposed: u64,
     /// cases by the number that was wanted
@@ -38,6 +40,7 @@ impl Tester {
             keeps: true,
             cases: 0,
             capitalized: 0,
+            walk_ended: 0,
             decomposed: 0,
             numbers,
             differ: 0,
@@ -67,8 +70,9 @@ impl Tester {
 
     fn report(&mut self, name: &str, call: &Call, wanted: &Answer, what: &str) {
         self.differ += 1;
-        let Call { mode, capitals, .. } = call;
-        println!("difference {}: {name} case {}, mode {mode}, capitals {capitals}: {what}", self.differ, self.cases);
+        let Call { mode, choices: Choices { capitals, o_ang }, .. } = call;
+        let asked = format!("mode {mode}, capitals {capitals}, O ang {o_ang}");
+        println!("difference {}: {name} case {}, {asked}: {what}", self.differ, self.cases);
         if self.keeps {
             println!("{}", keep(&self.folder, call, wanted).unwrap_or_else(|e| format!("not kept: {e}")));
         }

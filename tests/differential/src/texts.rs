@@ -1,6 +1,7 @@
 //! The texts of a world: one as tests/generate makes it, and others akin to it.
 
-use crate::alphabets::CODES;
+use crate::alphabets::{CODES, OPEN_WORDS, WORDS};
+use crate::forms::usually_has;
 use crate::world::{Maker, Text};
 
 const MOST_TEXT: usize = 512;
@@ -30,8 +31,11 @@ impl Maker<'_> {
         texts
     }
 
-    /// letters of the alphabets, phrases, a few spaces, now and then a repeated stretch
+    /// words of a line; or letters of the alphabets, phrases, a few spaces, now and then a repeated stretch
     fn some_text(&mut self) -> Text {
+        if self.lined && self.chance(0.9) {
+            return self.line();
+        }
         let mut length = self.random.choice(&[0, 1, 1, 2, 2, 3, 3, 4, 4, 5, 6, 7, 8, 10, 12, 16, 20]);
         if self.chance(0.01) {
             length = self.random.between(21, 60);
@@ -50,6 +54,24 @@ impl Maker<'_> {
         }
         text.truncate(60);
         text
+    }
+
+    fn line(&mut self) -> Text {
+        let mut text = self.some_words(2, 6);
+        let forms: Text = self.kinds.iter().map(|(c, _)| *c).filter(|c| usually_has(*c)).collect();
+        if !forms.is_empty() && self.chance(0.5) {
+            let at = self.random.below(text.len() + 1);
+            text.splice(at..at, [self.random.choice(&forms), ' ']);
+        }
+        text
+    }
+
+    pub fn some_words(&mut self, least: usize, most: usize) -> Text {
+        let n = self.random.between(least, most);
+        let words: Vec<&str> = (0..n)
+            .map(|_| if self.chance(0.5) { self.random.choice(&OPEN_WORDS) } else { self.random.choice(&WORDS) })
+            .collect();
+        words.join(" ").chars().collect()
     }
 
     fn akin(&mut self, first: &Text) -> Text {

@@ -1,7 +1,7 @@
 //! A world: tables, and texts and codes to ask under them. Small alphabets meet random rules made from pieces of the texts,
 //! so that sources match, targets chain and the special characters stand beside each other.
 
-use crate::alphabets::{Alphabet, CODES, LETTER, LIKELY, LOWER, VOWELS, ZS};
+use crate::alphabets::{Alphabet, CODES, LETTER, LIKELY, LOWER, THAI_ALPHABET, VOWELS, ZS};
 use crate::forms::Form;
 use crate::random::Random;
 use crate::rows::{Class, block, class_row, vowel_row};
@@ -38,6 +38,8 @@ pub struct Maker<'r> {
     pub kinds: Vec<(char, Class)>,
     pub phrases: Vec<&'static str>,
     pub code: &'static str,
+    /// whether most texts are lines of Thai words
+    pub lined: bool,
     /// whether there is lower case, and many targets have capitals
     pub cased: bool,
     /// whether there are decompositions
@@ -50,7 +52,8 @@ pub struct Maker<'r> {
 
 impl<'r> Maker<'r> {
     fn new(random: &'r mut Random) -> Self {
-        let mut alphabets: Vec<&'static Alphabet> = Vec::new();
+        let lined = random.chance(0.4);
+        let mut alphabets: Vec<&'static Alphabet> = if lined { vec![&THAI_ALPHABET] } else { Vec::new() };
         for _ in 0..random.choice(&[1, 1, 2, 2, 3]) {
             let one = random.choice(&LIKELY);
             if !alphabets.iter().any(|a| std::ptr::eq(*a, one)) {
@@ -58,9 +61,10 @@ impl<'r> Maker<'r> {
             }
         }
         let code = if random.chance(3.0 / 11.0) { "" } else { random.choice(&CODES) };
-        let (cased, formed) = (random.chance(0.4), random.chance(0.6));
+        let formed = random.chance(0.6);
         let (kinds, phrases, forms, letters) = Default::default();
-        let mut maker = Maker { random, alphabets, kinds, phrases, code, cased, formed, forms, letters };
+        let mut maker = Maker { random, alphabets, kinds, phrases, code, lined, cased: false, formed, forms, letters };
+        maker.cased = maker.odd(0.5);
         for alphabet in maker.alphabets.clone() {
             let all = alphabet.kinds;
             let n = maker.random.between(all.len().min(3), all.len());
@@ -79,6 +83,11 @@ impl<'r> Maker<'r> {
 
     pub fn chance(&mut self, p: f64) -> bool {
         self.random.chance(p)
+    }
+
+    /// what is odd is rare in lines, where most of it keeps the walk from a consonant
+    pub fn odd(&mut self, p: f64) -> bool {
+        self.chance(if self.lined { p / 4.0 } else { p })
     }
 
     pub fn kind(&self, c: char) -> Option<Class> {
@@ -108,7 +117,7 @@ impl<'r> Maker<'r> {
         if self.chance(0.7) {
             self.set(' ', (ZS, 0, 0));
         }
-        let strange = self.chance(0.4);
+        let strange = self.odd(0.4);
         let mut scripts = vec![0];
         scripts.extend(self.kinds.iter().map(|(_, kind)| kind.1));
         for k in (0..self.kinds.len()).rev() {

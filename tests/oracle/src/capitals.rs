@@ -6,7 +6,7 @@ use crate::shim::choice;
 
 /// if start+1 == end and rom.isupper() and next_char.islower(): rom = rom.capitalize()
 pub fn as_python(rom: String, start: usize, end: usize, next_char: Option<char>) -> String {
-    if choice::capitals() && start + 1 == end && is_upper(&rom) && next_char.is_some_and(is_lower) {
+    if choice::made().capitals && start + 1 == end && is_upper(&rom) && next_char.is_some_and(is_lower) {
         return capitalize(rom);
     }
     rom

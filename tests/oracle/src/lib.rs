@@ -7,6 +7,7 @@ mod dicts;
 mod edge;
 mod lattice;
 mod listing;
+mod o_ang;
 mod shim;
 mod tables;
 mod utils;
@@ -40,8 +41,22 @@ pub const DONE: u8 = 0;
 pub const PANICKED: u8 = 1;
 pub const REFUSED: u8 = 2;
 
+/// What a call may choose.
+#[derive(Clone, Copy)]
+pub struct Choices {
+    /// capitals as the Python has them
+    pub capitals: bool,
+    /// the walk back behind O ang ends at a space
+    pub o_ang: bool,
+}
+
+impl Choices {
+    /// as published
+    pub const NONE: Choices = Choices { capitals: false, o_ang: false };
+}
+
 pub struct Answer {
-    /// `DONE`, `PANICKED`, or `REFUSED` for mode, capitals, tables, code or text
+    /// `DONE`, `PANICKED`, or `REFUSED` for mode, choices, tables, code or text
     pub status: u8,
     pub output: Vec<u8>,
     /// every lattice edge, in adding order
@@ -55,6 +70,8 @@ pub struct Shown {
     pub added: Vec<Added>,
     /// how many romanizations the Python rule for capitals has changed
     pub capitalized: usize,
+    /// how many walks behind O ang have ended at a space before what they would have found
+    pub ended_walks: usize,
 }
 
 /// Tables that were read once.
@@ -70,25 +87,25 @@ impl Tables {
 
     /// The output of a mode as published, and nothing besides. A text that `allowed_text` refuses is no text to ask.
     pub fn romanize(&self, mode: u8, code: &str, text: &str) -> Vec<u8> {
-        self.installed(false, |dicts| output(&mut filled(dicts, code, text), mode, text))
+        self.installed(Choices::NONE, |dicts| output(&mut filled(dicts, code, text), mode, text))
     }
 
     /// The lattice of a text in all modes; none where the Rust panics.
-    pub fn show(&self, capitals: bool, code: &str, text: &str) -> Option<Shown> {
+    pub fn show(&self, choices: Choices, code: &str, text: &str) -> Option<Shown> {
         let shown = || {
-            self.installed(capitals, |dicts| {
+            self.installed(choices, |dicts| {
                 let (mut lattice, added) = filled_and_counted(dicts, code, text);
-                let capitalized = shim::choice::changes();
-                Shown { outputs: [0, 1, 2, 3].map(|mode| output(&mut lattice, mode, text)), added, capitalized }
+                let (capitalized, ended_walks) = (shim::choice::changes(), shim::choice::ended_walks());
+                let outputs = [0, 1, 2, 3].map(|mode| output(&mut lattice, mode, text));
+                Shown { outputs, added, capitalized, ended_walks }
             })
         };
         catch_unwind(AssertUnwindSafe(shown)).ok()
     }
 
-    /// `capitals` chooses the Python rule
-    fn installed<T>(&self, capitals: bool, run: impl FnOnce(Dicts) -> T) -> T {
+    fn installed<T>(&self, choices: Choices, run: impl FnOnce(Dicts) -> T) -> T {
         let _taken_out_again = Installed;
-        shim::choice::set(capitals);
+        shim::choice::set(choices);
         // SAFETY: `run` returns outputs and numbers; none of them points into the tables.
         run(unsafe { Dicts::install(&self.data) })
     }
@@ -151,20 +168,20 @@ pub fn allowed_code(code: &[u8]) -> Option<&str> {
     std::str::from_utf8(code).ok().filter(|_| right)
 }
 
-/// A choice that no call refuses: whether capitals are as the Python has them.
-pub fn allowed_capitals(capitals: u8) -> Option<bool> {
-    (capitals <= 1).then_some(capitals == 1)
+/// Choices that no call refuses, of capitals and O ang.
+pub fn allowed_choices([capitals, o_ang]: [u8; 2]) -> Option<Choices> {
+    (capitals <= 1 && o_ang <= 1).then_some(Choices { capitals: capitals == 1, o_ang: o_ang == 1 })
 }
 
-pub fn answer(mode: u8, capitals: u8, [rules, classes, vowels, decompositions, code, text]: [&[u8]; 6]) -> Answer {
+pub fn answer(mode: u8, choices: [u8; 2], [rules, classes, vowels, decompositions, code, text]: [&[u8]; 6]) -> Answer {
     let empty = |status| Answer { status, output: Vec::new(), added: Vec::new() };
     let read = Tables::read([rules, classes, vowels, decompositions]);
-    let asked = (allowed_capitals(capitals), allowed_code(code), allowed_text(text));
-    let (Some(tables), (Some(capitals), Some(code), Some(text)), 0..=3) = (read, asked, mode) else {
+    let asked = (allowed_choices(choices), allowed_code(code), allowed_text(text));
+    let (Some(tables), (Some(choices), Some(code), Some(text)), 0..=3) = (read, asked, mode) else {
         return empty(REFUSED);
     };
     let run = || {
-        tables.installed(capitals, |dicts| {
+        tables.installed(choices, |dicts| {
             let (mut lattice, added) = filled_and_counted(dicts, code, text);
             Answer { status: DONE, output: output(&mut lattice, mode, text), added }
         })

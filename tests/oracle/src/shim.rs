@@ -69,27 +69,36 @@ impl<'a> IntoIterator for &'a OrderedSet {
     }
 }
 
-/// Whether a call chooses the Python rule for capitals, and how many romanizations that has changed.
+/// What a call chooses, and how often each choice has made a difference.
 pub mod choice {
+    use crate::Choices;
     use std::cell::Cell;
 
     thread_local! {
-        static CAPITALS: Cell<bool> = const { Cell::new(false) };
+        static MADE: Cell<Choices> = const { Cell::new(Choices::NONE) };
         static CHANGES: Cell<usize> = const { Cell::new(0) };
+        static ENDED_WALKS: Cell<usize> = const { Cell::new(0) };
     }
 
-    pub fn set(capitals: bool) {
-        CAPITALS.set(capitals);
+    pub fn set(choices: Choices) {
+        MADE.set(choices);
         CHANGES.set(0);
+        ENDED_WALKS.set(0);
     }
-    pub fn capitals() -> bool {
-        CAPITALS.get()
+    pub fn made() -> Choices {
+        MADE.get()
     }
     pub fn note_change() {
         CHANGES.set(CHANGES.get() + 1);
     }
     pub fn changes() -> usize {
         CHANGES.get()
+    }
+    pub fn note_ended_walk() {
+        ENDED_WALKS.set(ENDED_WALKS.get() + 1);
+    }
+    pub fn ended_walks() -> usize {
+        ENDED_WALKS.get()
     }
 }
 
