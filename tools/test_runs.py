@@ -49,6 +49,14 @@ class Runs(unittest.TestCase):
         self.assertRegex(done.stdout, r"^\d+ rules, \d+ classes, 2 vowels, \d+ decompositions: target/tables\n")
         self.assertEqual(done.stdout.split("\n", 1)[1], shown)
 
+    def test_the_choice_of_the_readme(self):
+        """a line whose second word takes an "o" from the first one, unless the command chooses otherwise"""
+        page = (ROOT / "README.md").read_text(encoding="utf-8")
+        command = re.search(r"\n    (printf .* o_ang)\n", page)[1].replace("target/bin/romanize", "tests/x86_64 run target/bin/romanize")
+        for command, shown in ((command, "k k\n"), (command.removesuffix(" o_ang"), "k ok\n")):
+            done = subprocess.run(["bash", "-ec", command], cwd=ROOT, capture_output=True, text=True, check=True)
+            self.assertEqual(done.stdout, shown)
+
     @HAVE_PACKAGES
     def test_the_tables_that_are_made(self):
         with tempfile.TemporaryDirectory() as folder:
