@@ -98,6 +98,7 @@ pub record Accepted (i : Inputs) : Type 0 where
   pub mode : i .mode ≤ most-mode
   pub capitals : i .choices .capitals ≤ most-choice
   pub o-ang : i .choices .o-ang ≤ most-choice
+  pub readings : i .choices .readings ≤ most-choice
   pub rules : rule-fault (i .rules) ≡ none
   pub classes : class-fault (i .classes) ≡ none
   pub vowels : vowel-fault (i .vowels) ≡ none
@@ -124,7 +125,8 @@ accepted-of i e =
     let a = or-none _ _ (both .0) in
     let m = or-none _ _ (a .1) in
     let o = or-none _ _ (m .1) in
-    let b = or-none _ _ (o .1) in
+    let r = or-none _ _ (o .1) in
+    let b = or-none _ _ (r .1) in
     let c = or-none _ _ (b .1) in
     let d = or-none _ _ (c .1) in
     let z = or-none _ _ (d .1) in
@@ -136,6 +138,7 @@ accepted-of i e =
       mode = ltb-false most-mode (i .mode) (when-none _ _ _ (a .0));
       capitals = ltb-false most-choice (i .choices .capitals) (when-none _ _ _ (m .0));
       o-ang = ltb-false most-choice (i .choices .o-ang) (when-none _ _ _ (o .0));
+      readings = ltb-false most-choice (i .choices .readings) (when-none _ _ _ (r .0));
       rules = b .0;
       classes = placed-none _ _ (c .0);
       vowels = placed-none _ _ (d .0);
@@ -153,6 +156,7 @@ refusal-of i a = rw (
   le-ltb most-mode (i .mode) (a .mode),
   le-ltb most-choice (i .choices .capitals) (a .capitals),
   le-ltb most-choice (i .choices .o-ang) (a .o-ang),
+  le-ltb most-choice (i .choices .readings) (a .readings),
   a .rules,
   a .classes,
   a .vowels,

@@ -8,7 +8,7 @@ use lib.ListN.{length, replicate}
 use Rattle.base.specs.Pick.{pick}
 use Rattle.base.specs.Lists.{all, or-else, first-of, same}
 use Rattle.definition.specs.Limits.{most-mode, most-choice, code-letters, most-characters, slot-bytes}
-use Rattle.definition.specs.Refusals.{Refusal, refuse, when, placed, refused-mode, refused-capitals, refused-o-ang, refused-classes, refused-vowels, refused-decompositions, refused-code}
+use Rattle.definition.specs.Refusals.{Refusal, refuse, when, placed, refused-mode, refused-capitals, refused-o-ang, refused-readings, refused-classes, refused-vowels, refused-decompositions, refused-code}
 use Rattle.definition.specs.Refusals.{refused-utf8, refused-too-long, refused-left-out, refused-output}
 use Rattle.definition.specs.Texts.{Text, left-out}
 use Rattle.definition.specs.Tables.{Decomposition, Choices, Tables}
@@ -80,6 +80,7 @@ before-text mode choices rules classes vowels decompositions code = first-of
     (when (ltb most-mode mode) refused-mode 0
     ∷ when (ltb most-choice (choices .capitals)) refused-capitals 0
     ∷ when (ltb most-choice (choices .o-ang)) refused-o-ang 0
+    ∷ when (ltb most-choice (choices .readings)) refused-readings 0
     ∷ rule-fault rules
     ∷ placed refused-classes (class-fault classes)
     ∷ placed refused-vowels (vowel-fault vowels)

@@ -24,7 +24,7 @@ use Rattle.definition.specs.Syllables.{opens, past-tone, next-rom, o-ang
 use Rattle.definition.specs.Vowels.{vowel-row, before-y, pattern-y, pattern-c, bases, consonant-only, keeps-end, before-yo, bare, vowel-in, vowel-by, vowel-step}
 use Rattle.definition.specs.Expansion.{upper-case, capitalized, capitalizes, capitalize, doubling, doubled, small-tsu, double, framed, widen, around-by, around, pre-vowel, before, stretch-start, walk-start, o-ang-side, between, silent, small-ya, small-target, lengthens, trim-front, trim-back, trim, finish, grave, small-y, rest, o-ang-step, thai, by-script, expand}
 use Rattle.definition.specs.Building.{is-tail, without-plus, grown, as-edge, single, fallback-plus, fallback-by, put-in, each, fallback-edge, edge-of, span-edge, rise, build, fall, lattice-by, rule-lattice}
-use Rattle.definition.specs.Paths.{path-from, joined, akin, other, also-all, cored, by-target, by-end-target, by-rule, by-rules, by-edges, longer, sorted, path-of, with-alternatives-of, all-edges-of}
+use Rattle.definition.specs.Paths.{path-from, joined, akin, other, also-all, cored, by-target, by-reading, by-end-target, by-rule, by-rules, by-edges, longer, sorted, path-of, with-alternatives-of, all-edges-of}
 use Rattle.definition.specs.Decomposing.{row-of, stands-for, inner-lattice, inner-string, number, slashed, parted, decomp-text, decomp-edge, start, lattice, edges, edge-count, path, with-alternatives, alternatives, all-edges}
 use Rattle.definition.specs.Listing.{edge-row, edge-rows, block, listing, shown}
 use Rattle.definition.specs.Capacity.{bytes, misfit, placed-at, inner-edges, before-edge, overflow}
@@ -54,10 +54,10 @@ unfolding pick keep any all head empty holds front after best-of best first-of m
     stretch-start walk-start o-ang-side between silent small-ya small-target lengthens trim-front trim-back trim
     finish grave small-y rest o-ang-step thai by-script expand is-tail without-plus grown as-edge single
     fallback-plus fallback-by put-in each fallback-edge edge-of span-edge rise build fall lattice-by rule-lattice
-    path-from joined akin other also-all cored by-target by-end-target by-rule by-rules by-edges longer sorted
-    path-of with-alternatives-of all-edges-of row-of stands-for inner-lattice inner-string number slashed parted
-    decomp-text decomp-edge start lattice edges edge-count path with-alternatives alternatives all-edges edge-row
-    edge-rows block listing shown bytes misfit placed-at inner-edges before-edge overflow tables-of tables
+    path-from joined akin other also-all cored by-target by-reading by-end-target by-rule by-rules by-edges longer
+    sorted path-of with-alternatives-of all-edges-of row-of stands-for inner-lattice inner-string number slashed
+    parted decomp-text decomp-edge start lattice edges edge-count path with-alternatives alternatives all-edges
+    edge-row edge-rows block listing shown bytes misfit placed-at inner-edges before-edge overflow tables-of tables
     decompositions characters code-right first-left-out before-text text-refusal refusal refused written within-room
     with-lattice accepted unless-refused called
 compute i = called i

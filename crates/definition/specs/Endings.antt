@@ -18,7 +18,7 @@ use Rattle.definition.specs.Tables.{Decomposition, Tables}
 use Rattle.definition.specs.Edges.{Edge}
 use Rattle.definition.specs.Decomposing.{lattice}
 use Rattle.definition.specs.Listing.{shown}
-use Rattle.definition.specs.Refusals.{Refusal, refuse, when, placed, numbers, refused-mode, refused-capitals, refused-o-ang, refused-classes, refused-vowels, refused-decompositions, refused-code}
+use Rattle.definition.specs.Refusals.{Refusal, refuse, when, placed, numbers, refused-mode, refused-capitals, refused-o-ang, refused-readings, refused-classes, refused-vowels, refused-decompositions, refused-code}
 use Rattle.definition.specs.Refusals.{refused-utf8, refused-too-long, refused-left-out, refused-room, refused-edge-text, refused-output}
 use Rattle.definition.specs.RuleFaults.{rule-fault}
 use Rattle.definition.specs.RuleNumbers.{fault-number}
@@ -87,12 +87,15 @@ refusal-numbered i = or-numbered _ _
         (
           when-numbered _ refused-o-ang 0 refl,
           (
-            rules-numbered (i .rules) (rule-fault (i .rules)) refl,
+            when-numbered _ refused-readings 0 refl,
             (
-              placed-numbered _ refused-classes refl,
+              rules-numbered (i .rules) (rule-fault (i .rules)) refl,
               (
-                placed-numbered _ refused-vowels refl,
-                (placed-numbered _ refused-decompositions refl, (when-numbered _ refused-code 0 refl, tt)),
+                placed-numbered _ refused-classes refl,
+                (
+                  placed-numbered _ refused-vowels refl,
+                  (placed-numbered _ refused-decompositions refl, (when-numbered _ refused-code 0 refl, tt)),
+                ),
               ),
             ),
           ),

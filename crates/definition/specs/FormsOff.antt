@@ -12,7 +12,7 @@ use Rattle.base.specs.Pick.{pick, pick-all}
 use Rattle.base.specs.Lists.{maybe, or-else, first-of}
 use Rattle.base.specs.Alls.{All, All-map, Opt, maybe-all}
 use Rattle.definition.specs.Limits.{most-mode, most-choice, slot-bytes}
-use Rattle.definition.specs.Refusals.{Refusal, when, placed, refused-mode, refused-capitals, refused-o-ang, refused-classes, refused-vowels, refused-code}
+use Rattle.definition.specs.Refusals.{Refusal, when, placed, refused-mode, refused-capitals, refused-o-ang, refused-readings, refused-classes, refused-vowels, refused-code}
 use Rattle.definition.specs.Texts.{Text, at}
 use Rattle.definition.specs.Tables.{Decomposition, Tables, tag-other}
 use Rattle.definition.specs.RuleFaults.{rule-fault}
@@ -82,6 +82,7 @@ former-refusal i = or-else
     (when (ltb most-mode (i .mode)) refused-mode 0
     ∷ when (ltb most-choice (i .choices .capitals)) refused-capitals 0
     ∷ when (ltb most-choice (i .choices .o-ang)) refused-o-ang 0
+    ∷ when (ltb most-choice (i .choices .readings)) refused-readings 0
     ∷ rule-fault (i .rules)
     ∷ placed refused-classes (class-fault (i .classes))
     ∷ placed refused-vowels (vowel-fault (i .vowels))

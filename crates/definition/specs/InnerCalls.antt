@@ -110,6 +110,7 @@ module _ (i : Inputs) (ok : refusal i ≡ none) (w : Text) (f : Final (decomposi
         mode = omega arith;
         capitals = a .capitals;
         o-ang = a .o-ang;
+        readings = a .readings;
         rules = a .rules;
         classes = a .classes;
         vowels = a .vowels;

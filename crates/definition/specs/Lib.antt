@@ -35,6 +35,7 @@ pub mod Call
 pub mod Compute
 pub mod Sample
 pub mod SampleForms
+pub mod SampleReadings
 -- Laws. Loops over bytes, a character or a row at a time
 pub mod Utf8Turns
 pub mod BlockTurns
@@ -82,7 +83,7 @@ pub mod Near
 pub mod Promises
 -- the path covers the text
 pub mod Cover
--- alternatives only follow the path, in 68 bytes; code 13 is absent
+-- alternatives only follow the path, in 68 bytes; code 13 is absent where readings are not chosen
 pub mod Alternatives
 pub mod Alt2
 -- how many edges a listing has, and how many bytes: four hold their number
@@ -92,6 +93,8 @@ pub mod Sizes
 -- edge by edge, whatever is remembered of word starts
 pub mod Recalled
 pub mod Offers
+-- no two listed edges share span and text
+pub mod Once
 -- UTF-8 there and back; a part of an accepted text is accepted; what is returned, and how every call ends
 pub mod Roundtrip
 pub mod Rewritten

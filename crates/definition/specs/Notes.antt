@@ -36,7 +36,7 @@ note-Zs = 10
 abbrev pub note-orig : ℕ
 note-orig = 11
 
--- an alternative: "rom-alt", "rom-alt2" (which can't occur: Alt2), "rom-alt3"
+-- an alternative: "rom-alt", "rom-alt2" (only where readings are chosen: Alt2), "rom-alt3"
 abbrev pub note-alt : ℕ
 note-alt = 12
 

@@ -12,39 +12,44 @@ use Rattle.base.specs.Pick.{pick, pick-all}
 use Rattle.base.specs.Lists.{put, keep, any, is, maybe, same}
 use Rattle.base.specs.ListLaws.{any-append, keep-append, keep-none, same-true}
 use Rattle.base.specs.Alls.{All, All-map, All-put, All-append, Ordered, Opt, Opt-any, maybe-all}
-use Rattle.definition.specs.Notes.{note-alt, note-alt3}
+use Rattle.definition.specs.Notes.{note-alt, note-alt2, note-alt3}
 use Rattle.definition.specs.Texts.{Text}
 use Rattle.definition.specs.Tables.{Rule, Lexicon}
 use Rattle.definition.specs.Edges.{Edge, View, Mem, starting, right-best, new-in, ret, _>>=_}
 use Rattle.definition.specs.Rules.{valids}
-use Rattle.definition.specs.Paths.{join, next, path-from, akin, other, also-all, cored, by-target, by-end-target, by-rule, by-rules, by-edges}
+use Rattle.definition.specs.Paths.{join, next, path-from, akin, other, also-all, cored, by-target, by-reading, by-end-target, by-rule, by-rules, by-edges}
 use Rattle.definition.specs.Growth.{found-append}
 use Rattle.definition.specs.Bounds.{Formed}
 use Rattle.definition.specs.Cover.{right-all}
 use Rattle.definition.specs.Alternatives.{edge-vowel}
 use Rattle.definition.specs.Recalled.{Recalls, valid-rules, valid-rules-alike, valids-are, valids-recall}
 
--- What a rule offers for an edge, in the order found: by its target `w`, by its end target, both
+-- What a rule offers for an edge, in the order found: by its target `w`; its end target, where readings are chosen; by its end
+-- target; all of these
 unfoldable pub target-offers : Edge → Rule → Text → List Edge
 target-offers x r w =
     pick (same w (x .text) || cored x w) (map (λ u. other x note-alt (u ++ edge-vowel x w)) (r .others)) []
 
+unfoldable pub reading-offers : Bool → Edge → Rule → Text → List Edge
+reading-offers b x r w = pick (b && same w (x .text)) (maybe (r .end-target) [] (λ u. other x note-alt2 u ∷ [])) []
+
 unfoldable pub end-offers : Edge → Rule → Text → List Edge
 end-offers x r w = pick (is (λ u. same u (x .text)) (r .end-target)) (other x note-alt3 w ∷ []) []
 
-unfoldable pub offers : Edge → Rule → List Edge
-offers x r = maybe (r .target) [] (λ w. target-offers x r w ++ end-offers x r w)
+unfoldable pub offers : Bool → Edge → Rule → List Edge
+offers b x r = maybe (r .target) [] (λ w. target-offers x r w ++ (reading-offers b x r w ++ end-offers x r w))
 
 -- of some rules, one after another
-unfoldable pub all-offers : Edge → List Rule → List Edge
-all-offers x [] = []
-all-offers x (r ∷ rs) = offers x r ++ all-offers x rs
+unfoldable pub all-offers : Bool → Edge → List Rule → List Edge
+all-offers b x [] = []
+all-offers b x (r ∷ rs) = offers b x r ++ all-offers b x rs
 
-pub all-offers-append : (x : Edge) (rs qs : List Rule) → all-offers x (rs ++ qs) ≡ all-offers x rs ++ all-offers x qs
+pub all-offers-append : (b : Bool) (x : Edge) (rs qs : List Rule) → all-offers b x (rs ++ qs) ≡ all-offers b x rs ++ all-offers b x qs
 unfolding all-offers
-all-offers-append x [] qs = refl
-all-offers-append x (r ∷ rs) qs =
-    ap (λ l. offers x r ++ l) (all-offers-append x rs qs) ∙ sym (append-assoc (offers x r) (all-offers x rs) (all-offers x qs))
+all-offers-append b x [] qs = refl
+all-offers-append b x (r ∷ rs) qs =
+    ap (λ l. offers b x r ++ l) (all-offers-append b x rs qs)
+    ∙ sym (append-assoc (offers b x r) (all-offers b x rs) (all-offers b x qs))
 
 -- Those whose text is not among `ws`, nor among those before
 unfoldable pub news : List Text → List Edge → List Edge
@@ -73,11 +78,11 @@ news-all P ws (c ∷ cs) h =
     All-put P (not (any (same (c .text)) ws)) c (news us cs) (λ e. h .0) (news-all P us cs (h .1))
 
 -- An edge's alternatives by some rules
-unfoldable pub found-by : Edge → List Rule → List Edge
-found-by x rs = news (x .text ∷ []) (all-offers x rs)
+unfoldable pub found-by : Bool → Edge → List Rule → List Edge
+found-by b x rs = news (x .text ∷ []) (all-offers b x rs)
 
 -- Offers that are added in turn
-unfoldable all-in : List Edge → List Edge → List Edge
+unfoldable pub all-in : List Edge → List Edge → List Edge
 all-in seen [] = seen
 all-in seen (c ∷ cs) = all-in (new-in akin seen c) cs
 
@@ -87,7 +92,7 @@ all-in-append seen [] b = refl
 all-in-append seen (c ∷ a) b = all-in-append (new-in akin seen c) a b
 
 -- this is what the rules do
-module _ (x : Edge) where
+module _ (b : Bool) (x : Edge) where
   also-in : (more : Text) (ws : List Text) (seen : List Edge)
       → also-all x more ws seen ≡ all-in seen (map (λ w. other x note-alt (w ++ more)) ws)
   unfolding also-all all-in
@@ -105,6 +110,16 @@ module _ (x : Edge) where
       go true = unfold pick in also-in (edge-vowel x w) (r .others) seen
       go false = unfold pick all-in in refl
 
+  reading-in : (r : Rule) (seen : List Edge) (w : Text) → by-reading b x r seen w ≡ all-in seen (reading-offers b x r w)
+  unfolding by-reading reading-offers
+  reading-in r seen w = go (b && same w (x .text)) (r .end-target)
+    where
+      go : (c : Bool) (o : Option Text) → pick c (maybe o seen (λ u. new-in akin seen (other x note-alt2 u))) seen
+          ≡ all-in seen (pick c (maybe o [] (λ u. other x note-alt2 u ∷ [])) [])
+      go true none = unfold pick maybe all-in in refl
+      go true (some u) = unfold pick maybe all-in in refl
+      go false o = unfold pick all-in in refl
+
   end-in : (r : Rule) (seen : List Edge) (w : Text) → by-end-target x r seen w ≡ all-in seen (end-offers x r w)
   unfolding by-end-target end-offers
   end-in r seen w = go (is (λ u. same u (x .text)) (r .end-target))
@@ -113,23 +128,26 @@ module _ (x : Edge) where
       go true = unfold pick all-in in refl
       go false = unfold pick all-in in refl
 
-  rule-in : (r : Rule) (seen : List Edge) → by-rule x r seen ≡ all-in seen (offers x r)
+  rule-in : (r : Rule) (seen : List Edge) → by-rule b x r seen ≡ all-in seen (offers b x r)
   unfolding by-rule offers
   rule-in r seen = go (r .target)
     where
-      go : (o : Option Text) → maybe o seen (λ w. by-end-target x r (by-target x r seen w) w)
-          ≡ all-in seen (maybe o [] (λ w. target-offers x r w ++ end-offers x r w))
+      go : (o : Option Text) → maybe o seen (λ w. by-end-target x r (by-reading b x r (by-target x r seen w) w) w)
+          ≡ all-in seen (maybe o [] (λ w. target-offers x r w ++ (reading-offers b x r w ++ end-offers x r w)))
       go none = unfold maybe all-in in refl
       go (some w) = unfold maybe in
-          (end-in r (by-target x r seen w) w ∙ ap (λ l. all-in l (end-offers x r w)) (target-in r seen w)
-          ∙ sym (all-in-append seen (target-offers x r w) (end-offers x r w)))
+          let own = by-target x r seen w in
+          let read = reading-offers b x r w in
+          let last = end-offers x r w in
+          (end-in r (by-reading b x r own w) w ∙ ap (λ l. all-in l last) (reading-in r own w) ∙ sym (all-in-append own read last)
+          ∙ ap (λ l. all-in l (read ++ last)) (target-in r seen w) ∙ sym (all-in-append seen (target-offers x r w) (read ++ last)))
 
-  rules-in : (rs : List Rule) (seen : List Edge) → by-rules x rs seen ≡ all-in seen (all-offers x rs)
+  pub rules-in : (rs : List Rule) (seen : List Edge) → by-rules b x rs seen ≡ all-in seen (all-offers b x rs)
   unfolding by-rules all-offers all-in
   rules-in [] seen = refl
   rules-in (r ∷ rs) seen =
-      rules-in rs (by-rule x r seen) ∙ ap (λ l. all-in l (all-offers x rs)) (rule-in r seen)
-      ∙ sym (all-in-append seen (offers x r) (all-offers x rs))
+      rules-in rs (by-rule b x r seen) ∙ ap (λ l. all-in l (all-offers b x rs)) (rule-in r seen)
+      ∙ sym (all-in-append seen (offers b x r) (all-offers b x rs))
 
   -- An edge with this one's span, as all offers are
   abbrev Of : Edge → Type 0
@@ -147,16 +165,25 @@ module _ (x : Edge) where
       go [] = tt
       go (u ∷ l) = (other-of note-alt (u ++ edge-vowel x w), go l)
 
+  reading-of : (r : Rule) (w : Text) → All Of (reading-offers b x r w)
+  unfolding reading-offers
+  reading-of r w = pick-all (All Of) _
+      (maybe-all (All Of) (λ u. Unit {0}) (r .end-target) {y = []} (Opt-any (r .end-target)) tt (λ u z. (other-of note-alt2 u, tt))) tt
+
   end-of : (r : Rule) (w : Text) → All Of (end-offers x r w)
   unfolding end-offers
   end-of r w = pick-all (All Of) _ {x = other x note-alt3 w ∷ []} {y = []} (other-of note-alt3 w, tt) tt
 
-  offers-of : (rs : List Rule) → All Of (all-offers x rs)
+  offers-of : (rs : List Rule) → All Of (all-offers b x rs)
   unfolding all-offers offers
   offers-of [] = tt
-  offers-of (r ∷ rs) = All-append Of (offers x r) (all-offers x rs)
+  offers-of (r ∷ rs) = All-append Of (offers b x r) (all-offers b x rs)
       (maybe-all (All Of) (λ w. Unit {0}) (r .target) {y = []} (Opt-any (r .target)) tt
-      (λ w u. All-append Of (target-offers x r w) (end-offers x r w) (target-of r w) (end-of r w))) (offers-of rs)
+      (λ w u.
+      let read = reading-offers b x r w in
+      let last = end-offers x r w in
+      All-append Of (target-offers x r w) (read ++ last) (target-of r w)
+      (All-append Of read last (reading-of r w) (end-of r w)))) (offers-of rs)
 
   -- To look for one among those seen is to look for its text among `ws`
   abbrev Told : List Edge → List Text → Type 0
@@ -210,22 +237,22 @@ module _ (x : Edge) where
   unfolding any
   told-own seen e c p = ap (any (akin c)) e ∙ ap (λ b. b || false) (akin-of c x p (refl, refl))
 
-  rules-found : (rs : List Rule) (seen : List Edge) → starting seen (x .from) ≡ x ∷ [] → by-rules x rs seen ≡ seen ++ found-by x rs
+  rules-found : (rs : List Rule) (seen : List Edge) → starting seen (x .from) ≡ x ∷ [] → by-rules b x rs seen ≡ seen ++ found-by b x rs
   unfolding found-by
-  rules-found rs seen e = rules-in rs seen ∙ all-in-news (all-offers x rs) seen (x .text ∷ []) (offers-of rs) (told-own seen e)
+  rules-found rs seen e = rules-in rs seen ∙ all-in-news (all-offers b x rs) seen (x .text ∷ []) (offers-of rs) (told-own seen e)
 
   -- and what is found for it is not from another's start
-  found-elsewhere : (rs : List Rule) (seen : List Edge) (p : ℕ) → x .from < p → starting (seen ++ found-by x rs) p ≡ starting seen p
+  found-elsewhere : (rs : List Rule) (seen : List Edge) (p : ℕ) → x .from < p → starting (seen ++ found-by b x rs) p ≡ starting seen p
   unfolding starting found-by
   found-elsewhere rs seen p l =
       let f : Edge → Bool = λ y. eqb (y .from) p in
-      keep-append f seen (found-by x rs)
-      ∙ ap (λ k. keep f seen ++ k) (keep-none Of f (found-by x rs) (news-all Of (x .text ∷ []) (all-offers x rs) (offers-of rs))
+      keep-append f seen (found-by b x rs)
+      ∙ ap (λ k. keep f seen ++ k) (keep-none Of f (found-by b x rs) (news-all Of (x .text ∷ []) (all-offers b x rs) (offers-of rs))
       (λ c q. ne-eqb (c .from) p (λ z. let w = q .0 in omega arith)))
       ∙ append-nil (keep f seen)
 
 -- Edges that start one after the other; each is the only one from its start
-abbrev Before : Edge → Edge → Type 0
+abbrev pub Before : Edge → Edge → Type 0
 Before x y = x .from < y .from
 
 abbrev Alone : List Edge → Edge → Type 0
@@ -250,11 +277,11 @@ alone-own (x ∷ l) o =
     )
 
 -- it stays so when another edge's alternatives are added
-alone-found : (x : Edge) (rs : List Rule) (seen ys : List Edge) → All (Before x) ys → All (Alone seen) ys
-    → All (Alone (seen ++ found-by x rs)) ys
-alone-found x rs seen [] b a = tt
-alone-found x rs seen (y ∷ ys) b a =
-    (found-elsewhere x rs seen (y .from) (b .0) ∙ a .0, alone-found x rs seen ys (b .1) (a .1))
+alone-found : (c : Bool) (x : Edge) (rs : List Rule) (seen ys : List Edge) → All (Before x) ys → All (Alone seen) ys
+    → All (Alone (seen ++ found-by c x rs)) ys
+alone-found c x rs seen [] b a = tt
+alone-found c x rs seen (y ∷ ys) b a =
+    (found-elsewhere c x rs seen (y .from) (b .0) ∙ a .0, alone-found c x rs seen ys (b .1) (a .1))
 
 -- A path's edges start one after the other
 path-after : (n : ℕ) (es : List Edge) → All (Formed n) es → (k p : ℕ) → All (λ x. p ≤ x .from) (path-from k p es)
@@ -271,7 +298,7 @@ path-after n es h (suc k) p = go (right-best es p) (right-all (Formed n) p es h)
     go (some x) s f =
         let a = s .0 .forward in let b = s .1 in (omega arith, far (x .to) (omega arith) (f (x .to)))
 
-path-rises : (n : ℕ) (es : List Edge) → All (Formed n) es → (k p : ℕ) → Ordered Before (path-from k p es)
+pub path-rises : (n : ℕ) (es : List Edge) → All (Formed n) es → (k p : ℕ) → Ordered Before (path-from k p es)
 unfolding path-from
 path-rises n es h zero p = tt
 path-rises n es h (suc k) p = go (right-best es p) (right-all (Formed n) p es h) (λ q. path-rises n es h k q)
@@ -283,37 +310,37 @@ path-rises n es h (suc k) p = go (right-best es p) (right-all (Formed n) p es h)
         let a = s .0 .forward in
         (All-map (λ y m. omega arith) (path-from k (x .to) es) (path-after n es h k (x .to)), f (x .to))
 
-module _ (L : Lexicon) (t : Text) (v : View) where
+module _ (b : Bool) (L : Lexicon) (t : Text) (v : View) where
   -- The alternatives of some edges, one after another, by the rules valid for each
   unfoldable pub found-all : Mem → List Edge → List Edge
   found-all m [] = []
-  found-all m (x ∷ xs) = found-by x (valid-rules L t v m (x .from) (x .to)) ++ found-all m xs
+  found-all m (x ∷ xs) = found-by b x (valid-rules L t v m (x .from) (x .to)) ++ found-all m xs
 
   -- whatever is remembered
   pub found-alike : (m n : Mem) → Recalls L t v m n → (xs : List Edge) → found-all m xs ≡ found-all n xs
   unfolding found-all
   found-alike m n h [] = refl
   found-alike m n h (x ∷ xs) =
-      ap (λ rs. found-by x rs ++ found-all m xs) (valid-rules-alike L t v m n h (x .from) (x .to))
-      ∙ ap (λ l. found-by x (valid-rules L t v n (x .from) (x .to)) ++ l) (found-alike m n h xs)
+      ap (λ rs. found-by b x rs ++ found-all m xs) (valid-rules-alike L t v m n h (x .from) (x .to))
+      ∙ ap (λ l. found-by b x (valid-rules L t v n (x .from) (x .to)) ++ l) (found-alike m n h xs)
 
   edges-found : (xs seen : List Edge) → Ordered Before xs → All (Alone seen) xs → (m : Mem)
-      → (by-edges L t v xs seen m) .0 ≡ seen ++ found-all m xs
+      → (by-edges b L t v xs seen m) .0 ≡ seen ++ found-all m xs
   unfolding by-edges found-all ret _>>=_
   edges-found [] seen o a m = sym (append-nil seen)
   edges-found (x ∷ xs) seen o a m =
       let n = (valids L t v (x .from) (x .to) m) .1 in
       let rs = valid-rules L t v m (x .from) (x .to) in
-      ap (λ l. (by-edges L t v xs (by-rules x l seen) n) .0) (valids-are L t v (x .from) (x .to) m)
-      ∙ ap (λ l. (by-edges L t v xs l n) .0) (rules-found x rs seen (a .0))
-      ∙ edges-found xs (seen ++ found-by x rs) (o .1) (alone-found x rs seen xs (o .0) (a .1)) n
-      ∙ ap (λ l. seen ++ found-by x rs ++ l) (found-alike n m (valids-recall L t v (x .from) (x .to) m) xs)
-      ∙ append-assoc seen (found-by x rs) (found-all m xs)
+      ap (λ l. (by-edges b L t v xs (by-rules b x l seen) n) .0) (valids-are L t v (x .from) (x .to) m)
+      ∙ ap (λ l. (by-edges b L t v xs l n) .0) (rules-found b x rs seen (a .0))
+      ∙ edges-found xs (seen ++ found-by b x rs) (o .1) (alone-found b x rs seen xs (o .0) (a .1)) n
+      ∙ ap (λ l. seen ++ found-by b x rs ++ l) (found-alike n m (valids-recall L t v (x .from) (x .to) m) xs)
+      ∙ append-assoc seen (found-by b x rs) (found-all m xs)
 
 -- The list with alternatives is the path, then those of each of its edges
-pub alternatives-are : (L : Lexicon) (t : Text) (v : View) (n : ℕ) (es : List Edge) → All (Formed n) es → (k p : ℕ) (m : Mem)
-    → (by-edges L t v (path-from k p es) (path-from k p es) m) .0 ≡ path-from k p es ++ found-all L t v m (path-from k p es)
-alternatives-are L t v n es h k p m =
+pub alternatives-are : (b : Bool) (L : Lexicon) (t : Text) (v : View) (n : ℕ) (es : List Edge) → All (Formed n) es → (k p : ℕ) (m : Mem)
+    → (by-edges b L t v (path-from k p es) (path-from k p es) m) .0 ≡ path-from k p es ++ found-all b L t v m (path-from k p es)
+alternatives-are b L t v n es h k p m =
     let xs = path-from k p es in
     let o = path-rises n es h k p in
-    edges-found L t v xs xs o (alone-own xs o) m
+    edges-found b L t v xs xs o (alone-own xs o) m

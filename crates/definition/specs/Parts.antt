@@ -108,6 +108,7 @@ part-accepted i e x w y q = record {
       mode = a .mode;
       capitals = a .capitals;
       o-ang = a .o-ang;
+      readings = a .readings;
       rules = a .rules;
       classes = a .classes;
       vowels = a .vowels;

@@ -7,9 +7,9 @@ use lib.Dec.{eqb}
 use lib.ListN.{length, take, drop}
 use Rattle.base.specs.Pick.{pick}
 use Rattle.base.specs.Lists.{keep, is, maybe, same}
-use Rattle.definition.specs.Notes.{note-core, note-alt, note-alt3}
+use Rattle.definition.specs.Notes.{note-core, note-alt, note-alt2, note-alt3}
 use Rattle.definition.specs.Texts.{Text}
-use Rattle.definition.specs.Tables.{Rule, Lexicon, Tables, lexicon}
+use Rattle.definition.specs.Tables.{Rule, Choices, Lexicon, Tables, lexicon}
 use Rattle.definition.specs.Edges.{Edge, View, M, State, starting, right-best, new-in, view, ret, _>>=_}
 use Rattle.definition.specs.Rules.{valids}
 
@@ -54,26 +54,35 @@ by-target x r seen w =
     pick (same w (x .text) || cored x w)
     (also-all x (pick (cored x w) (drop (x .core) (x .text)) []) (r .others) seen) seen
 
--- and where its end target is the edge's text, its target. (Where its target is the edge's text, "rom-alt2" would
--- give that target again, which is there already: Alt2)
+-- are readings chosen? What asks it takes the answer, `b`
+abbrev pub reads : Choices → Bool
+reads c = eqb (c .readings) 1
+
+-- Where they are, and its target is the edge's text, its end target. (The Rust's "rom-alt2" stands here, and gives that target
+-- again, which is there already: Alt2)
+unfoldable pub by-reading : Bool → Edge → Rule → List Edge → Text → List Edge
+by-reading b x r seen w =
+    pick (b && same w (x .text)) (maybe (r .end-target) seen (λ u. new-in akin seen (other x note-alt2 u))) seen
+
+-- and where its end target is the edge's text, its target
 unfoldable pub by-end-target : Edge → Rule → List Edge → Text → List Edge
 by-end-target x r seen w =
     pick (is (λ u. same u (x .text)) (r .end-target)) (new-in akin seen (other x note-alt3 w)) seen
 
 -- a rule without target gives nothing
-unfoldable pub by-rule : Edge → Rule → List Edge → List Edge
-by-rule x r seen = maybe (r .target) seen (λ w. by-end-target x r (by-target x r seen w) w)
+unfoldable pub by-rule : Bool → Edge → Rule → List Edge → List Edge
+by-rule b x r seen = maybe (r .target) seen (λ w. by-end-target x r (by-reading b x r (by-target x r seen w) w) w)
 
-unfoldable pub by-rules : Edge → List Rule → List Edge → List Edge
-by-rules x [] seen = seen
-by-rules x (r ∷ rs) seen = by-rules x rs (by-rule x r seen)
+unfoldable pub by-rules : Bool → Edge → List Rule → List Edge → List Edge
+by-rules b x [] seen = seen
+by-rules b x (r ∷ rs) seen = by-rules b x rs (by-rule b x r seen)
 
 -- each edge of the path in turn, by the valid rules of its span
-unfoldable pub by-edges : Lexicon → Text → View → List Edge → List Edge → M (List Edge)
-by-edges L t v [] seen = ret seen
-by-edges L t v (x ∷ xs) seen = do
+unfoldable pub by-edges : Bool → Lexicon → Text → View → List Edge → List Edge → M (List Edge)
+by-edges b L t v [] seen = ret seen
+by-edges b L t v (x ∷ xs) seen = do
   rs ← valids L t v (x .from) (x .to)
-  by-edges L t v xs (by-rules x rs seen)
+  by-edges b L t v xs (by-rules b x rs seen)
 
 -- All edges (`all_edges`): by start, longer first, then as added. From `p`, at most `k` wide; from `p` on, `k` starts
 unfoldable pub longer : List Edge → ℕ → ℕ → List Edge
@@ -91,7 +100,7 @@ module _ (D : Tables) (t : Text) where
 
   unfoldable pub with-alternatives-of : State → List Edge
   with-alternatives-of st =
-      (by-edges (lexicon D) t (view (D .classes) (st .0)) (path-of st) (path-of st) (st .1)) .0
+      (by-edges (reads (D .choices)) (lexicon D) t (view (D .classes) (st .0)) (path-of st) (path-of st) (st .1)) .0
 
   unfoldable pub all-edges-of : State → List Edge
   all-edges-of st = sorted (st .0) (length t) 0

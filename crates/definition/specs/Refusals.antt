@@ -18,6 +18,10 @@ refused-capitals = 12
 abbrev pub refused-o-ang : ℕ
 refused-o-ang = 15
 
+-- the choice of end-of-syllable readings among the alternatives
+abbrev pub refused-readings : ℕ
+refused-readings = 17
+
 -- the rule table: its header or a length; a flag or count out of its range; a character of a source or a language code;
 -- a byte of a target; the order of its rows; too many rows. (2 stood for all of these and is not returned)
 abbrev pub refused-length : ℕ
@@ -78,7 +82,7 @@ refused-output = 11
 -- all of them
 abbrev pub numbers : List ℕ
 numbers =
-    refused-mode ∷ refused-capitals ∷ refused-o-ang
+    refused-mode ∷ refused-capitals ∷ refused-o-ang ∷ refused-readings
     ∷ refused-length ∷ refused-range ∷ refused-letter ∷ refused-byte ∷ refused-order ∷ refused-rows
     ∷ refused-classes ∷ refused-vowels ∷ refused-decompositions ∷ refused-code
     ∷ refused-utf8 ∷ refused-too-long ∷ refused-left-out ∷ refused-slots ∷ refused-room ∷ refused-edge-text ∷ refused-output ∷ []

@@ -81,18 +81,21 @@ sample-vowels = block (vowel 5 "a" ++ vowel 6 "a")
 abbrev pub no-decompositions : List ℕ
 no-decompositions = block []
 
--- Choices: these numbers for capitals and for O ang; one of them alone; or none, as the port has it
-abbrev pub choose : ℕ → ℕ → Choices
-choose capitals o-ang = record { capitals = capitals; o-ang = o-ang }
+-- Choices: these numbers for capitals, for O ang and for readings; one of them alone; or none, as the port has it
+abbrev pub choose : ℕ → ℕ → ℕ → Choices
+choose capitals o-ang readings = record { capitals = capitals; o-ang = o-ang; readings = readings }
 
 abbrev pub capitals-by : ℕ → Choices
-capitals-by n = choose n 0
+capitals-by n = choose n 0 0
 
 abbrev pub o-ang-by : ℕ → Choices
-o-ang-by n = choose 0 n
+o-ang-by n = choose 0 n 0
+
+abbrev pub readings-by : ℕ → Choices
+readings-by n = choose 0 0 n
 
 abbrev pub as-port : Choices
-as-port = choose 0 0
+as-port = choose 0 0 0
 
 -- A call with choices, rules and classes, and room enough; and one with the sample's
 abbrev pub sample-with : ℕ → Choices → List ℕ → List ℕ → String → String → Inputs
@@ -324,9 +327,10 @@ kata = encoded (chars "कत")
 abbrev pub refusals : List Refused
 refusals =
     refused-at 1 0 (roomed 4 [] kata 24 3 3)
-    ∷ refused-at 1 0 (chosen 4 (choose 2 2) sample-rules sample-classes sample-vowels)
-    ∷ refused-at 12 0 (chosen 0 (choose 2 2) cut sample-classes sample-vowels)
-    ∷ refused-at 15 0 (chosen 0 (choose 1 2) cut sample-classes sample-vowels)
+    ∷ refused-at 1 0 (chosen 4 (choose 2 2 2) sample-rules sample-classes sample-vowels)
+    ∷ refused-at 12 0 (chosen 0 (choose 2 2 2) cut sample-classes sample-vowels)
+    ∷ refused-at 15 0 (chosen 0 (choose 1 2 2) cut sample-classes sample-vowels)
+    ∷ refused-at 17 0 (chosen 0 (choose 1 1 2) cut sample-classes sample-vowels)
     ∷ refused-at 20 5 (tabled cut sample-classes sample-vowels)
     ∷ refused-at 3 5 (tabled sample-rules (block (class-by 0x20 7 0 lower-case)) sample-vowels)
     ∷ refused-at 3 5 (tabled sample-rules cut sample-vowels)

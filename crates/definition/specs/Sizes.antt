@@ -16,7 +16,7 @@ use Rattle.definition.specs.Blocks.{head-bytes, version-1, headed}
 use Rattle.definition.specs.Utf8.{encoded}
 use Rattle.definition.specs.Tables.{lexicon}
 use Rattle.definition.specs.Edges.{Edge, view}
-use Rattle.definition.specs.Paths.{path-of, with-alternatives-of, all-edges-of}
+use Rattle.definition.specs.Paths.{reads, path-of, with-alternatives-of, all-edges-of}
 use Rattle.definition.specs.Decomposing.{lattice, edges, edge-count, path, with-alternatives, alternatives, all-edges}
 use Rattle.definition.specs.Listing.{row-head-bytes, edge-row, edge-rows, block, listing, shown}
 use Rattle.definition.specs.Capacity.{bytes}
@@ -24,6 +24,7 @@ use Rattle.definition.specs.Call.{Inputs, tables-of, tables, decompositi
 use Rattle.definition.specs.Accepted.{accepted-of, rules-few}
 use Rattle.definition.specs.Promises.{few-characters, few-edges, Held, sound-edges}
 use Rattle.definition.specs.Alternatives.{path-sound, listed}
+use Rattle.definition.specs.Alt2.{in-own}
 use Rattle.definition.specs.Counts.{path-few, rules-others, for-edge, edges-grown}
 use Rattle.definition.specs.AllEdges.{sorted-all, sorted-few}
 
@@ -101,7 +102,7 @@ module _ (i : Inputs) (ok : refusal i ≡ none) (held : Held i) where
       let n = rules-few (i .rules) (accepted-of i ok .rules) in
       let o = rules-others (i .rules) (accepted-of i ok .rules) in
       let xs = path-of D t st in
-      let g = edges-grown (lexicon D) t (view (D .classes) (st .0)) n o xs xs .gives (st .1) .few in
+      let g = edges-grown (lexicon D) t (view (D .classes) (st .0)) (reads (D .choices)) n o xs xs (in-own xs) .gives (st .1) .few in
       let w = ap (λ (l : List Edge). length l) (listed i ok .whole) in
       omega (arith, length-append (path D (decompositions i) t) (alternatives D (decompositions i) t))
 

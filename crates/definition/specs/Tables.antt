@@ -121,6 +121,8 @@ pub record Choices : Type 0 where
   pub capitals : ℕ
   -- the walk back behind O ang ends at a space
   pub o-ang : ℕ
+  -- end-of-syllable readings among the alternatives
+  pub readings : ℕ
 
 -- What the choice of a rule depends on
 pub record Lexicon : Type 0 where
