@@ -10,7 +10,7 @@ use Rattle.definition.specs.Texts.{chars}
 use Rattle.definition.specs.Listing.{block}
 use Rattle.definition.specs.Call.{called}
 use Rattle.definition.specs.Compute.{compute}
-use Rattle.definition.specs.Sample.{joint, threes, sized, rule, sample-classes, choose, sample-with, gave}
+use Rattle.definition.specs.Sample.{joint, threes, sized, rule, sample-classes, readings-by, sample-with, gave}
 
 -- A rule with a count, a source, a target, an end target and alternatives
 abbrev texts : List String → List ℕ
@@ -21,7 +21,7 @@ abbrev by-flags : ℕ → ℕ → String → List String → List String → Lis
 by-flags flags count c w others =
     sized (flags ∷ (two count ++ (length (chars c) ∷ (threes (chars c) ++ 0 ∷ (texts w ++ length others ∷ texts others)))))
 
-abbrev ended : ℕ → String → String → String → List String → List ℕ
+abbrev pub ended : ℕ → String → String → String → List String → List ℕ
 ended count c w u others = by-flags 96 count c (w ∷ u ∷ []) others
 
 -- one with an end target alone
@@ -34,7 +34,7 @@ edge from to note core w = sized (two from ++ (two to ++ note ∷ core ∷ chars
 
 -- Mode 2 of a text by some rules lists these edges, with this choice of readings
 abbrev lists : ℕ → List (List ℕ) → String → List (List ℕ) → Bool
-lists n rules text es = gave (called (sample-with 2 (choose 0 0 n) (block (joint rules)) sample-classes "" text)) (block (joint es))
+lists n rules text es = gave (called (sample-with 2 (readings-by n) (block (joint rules)) sample-classes "" text)) (block (joint es))
 
 -- of ж, whose path has the one edge "k"
 abbrev offers : ℕ → List (List ℕ) → List (List ℕ) → Bool

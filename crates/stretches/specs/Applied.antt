@@ -1,5 +1,5 @@
 -- Demand 3 applied: its premises met by document 01's sample tables, its equations for a line of two words, for a word
--- where capitals are chosen and for one with a character that stands for others, a text for which it would be false
+-- where capitals are chosen, where readings are, and for one with a character that stands for others, a text for which it would be false
 -- without the premise on U+0E2D, and the same text with the choice of O ang 1, where nothing is asked.
 use mathlib.Core.Bool.{true, not, true≢false}
 use mathlib.Core.Path.{_≡_, refl, sym, _∙_, ap}
@@ -12,18 +12,19 @@ use lib.ListN.{length}
 use borrow.Author.Tests.{eq-eqb}
 use Rattle.base.specs.Lists.{keep, all, tail}
 use Rattle.base.specs.Alls.{All-getD, all-all}
-use Rattle.definition.specs.Notes.{note-rom, note-core, note-exp, note-single, note-Zs, note-orig, note-decomp}
+use Rattle.definition.specs.Notes.{note-rom, note-core, note-exp, note-single, note-Zs, note-orig, note-alt2, note-decomp}
 use Rattle.definition.specs.Texts.{Text, chars, the-space, o-ang, at}
 use Rattle.definition.specs.Utf8.{encoded}
 use Rattle.definition.specs.Tables.{Choices}
 use Rattle.definition.specs.Edges.{Edge}
 use Rattle.definition.specs.Building.{single}
 use Rattle.definition.specs.Paths.{joined}
-use Rattle.definition.specs.Decomposing.{edges, path}
+use Rattle.definition.specs.Decomposing.{edges, path, alternatives}
 use Rattle.definition.specs.Listing.{block}
 use Rattle.definition.specs.Call.{Inputs, tables, decompositions, characters}
 use Rattle.definition.specs.Compute.{compute}
-use Rattle.definition.specs.Sample.{sample-rules, sample-classes-by, sample-classes, capitals-by, o-ang-by, as-port, lower-case, sample-with, sample}
+use Rattle.definition.specs.Sample.{sample-rules, sample-classes-by, sample-classes, capitals-by, o-ang-by, readings-by, as-port, lower-case, sample-with, sample}
+use Rattle.definition.specs.SampleReadings.{ended}
 use Rattle.definition.specs.Parts.{Accepts}
 use Rattle.stretches.specs.Demand.{spaceless, spaceless-if, spaceless-rule, Taken, has-row, space-edge, over, Before, start, After, end, First, First-if, within, shift, Alone}
 use Rattle.stretches.specs.Proved.{demand}
@@ -106,6 +107,27 @@ pub capital-edges :
     ≡ edge 2 3 note-rom 0 "Zh" ∷ edge 3 4 note-rom 0 "zh" ∷ []
 unfolding compute shift
 capital-edges = capital-word .0 .edges
+
+-- Readings chosen: the rule's target is "k", its end-of-syllable target "t"
+abbrev reading-line : Inputs
+reading-line = sample-with 2 (readings-by 1) (block (ended 0 "ж" "k" "t" [])) sample-classes "" "ж ж"
+
+pub reading-taken : Taken reading-line
+unfolding compute spaceless spaceless-if spaceless-rule
+reading-taken = record { accepted = refl; no-space = refl }
+
+pub reading-word : Alone (tables reading-line) (decompositions reading-line) (characters reading-line) (chars "ж") 2
+    × Accepts reading-line (chars "ж")
+unfolding compute
+reading-word = demand reading-line reading-taken .stretches (chars "ж ") (chars "ж") [] refl (Before.space (chars "ж")) end
+    (λ z. first-by (chars "ж") refl)
+
+-- The word's alternatives alone, moved by 2: that reading
+pub reading-alternatives :
+    keep (within 2 1) (alternatives (tables reading-line) (decompositions reading-line) (characters reading-line))
+    ≡ edge 2 3 note-alt2 0 "t" ∷ []
+unfolding compute shift
+reading-alternatives = reading-word .0 .alternatives
 
 -- ½ stands for 1, the fraction slash and 2; ½ and 1 are numbers. There is no rule
 abbrev pub halves : ℕ → String → Inputs

@@ -23,7 +23,7 @@ use Rattle.definition.specs.Decomposing.{edges, path, with-alternatives, altern
 use Rattle.definition.specs.Call.{Inputs, tables, decompositions, characters, refusal}
 use Rattle.definition.specs.Parts.{Accepts}
 
--- Take an accepted text (mode, choices, tables, code and text are bytes, and none of refusals 1 to 8, 12 and 13 is given),
+-- Take an accepted text (mode, choices, tables, code and text are bytes, and none of these is refused),
 -- and rules with no space in any source or target text (a rule's alternatives may have some)
 unfoldable pub spaceless : Text → Bool
 spaceless w = all (λ c. not (eqb c the-space)) w
