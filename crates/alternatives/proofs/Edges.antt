@@ -102,11 +102,11 @@ rows-few b w at n e f r =
     let k = length-take-le n (rules-from b at) (r .enough) in
     omega (arith, z, k, keep-most (λ r. same (r .source) w) (rules-of b), rules-few b e)
 
-module _ (L : Lexicon) (t : Text) (v : View) where
+module _ (y : Bool) (L : Lexicon) (t : Text) (v : View) where
   -- One edge's alternatives, or none
-  found-one : (m : Mem) (x : Edge) → found-by x (valid-rules L t v m (x .from) (x .to)) ≡ found-all L t v m (x ∷ [])
+  found-one : (m : Mem) (x : Edge) → found-by y x (valid-rules L t v m (x .from) (x .to)) ≡ found-all y L t v m (x ∷ [])
   unfolding found-all
-  found-one m x = sym (append-nil (found-by x (valid-rules L t v m (x .from) (x .to))))
+  found-one m x = sym (append-nil (found-by y x (valid-rules L t v m (x .from) (x .to))))
 
   -- The rules of a span that hold, as they were found and asked
   pub valid-found : (m : Mem) (s e : ℕ) (rs : List Rule) → rs ≡ keep (spans t s e) (L .rules)
@@ -120,9 +120,9 @@ module _ (L : Lexicon) (t : Text) (v : View) where
 
   -- and what is found by them for an edge with that span
   pub found-edge : (m : Mem) (e : Numbers) (b : List ℕ) (rs : List Rule) → rs ≡ valid-rules L t v m (e .from) (e .to)
-      → found-by (edge-by e b) rs ≡ found-all L t v m (edge-by e b ∷ [])
+      → found-by y (edge-by e b) rs ≡ found-all y L t v m (edge-by e b ∷ [])
   unfolding edge-by
-  found-edge m e b rs p = ap (found-by (edge-by e b)) p ∙ found-one m (edge-by e b)
+  found-edge m e b rs p = ap (found-by y (edge-by e b)) p ∙ found-one m (edge-by e b)
 
   -- what asking the start leaves is remembered as asking would answer
   module _ (m k : Mem) (p : ℕ) (a : Bool) (d : Did (word-start (L .classes) t v p m) a k) where
@@ -134,26 +134,26 @@ module _ (L : Lexicon) (t : Text) (v : View) where
     start-recalls = subst (λ k. Recalls L t v k m) (sym (d .memory)) (asked-recalls L t v p m)
 
   -- none
-  pub found-nothing : (m : Mem) → [] ≡ found-all L t v m []
+  pub found-nothing : (m : Mem) → [] ≡ found-all y L t v m []
   unfolding found-all
   found-nothing m = refl
 
-  found-join : (m : Mem) (o : Option Edge) (l : List Edge) → found-all L t v m (join o l) ≡ found-all L t v m (join o []) ++ found-all L t v m l
+  found-join : (m : Mem) (o : Option Edge) (l : List Edge) → found-all y L t v m (join o l) ≡ found-all y L t v m (join o []) ++ found-all y L t v m l
   unfolding found-all
   found-join m none l = refl
-  found-join m (some x) l = ap (λ k. k ++ found-all L t v m l) (found-one m x)
+  found-join m (some x) l = ap (λ k. k ++ found-all y L t v m l) (found-one m x)
 
   -- those of the best edge at `p` written, the rest of the path goes on behind them
   pub found-on : (es : List Edge) (o : Option Edge) (k p q : ℕ) (m m₀ : Mem) (w u : Written) → o ≡ right-best es p → q ≡ next o p
-      → Recalls L t v m m₀ → w ≡ put-items true (found-all L t v m (join o [])) u
-      → put-items true (found-all L t v m₀ (path-from k q es)) w ≡ put-items true (found-all L t v m₀ (path-from (suc k) p es)) u
+      → Recalls L t v m m₀ → w ≡ put-items true (found-all y L t v m (join o [])) u
+      → put-items true (found-all y L t v m₀ (path-from k q es)) w ≡ put-items true (found-all y L t v m₀ (path-from (suc k) p es)) u
   unfolding path-from
   found-on es o k p q m m₀ w u b n h e =
-      let rest = found-all L t v m₀ (path-from k q es) in
-      ap (put-items true rest) (e ∙ ap (λ l. put-items true l u) (found-alike L t v m m₀ h (join o [])))
-      ∙ sym (put-items-append true (found-all L t v m₀ (join o [])) rest u)
+      let rest = found-all y L t v m₀ (path-from k q es) in
+      ap (put-items true rest) (e ∙ ap (λ l. put-items true l u) (found-alike y L t v m m₀ h (join o [])))
+      ∙ sym (put-items-append true (found-all y L t v m₀ (join o [])) rest u)
       ∙ ap (λ l. put-items true l u) (sym (found-join m₀ o (path-from k q es)))
-      ∙ ap (λ l. put-items true (found-all L t v m₀ l) u)
+      ∙ ap (λ l. put-items true (found-all y L t v m₀ l) u)
       (ap (λ q. join o (path-from k q es)) n ∙ ap (λ o. join o (path-from k (next o p) es)) b)
 
 -- the best edge at a position is one of all

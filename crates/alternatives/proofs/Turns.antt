@@ -15,7 +15,6 @@ use Rattle.base.specs.Lists.{put, keep, any, same}
 use Rattle.base.specs.ListLaws.{any-append, keep-append}
 use Rattle.base.specs.Alls.{All}
 use Rattle.definition.specs.Limits.{most-alternative}
-use Rattle.definition.specs.Notes.{note-alt, note-alt3}
 use Rattle.definition.specs.Texts.{Text}
 use Rattle.definition.specs.Tables.{Rule}
 use Rattle.definition.specs.Capacity.{bytes}
@@ -35,7 +34,7 @@ use Rattle.words.specs.Found.{Rows, rules-in, none-in, one-in, row-there}
 use Rattle.marks.specs.Marked.{Marked}
 use Rattle.offers.specs.declared.Asked.{Asked}
 use Rattle.offers.specs.declared.Offers.{Offers}
-use Rattle.offers.specs.Texts.{texts, Spoken, Tells, count-of, holding, count-is, texts-count, text-at, offered-other, offered-target}
+use Rattle.offers.specs.Texts.{texts, Spoken, Tells, count-of, holding, count-is, texts-count, text-at, note-at, noted}
 use Rattle.offers.proofs.Telling.{same-bytes}
 use Rattle.alternatives.specs.News.{offered, earlier, holding-offers, offer-bytes}
 
@@ -66,15 +65,6 @@ module _ (e : Numbers) (b w : List ℕ) (h : Spoken e b) (l : All Low w) (ws : L
   pub other-again : same w b ≡ false → (t : Bool) → t ≡ any (same w) ws → not t ≡ not (any (same w) (own ∷ ws))
   unfolding any
   other-again q t p = ap not (p ∙ sym (ap (λ (y : Bool). y || any (same w) ws) (own-same ∙ q)))
-
--- The annotation by the number
-pub alt-note : (k n : ℕ) → k < n → note-alt ≡ pick (ltb k n) note-alt note-alt3
-unfolding pick
-alt-note k n h = sym (rw (lt-ltb k n h))
-
-pub alt3-note : (k n : ℕ) → n ≤ k → note-alt3 ≡ pick (ltb k n) note-alt note-alt3
-unfolding pick
-alt3-note k n h = sym (rw (le-ltb k n h))
 
 -- One edge, where it is new: it takes so many bytes at most
 module _ (at : ℕ) (out : List ℕ) (new : Bool) (e : Numbers) (note : ℕ) (w : Text) where
@@ -132,9 +122,9 @@ drop-more : {A : Type 0} (l m : List A) (k : ℕ) (a : A) → drop k l ≡ a ∷
 drop-more l m k a e = sym (drop-drop 1 k l) ∙ ap (drop 1) e
 
 -- A row's offers, from number `k` on
-module _ (e : Numbers) (b : List ℕ) (r : Rule) (o : Offers) (h : Tells (edge-by e b) r o) (ws : List Text) (k : ℕ) where
+module _ (y : Bool) (e : Numbers) (b : List ℕ) (r : Rule) (o : Offers) (h : Tells y (edge-by e b) r o) (ws : List Text) (k : ℕ) where
   abbrev O : List Edge
-  O = offers (edge-by e b) r
+  O = offers y (edge-by e b) r
 
   abbrev T : List Text
   T = texts O
@@ -158,20 +148,9 @@ module _ (e : Numbers) (b : List ℕ) (r : Rule) (o : Offers) (h : Tells (edge-b
     there = drop-cons O k d (omega (arith, l, count-is h))
 
     -- the one with this number
-    numbered : (n : ℕ) → n ≡ pick (ltb k (o .others)) note-alt note-alt3 → getD O k d ≡ other (edge-by e []) n U
-    unfolding count-of
-    numbered n q = go (decLt k (o .others))
-      where
-        few : pick (o .target) 1 0 ≤ 1
-        few = pick-all (λ n. n ≤ 1) (o .target) {x = 1} {y = 0} (omega arith) (omega arith)
-
-        own : other (edge-by e b) n U ≡ other (edge-by e []) n U
-        own = unfold other edge-by in refl
-
-        go : Dec (k < o .others) → getD O k d ≡ other (edge-by e []) n U
-        go (yes z) = offered-other h k d z ∙ ap (λ m. other (edge-by e b) m U) (alt-note k (o .others) z ∙ sym q) ∙ own
-        go (no z) =
-            offered-target h k d (omega (arith, l, few)) l ∙ ap (λ m. other (edge-by e b) m U) (alt3-note k (o .others) (omega arith) ∙ sym q) ∙ own
+    numbered : (n : ℕ) → n ≡ note-at o k → getD O k d ≡ other (edge-by e []) n U
+    unfolding other edge-by
+    numbered n q = noted h k d l ∙ ap (λ m. other (edge-by e b) m U) (sym q)
 
     -- one text more
     pub texts-on : (w : Text) → w ≡ U → (us : List Text) → (us ++ take k T) ++ w ∷ [] ≡ us ++ take (k + 1) T
@@ -179,7 +158,7 @@ module _ (e : Numbers) (b : List ℕ) (r : Rule) (o : Offers) (h : Tells (edge-b
         ∙ ap (λ l. us ++ l) (ap (λ t. take k T ++ t ∷ []) u
         ∙ sym (take-more T (drop (suc k) T) k U (drop-cons T k [] (omega (arith, l, texts-count h)))))
 
-    pub offers-on : (new : Bool) (n : ℕ) (w : Text) (p v : Written) → n ≡ pick (ltb k (o .others)) note-alt note-alt3 → w ≡ U
+    pub offers-on : (new : Bool) (n : ℕ) (w : Text) (p v : Written) → n ≡ note-at o k → w ≡ U
         → new ≡ not (any (same w) (ws ++ take k T)) → p ≡ put-items true (put new (other (edge-by e []) n w) []) v
         → put-items true (news (ws ++ take (k + 1) T) (drop (k + 1) O)) p ≡ put-items true (news (ws ++ take k T) (drop k O)) v
     unfolding news
@@ -213,23 +192,23 @@ module _ (e : Numbers) (b : List ℕ) (r : Rule) (o : Offers) (h : Tells (edge-b
             ∙ ap (λ l. put new (other (edge-by e []) n w) (news (ws ++ take (k + 1) T) l)) rest)
 
 -- A row whose rule holds, and one whose rule does not
-module _ (x : Edge) (r : Rule) (ws : List Text) (hold : Bool) where
-  pub one-holds : hold ≡ true → news ws (offers x r) ≡ news ws (all-offers x (put hold r []))
+module _ (y : Bool) (x : Edge) (r : Rule) (ws : List Text) (hold : Bool) where
+  pub one-holds : hold ≡ true → news ws (offers y x r) ≡ news ws (all-offers y x (put hold r []))
   unfolding all-offers
-  one-holds h = ap (news ws) (sym (append-nil (offers x r)) ∙ ap (λ b. all-offers x (put b r [])) (sym h))
+  one-holds h = ap (news ws) (sym (append-nil (offers y x r)) ∙ ap (λ b. all-offers y x (put b r [])) (sym h))
 
-  pub none-holds : hold ≡ false → [] ≡ news ws (all-offers x (put hold r []))
+  pub none-holds : hold ≡ false → [] ≡ news ws (all-offers y x (put hold r []))
   unfolding all-offers news
-  none-holds h = ap (λ b. news ws (all-offers x (put b r []))) (sym h)
+  none-holds h = ap (λ b. news ws (all-offers y x (put b r []))) (sym h)
 
   -- what is marked then
-  pub marked-holds : (cells : List ℕ) → hold ≡ true → Marked (ws ++ texts (offers x r)) cells → Marked (ws ++ texts (all-offers x (put hold r []))) cells
+  pub marked-holds : (cells : List ℕ) → hold ≡ true → Marked (ws ++ texts (offers y x r)) cells → Marked (ws ++ texts (all-offers y x (put hold r []))) cells
   unfolding all-offers
-  marked-holds cells h m = subst (λ l. Marked (ws ++ texts l) cells) (sym (append-nil (offers x r)) ∙ ap (λ b. all-offers x (put b r [])) (sym h)) m
+  marked-holds cells h m = subst (λ l. Marked (ws ++ texts l) cells) (sym (append-nil (offers y x r)) ∙ ap (λ b. all-offers y x (put b r [])) (sym h)) m
 
-  pub marked-not : (cells : List ℕ) → hold ≡ false → Marked ws cells → Marked (ws ++ texts (all-offers x (put hold r []))) cells
+  pub marked-not : (cells : List ℕ) → hold ≡ false → Marked ws cells → Marked (ws ++ texts (all-offers y x (put hold r []))) cells
   unfolding all-offers
-  marked-not cells h m = subst (λ l. Marked l cells) (sym (append-nil ws) ∙ ap (λ b. ws ++ texts (all-offers x (put b r []))) (sym h)) m
+  marked-not cells h m = subst (λ l. Marked l cells) (sym (append-nil ws) ∙ ap (λ b. ws ++ texts (all-offers y x (put b r []))) (sym h)) m
 
 -- Some rows, `before` of them done
 module _ (x : Edge) (code : Text) (a : Asked) (rules : List ℕ) where
@@ -238,16 +217,16 @@ module _ (x : Edge) (code : Text) (a : Asked) (rules : List ℕ) where
 
   -- what is left of them, from `row` on
   abbrev pub left-news : ℕ → ℕ → ℕ → List Edge
-  left-news before row left = news (earlier x code a rules before) (all-offers x (holding code (a .start) (a .end) rules row left))
+  left-news before row left = news (earlier x code a rules before) (all-offers (a .readings) x (holding code (a .start) (a .end) rules row left))
 
-  pub rows-begun : (n : ℕ) → left-news 0 (a .first) n ≡ found-by x (holding code (a .start) (a .end) rules (a .first) n)
+  pub rows-begun : (n : ℕ) → left-news 0 (a .first) n ≡ found-by (a .readings) x (holding code (a .start) (a .end) rules (a .first) n)
   unfolding found-by keep all-offers
   rows-begun n = refl
 
   pub rows-over : (before row left : ℕ) → left ≡ 0 → left-news before row left ≡ []
   unfolding news all-offers keep
   rows-over before row left h =
-      ap (λ l. news (earlier x code a rules before) (all-offers x (keep hold l))) (none-in rules row left h)
+      ap (λ l. news (earlier x code a rules before) (all-offers (a .readings) x (keep hold l))) (none-in rules row left h)
 
   module _ (before row left : ℕ) (h : 0 < left) (k : Rows rules row left) (s : rules-from rules row ≡ drop before (rules-from rules (a .first)))
       (z : ℕ) (q : z ≡ rule-size (drop row rules)) where
@@ -268,9 +247,9 @@ module _ (x : Edge) (code : Text) (a : Asked) (rules : List ℕ) where
 
     offered-on : offered x code a rules (before + 1) ≡ offered x code a rules before ++ texts (holding-offers x code a r)
     offered-on =
-        ap (λ l. texts (all-offers x l)) done
-        ∙ ap texts (all-offers-append x (holding code (a .start) (a .end) rules (a .first) before) (put (hold r) r []))
-        ∙ map-append (λ (c : Edge). c .text) (all-offers x (holding code (a .start) (a .end) rules (a .first) before)) (holding-offers x code a r)
+        ap (λ l. texts (all-offers (a .readings) x l)) done
+        ∙ ap texts (all-offers-append (a .readings) x (holding code (a .start) (a .end) rules (a .first) before) (put (hold r) r []))
+        ∙ map-append (λ (c : Edge). c .text) (all-offers (a .readings) x (holding code (a .start) (a .end) rules (a .first) before)) (holding-offers x code a r)
 
     pub marked-on : (cells : List ℕ) → Marked (offered x code a rules before ++ texts (holding-offers x code a r)) cells
         → Marked (offered x code a rules (before + 1)) cells
@@ -299,11 +278,11 @@ module _ (x : Edge) (code : Text) (a : Asked) (rules : List ℕ) where
         A = news ws (holding-offers x code a r)
 
         rest : List Edge
-        rest = all-offers x (holding code (a .start) (a .end) rules (row + z) (left - 1))
+        rest = all-offers (a .readings) x (holding code (a .start) (a .end) rules (row + z) (left - 1))
 
         split : left-news before row left ≡ A ++ left-news (before + 1) (row + z) (left - 1)
         split =
-            ap (λ l. news ws (all-offers x l)) to-come
-            ∙ ap (news ws) (all-offers-append x (put (hold r) r []) (holding code (a .start) (a .end) rules (row + z) (left - 1)))
+            ap (λ l. news ws (all-offers (a .readings) x l)) to-come
+            ∙ ap (news ws) (all-offers-append (a .readings) x (put (hold r) r []) (holding code (a .start) (a .end) rules (row + z) (left - 1)))
             ∙ news-append ws (holding-offers x code a r) rest
             ∙ ap (λ l. A ++ news l rest) (sym earlier-on)

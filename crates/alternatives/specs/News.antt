@@ -17,19 +17,19 @@ use Rattle.offers.specs.Texts.{texts, most-offers, holding}
 
 -- the texts that the first `n` rows of an edge offer it
 abbrev pub offered : Edge → Text → Asked → List ℕ → ℕ → List Text
-offered x code a rules n = texts (all-offers x (holding code (a .start) (a .end) rules (a .first) n))
+offered x code a rules n = texts (all-offers (a .readings) x (holding code (a .start) (a .end) rules (a .first) n))
 
 -- and its own before them
 abbrev pub earlier : Edge → Text → Asked → List ℕ → ℕ → List Text
 earlier x code a rules n = x .text ∷ offered x code a rules n
 
 -- the first `k` texts that the rule in a row offers it
-abbrev pub row-offered : Edge → List ℕ → ℕ → ℕ → List Text
-row-offered x rules row k = take k (texts (offers x (rule-of (drop row rules))))
+abbrev pub row-offered : Edge → Asked → List ℕ → ℕ → ℕ → List Text
+row-offered x a rules row k = take k (texts (offers (a .readings) x (rule-of (drop row rules))))
 
 -- what a rule offers it, where the rule holds
 abbrev pub holding-offers : Edge → Text → Asked → Rule → List Edge
-holding-offers x code a r = all-offers x (put (holds-at code (a .start) (a .end) r) r [])
+holding-offers x code a r = all-offers (a .readings) x (put (holds-at code (a .start) (a .end) r) r [])
 
 -- an empty filter
 abbrev pub Blank : List ℕ → Type 0

@@ -8,7 +8,7 @@ use Rattle.base.specs.Alls.{All, Opt}
 use Rattle.definition.specs.Limits.{most-characters}
 use Rattle.definition.specs.Texts.{Text}
 use Rattle.definition.specs.Edges.{Edge}
-use Rattle.definition.specs.Paths.{path-from}
+use Rattle.definition.specs.Paths.{reads, path-from}
 use Rattle.definition.specs.Recalled.{Recalls}
 use Rattle.definition.specs.Bounds.{Sound}
 use Rattle.definition.specs.Offers.{news, found-all}
@@ -58,11 +58,11 @@ PathReady rules ready line slots room starts listed =
 abbrev pub Alternatives : List ℕ → List ℕ → List ℕ → List ℕ → List ℕ → List ℕ → List Edge → Written → Written → Type 0
 Alternatives rules ready code line before after xs u o =
     (w : World) → Told w ready → Lent w line before
-    → (o ≡ put-items true (found-all (lexicon-of rules w code) (w .text) (seen w) (memory (size w) before) xs) u)
+    → (o ≡ put-items true (found-all (reads (w .choices)) (lexicon-of rules w code) (w .text) (seen w) (memory (size w) before) xs) u)
     × Recalls (lexicon-of rules w code) (w .text) (seen w) (memory (size w) after) (memory (size w) before) × (told after ≡ told before)
 
 -- Those of the path through the edges
 abbrev pub PathAlternatives : List ℕ → List ℕ → List ℕ → List ℕ → List ℕ → List Edge → Written → Written → Type 0
 PathAlternatives rules ready code line places es u o =
     (w : World) → Told w ready → Lent w line places → es ≡ w .edges
-    → o ≡ put-items true (found-all (lexicon-of rules w code) (w .text) (seen w) (memory (size w) places) (path-from (size w) 0 (w .edges))) u
+    → o ≡ put-items true (found-all (reads (w .choices)) (lexicon-of rules w code) (w .text) (seen w) (memory (size w) places) (path-from (size w) 0 (w .edges))) u

@@ -6,13 +6,10 @@ ghost use mathlib.Core.List.{[], _∷_, _++_};
 ghost use mathlib.Core.Path.{_≡_};
 ghost use Prim.Native.Nat.{_+_, _≤_, _<_};
 ghost use lib.ListN.{take, drop};
-ghost use lib.Dec.{ltb};
 ghost use Rattle.base.specs.Lists.{put, any, same};
-ghost use Rattle.base.specs.Pick.{pick};
 ghost use Rattle.base.specs.Alls.{All};
 ghost use Rattle.definition.specs.Limits.{most-rows, most-alternative};
 ghost use Rattle.definition.specs.Shorts.{Low, Short};
-ghost use Rattle.definition.specs.Notes.{note-alt, note-alt3};
 ghost use Rattle.definition.specs.RuleRows.{rule-of};
 ghost use Rattle.definition.specs.Paths.{other, join};
 ghost use Rattle.definition.specs.Offers.{offers, found-by};
@@ -23,7 +20,7 @@ ghost use Rattle.listing.specs.Items.{Puts};
 ghost use Rattle.words.specs.Found.{Row, Rows};
 ghost use Rattle.words.specs.Given.{size-in, Prepared};
 ghost use Rattle.marks.specs.Marked.{Marked};
-ghost use Rattle.offers.specs.Texts.{texts, Spoken, holding};
+ghost use Rattle.offers.specs.Texts.{note-at, Spoken, holding};
 ghost use Rattle.alternatives.specs.News.{offered, earlier, row-offered, holding-offers, Blank, offer-bytes, edge-bytes};
 ghost use Rattle.alternatives.specs.Written.{Offering, Offered, EdgeReady, PathReady, Alternatives, PathAlternatives};
 use edge::BestEdge;
@@ -59,12 +56,12 @@ fn is_offered(
 ) -> bool
     requires { ⌜ Rows (now rules) (asked .first) before × Row (drop row (now rules)) × Spoken e (now text) ⌝ }
     ensures { λ r. ⌜ r ≡ any (same (now (w .entry))) (offered (edge-by e (now (text .entry))) (now (code .entry)) asked (now (rules .entry)) before
-        ++ take k (texts (offers (edge-by e (now (text .entry))) (rule-of (drop row (now (rules .entry))))))) ⌝ }
+        ++ row-offered (edge-by e (now (text .entry))) asked (now (rules .entry)) row k) ⌝ }
 {
     if offers::rows_offer(rules, code, asked, before, e, text, w) {
         return true;
     }
-    offers::row_offers(rules, row, e, text, k, w)
+    offers::row_offers(rules, row, asked.readings, e, text, k, w)
 }
 
 // Is a text that a row offers new: not the edge's own, and not offered before? What the filter surely doesn't hold was not offered.
@@ -81,9 +78,9 @@ fn is_new(
     w: &[u8],
 ) -> bool
     requires { ⌜ Rows (now rules) (asked .first) before × Row (drop row (now rules)) × Spoken e (now text) × All Low (now w)
-        × Marked (offered (edge-by e (now text)) (now code) asked (now rules) before ++ row-offered (edge-by e (now text)) (now rules) row k) (now cells) ⌝ }
+        × Marked (offered (edge-by e (now text)) (now code) asked (now rules) before ++ row-offered (edge-by e (now text)) asked (now rules) row k) (now cells) ⌝ }
     ensures { λ r. ⌜ r ≡ not (any (same (now (w .entry))) (earlier (edge-by e (now (text .entry))) (now (code .entry)) asked (now (rules .entry)) before
-        ++ row-offered (edge-by e (now (text .entry))) (now (rules .entry)) row k)) ⌝ }
+        ++ row-offered (edge-by e (now (text .entry))) asked (now (rules .entry)) row k)) ⌝ }
 {
     if lent_bytes::same(w, text) {
         return false;
@@ -96,12 +93,15 @@ fn is_new(
     true
 }
 
-// The annotation of text number `k` of a row: an alternative's, or that of the target, which comes after them.
+// The annotation of text number `k` of a row: an alternative's, then that of the end-of-syllable target, then the target's.
 fn note_of(o: Offers, k: usize) -> u8
-    ensures { λ r. ⌜ r ≡ pick (ltb k (o .others)) note-alt note-alt3 ⌝ }
+    ensures { λ r. ⌜ r ≡ note-at o k ⌝ }
 {
     if k < o.others {
         return edge::ALT;
+    }
+    if offers::is_reading(o, k) {
+        return edge::ALT2;
     }
     edge::ALT3
 }
@@ -138,16 +138,16 @@ fn put_offers(
 ) -> usize
     requires { ⌜ Offering (now rules) (now code) asked before row e (now text) at (now cells) ⌝ }
     ensures { λ r. ⌜ Offered (now (rules .entry)) (now (code .entry)) asked before (edge-by e (now (text .entry)))
-        (offers (edge-by e (now (text .entry))) (rule-of (drop row (now (rules .entry)))))
+        (offers (asked .readings) (edge-by e (now (text .entry))) (rule-of (drop row (now (rules .entry)))))
         (at, now (out .entry)) (r, now (out .exit)) (now (cells .exit)) ⌝ }
 {
-    let o = offers::offers_of(rules, row, e, text);
+    let o = offers::offers_of(rules, row, asked.readings, e, text);
     let n = offers::offers_count(o);
     let mut bytes = [0u8; offers::MOST_OFFER];
     let mut to = at;
     let mut k: usize = 0;
     while k < n {
-        let len = offers::put_offer(&mut bytes, rules, row, o, e, text, k);
+        let len = offers::put_offer(&mut bytes, rules, row, asked.readings, o, e, text, k);
         let w = &bytes[..len];
         let new = is_new(rules, code, asked, before, row, e, text, cells, k, w);
         to = put_new(out, to, new, e, note_of(o, k), w);
@@ -195,7 +195,7 @@ fn put_rows(
     cells: &mut [u8],
 ) -> usize
     requires { ⌜ Rows (now rules) (asked .first) rows × (rows ≤ most-rows) × Spoken e (now text) × Countable at edge-bytes × Blank (now cells) ⌝ }
-    ensures { λ r. ⌜ Puts true (found-by (edge-by e (now (text .entry)))
+    ensures { λ r. ⌜ Puts true (found-by (asked .readings) (edge-by e (now (text .entry)))
         (holding (now (code .entry)) (asked .start) (asked .end) (now (rules .entry)) (asked .first) rows)) edge-bytes
         (at, now (out .entry)) (r, now (out .exit)) ⌝ }
 {
@@ -223,7 +223,7 @@ fn put_filtered(
     cells: &mut [u8],
 ) -> usize
     requires { ⌜ Rows (now rules) (asked .first) rows × (rows ≤ most-rows) × Spoken e (now text) × Countable at edge-bytes ⌝ }
-    ensures { λ r. ⌜ Puts true (found-by (edge-by e (now (text .entry)))
+    ensures { λ r. ⌜ Puts true (found-by (asked .readings) (edge-by e (now (text .entry)))
         (holding (now (code .entry)) (asked .start) (asked .end) (now (rules .entry)) (asked .first) rows)) edge-bytes
         (at, now (out .entry)) (r, now (out .exit)) ⌝ }
 {
@@ -264,6 +264,7 @@ fn put_edge_alternatives(
     ensures { λ r. ⌜ Alternatives (now (rules .entry)) (now (ready .entry)) (now (code .entry)) (now (line .entry)) (now (places .entry)) (now (places .exit))
         (edge-by e (now (text .entry)) ∷ []) (at, now (out .entry)) (r, now (out .exit)) × (r ≤ at + edge-bytes) ⌝ }
 {
+    let choices = words::choices_in(ready);
     let start = words::is_at_start_of_word(line, places, e.from);
     let end = words::is_at_end_of_word(rules, ready, line, e.to);
     let span = Span {
@@ -275,6 +276,7 @@ fn put_edge_alternatives(
         start,
         end,
         first: look.first,
+        readings: choices.readings == 1,
     };
     let cells = filter_len(look.count, free.len());
     put_filtered(

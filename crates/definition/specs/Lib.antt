@@ -93,8 +93,9 @@ pub mod Sizes
 -- edge by edge, whatever is remembered of word starts
 pub mod Recalled
 pub mod Offers
--- no two listed edges share span and text
+-- no two listed edges share span and text; where readings are chosen, none is missing
 pub mod Once
+pub mod Readings
 -- UTF-8 there and back; a part of an accepted text is accepted; what is returned, and how every call ends
 pub mod Roundtrip
 pub mod Rewritten

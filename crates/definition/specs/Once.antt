@@ -10,6 +10,7 @@ use lib.Dec.{eqb}
 use lib.ListN.{length}
 use borrow.Author.Tests.{eq-eqb}
 use Rattle.base.specs.Pick.{pick, pick-ind}
+use Rattle.base.specs.Bools.{or-right}
 use Rattle.base.specs.Lists.{put, keep, any, same}
 use Rattle.base.specs.ListLaws.{same-refl}
 use Rattle.base.specs.Alls.{All, All-map, All-append, Ordered}
@@ -53,10 +54,6 @@ none-akin c (x ∷ l) e = (λ s. own s (eqb (x .from) (c .from)) (eq-eqb (x .fro
     own : Shares x c → (b : Bool) → b ≡ true → any (akin c) (put b x later) ≡ false → ⊥
     own s true q z = unfold any in true≢false (sym (ap (λ b. b || any (akin c) later) (shares-akin x c s)) ∙ z)
     own s false q z = true≢false (sym q)
-
-    or-right : (a b : Bool) → (a || b) ≡ false → b ≡ false
-    or-right true b z = absurd (true≢false z)
-    or-right false b z = z
 
     rest : (b : Bool) → any (akin c) (put b x later) ≡ false → any (akin c) later ≡ false
     rest true z = unfold any in or-right (akin c x) (any (akin c) later) z

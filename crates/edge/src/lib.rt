@@ -37,8 +37,11 @@ pub const ZS: u8 = 10;
 
 pub const ORIG: u8 = 11;
 
-// An alternative of a rule, and a target where an end-of-syllable target was taken.
+// An alternative of a rule, an end-of-syllable target where the target was taken, and a target where the end-of-syllable
+// target was.
 pub const ALT: u8 = 12;
+
+pub const ALT2: u8 = 13;
 
 pub const ALT3: u8 = 14;
 

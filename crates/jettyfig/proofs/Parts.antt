@@ -17,12 +17,13 @@ use Rattle.table_classes.specs.Packing.{alphas-length, kinds-length}
 use Rattle.rule_memo.specs.Kept.{all-places, Kept}
 use Rattle.table_decompositions.specs.Index.{index-of}
 use Rattle.words.specs.Given.{letters-in, choices-in, mode-in, form-entries, forms-from, forms-in, index-from, all-ready, ready-in, line-in}
-use Rattle.jettyfig.specs.Verdicts.{choose}
+use Rattle.jettyfig.specs.declared.Asked.{Asked}
+use Rattle.jettyfig.specs.Verdicts.{choose, chosen}
 use Rattle.jettyfig.specs.Steps.{with-kinds, Blank, MadeReady}
 
--- both choices
-chosen-by : {a b c d : ℕ} → a ≡ b → c ≡ d → choose a c ≡ choose b d
-chosen-by {a} {b} {c} {d} e f = ap (λ (n : ℕ). choose n c) e ∙ ap (choose b) f
+-- all choices
+chosen-by : {a b c d m n : ℕ} → a ≡ b → c ≡ d → m ≡ n → choose a c m ≡ choose b d n
+chosen-by {a} {b} {c} {d} {m} {n} e f g = ap (λ (k : ℕ). choose k c m) e ∙ ap (λ (k : ℕ). choose b k m) f ∙ ap (choose b d) g
 
 -- A front of a list, and others behind it: what stands within the front stays
 module _ (l : List ℕ) (a : ℕ) (h : a ≤ length l) where
@@ -113,10 +114,11 @@ module _ (classes old letters : List ℕ) (long : all-ready ≤ length old) (a :
     made-ready = record {
       letters = ap (take ascii-characters) after-is ∙ stays-part came index-from within back 0 ascii-characters (omega arith)
           ∙ take-at letters (drop ascii-characters old) ascii-characters lettered ∙ a;
-      choices = chosen-by (kept-at ascii-characters 0 refl (omega arith)) (kept-at (ascii-characters + 1) 1 refl (omega arith));
-      mode = kept-at (ascii-characters + 2) 2 refl (omega arith);
+      choices = chosen-by (kept-at ascii-characters 0 refl (omega arith)) (kept-at (ascii-characters + 1) 1 refl (omega arith))
+          (kept-at (ascii-characters + 2) 2 refl (omega arith));
+      mode = kept-at (ascii-characters + 3) 3 refl (omega arith);
       forms = ap forms-in after-is ∙ stays-part came index-from within back forms-from form-entries (omega arith)
-          ∙ ap (take form-entries) (came-from forms-from 3 refl);
+          ∙ ap (take form-entries) (came-from forms-from 4 refl);
       index = subst (Kept rules) (sym (ap (take all-places) behind)) k;
       line = sym (drop-drop all-places index-from after) ∙ ap (drop all-places) behind ∙ b ∙ ap (drop all-places) lent-is
           ∙ drop-drop all-places index-from old;
@@ -150,10 +152,10 @@ module _ (old line : List ℕ) (long : all-ready ≤ length old) (k : ℕ) (h : 
   cut-at i l = ap (λ (l : List ℕ). getD l i 0) cut-is ∙ stays-at old all-ready long (take k line) i l
 
   pub cut-mode : mode-in cut ≡ mode-in old
-  cut-mode = cut-at (ascii-characters + 2) (omega arith)
+  cut-mode = cut-at (ascii-characters + 3) (omega arith)
 
   pub cut-choices : choices-in cut ≡ choices-in old
-  cut-choices = chosen-by (cut-at ascii-characters (omega arith)) (cut-at (ascii-characters + 1) (omega arith))
+  cut-choices = chosen-by (cut-at ascii-characters (omega arith)) (cut-at (ascii-characters + 1) (omega arith)) (cut-at (ascii-characters + 2) (omega arith))
 
   pub cut-line : line-in cut ≡ take k line
   cut-line = ap line-in cut-is ∙ stays-behind old all-ready long (take k line)
@@ -173,9 +175,10 @@ module _ (prepared : List ℕ) (long : all-ready ≤ length prepared) where
   pub ready-choices : choices-in (ready-in prepared) ≡ choices-in prepared
   ready-choices =
       chosen-by (getD-take all-ready prepared ascii-characters 0 (omega arith)) (getD-take all-ready prepared (ascii-characters + 1) 0 (omega arith))
+      (getD-take all-ready prepared (ascii-characters + 2) 0 (omega arith))
 
   pub ready-mode : mode-in (ready-in prepared) ≡ mode-in prepared
-  ready-mode = getD-take all-ready prepared (ascii-characters + 2) 0 (omega arith)
+  ready-mode = getD-take all-ready prepared (ascii-characters + 3) 0 (omega arith)
 
   pub ready-forms : forms-in (ready-in prepared) ≡ forms-in prepared
   ready-forms = cut-part prepared all-ready long forms-from form-entries (omega arith)
@@ -187,44 +190,60 @@ module _ (prepared : List ℕ) (long : all-ready ≤ length prepared) where
   ready-long = omega (arith, length-take-le all-ready prepared long)
 
 -- The choices and the mode are written over zeros, and then the index of the decomposition table has come back behind them
-module _ (zeros : List ℕ) (capitals o-ang mode : ℕ) (z : zeros ≡ replicate (all-ready + 2 * (most-characters + 3)) 0) where
+module _ (zeros : List ℕ) (a : Asked) (z : zeros ≡ replicate (all-ready + 2 * (most-characters + 3)) 0) where
   abbrev first : List ℕ
-  first = set zeros ascii-characters capitals
+  first = set zeros ascii-characters (a .capitals)
 
   abbrev second : List ℕ
-  second = set first (ascii-characters + 1) o-ang
+  second = set first (ascii-characters + 1) (a .«o_ang»)
+
+  abbrev third : List ℕ
+  third = set second (ascii-characters + 2) (a .readings)
 
   abbrev pub written : List ℕ
-  written = set second (ascii-characters + 2) mode
+  written = set third (ascii-characters + 3) (a .mode)
 
   zeros-long : length zeros ≡ all-ready + 2 * (most-characters + 3)
   zeros-long = ap length z ∙ length-replicate {A = ℕ} (all-ready + 2 * (most-characters + 3)) 0
 
   first-long : length first ≡ all-ready + 2 * (most-characters + 3)
-  first-long = length-set zeros ascii-characters capitals ∙ zeros-long
+  first-long = length-set zeros ascii-characters (a .capitals) ∙ zeros-long
 
   second-long : length second ≡ all-ready + 2 * (most-characters + 3)
-  second-long = length-set first (ascii-characters + 1) o-ang ∙ first-long
+  second-long = length-set first (ascii-characters + 1) (a .«o_ang») ∙ first-long
+
+  third-long : length third ≡ all-ready + 2 * (most-characters + 3)
+  third-long = length-set second (ascii-characters + 2) (a .readings) ∙ second-long
 
   pub written-long : length written ≡ all-ready + 2 * (most-characters + 3)
-  written-long = length-set second (ascii-characters + 2) mode ∙ second-long
+  written-long = length-set third (ascii-characters + 3) (a .mode) ∙ third-long
 
-  written-mode : mode-in written ≡ mode
-  written-mode = getD-set-same second (ascii-characters + 2) mode 0 (omega (arith, second-long))
+  written-mode : mode-in written ≡ a .mode
+  written-mode = getD-set-same third (ascii-characters + 3) (a .mode) 0 (omega (arith, third-long))
 
-  written-choices : choices-in written ≡ choose capitals o-ang
+  -- a number stays as it is when one behind it is written
+  past-mode : (i : ℕ) → i < ascii-characters + 3 → getD written i 0 ≡ getD third i 0
+  past-mode i h = getD-set-other third (ascii-characters + 3) i (a .mode) 0 (λ e. omega arith)
+
+  past-readings : (i : ℕ) → i < ascii-characters + 2 → getD third i 0 ≡ getD second i 0
+  past-readings i h = getD-set-other second (ascii-characters + 2) i (a .readings) 0 (λ e. omega arith)
+
+  written-choices : choices-in written ≡ chosen a
   written-choices = chosen-by
-      (getD-set-other second (ascii-characters + 2) ascii-characters mode 0 (λ e. omega arith)
-      ∙ getD-set-other first (ascii-characters + 1) ascii-characters o-ang 0 (λ e. omega arith)
-      ∙ getD-set-same zeros ascii-characters capitals 0 (omega (arith, zeros-long)))
-      (getD-set-other second (ascii-characters + 2) (ascii-characters + 1) mode 0 (λ e. omega arith)
-      ∙ getD-set-same first (ascii-characters + 1) o-ang 0 (omega (arith, first-long)))
+      (past-mode ascii-characters (omega arith) ∙ past-readings ascii-characters (omega arith)
+      ∙ getD-set-other first (ascii-characters + 1) ascii-characters (a .«o_ang») 0 (λ e. omega arith)
+      ∙ getD-set-same zeros ascii-characters (a .capitals) 0 (omega (arith, zeros-long)))
+      (past-mode (ascii-characters + 1) (omega arith) ∙ past-readings (ascii-characters + 1) (omega arith)
+      ∙ getD-set-same first (ascii-characters + 1) (a .«o_ang») 0 (omega (arith, first-long)))
+      (past-mode (ascii-characters + 2) (omega arith) ∙ getD-set-same second (ascii-characters + 2) (a .readings) 0 (omega (arith, second-long)))
 
   -- behind them there are zeros still
   from-forms : drop forms-from written ≡ replicate (form-entries + (all-places + 2 * (most-characters + 3))) 0
   from-forms =
-      drop-set-lt forms-from second (ascii-characters + 2) mode (omega arith) ∙ drop-set-lt forms-from first (ascii-characters + 1) o-ang (omega arith)
-      ∙ drop-set-lt forms-from zeros ascii-characters capitals (omega arith) ∙ ap (drop forms-from) z
+      drop-set-lt forms-from third (ascii-characters + 3) (a .mode) (omega arith)
+      ∙ drop-set-lt forms-from second (ascii-characters + 2) (a .readings) (omega arith)
+      ∙ drop-set-lt forms-from first (ascii-characters + 1) (a .«o_ang») (omega arith)
+      ∙ drop-set-lt forms-from zeros ascii-characters (a .capitals) (omega arith) ∙ ap (drop forms-from) z
 
   pub forms-lent : midOf forms-from form-entries written ≡ replicate form-entries 0
   forms-lent = ap (take form-entries) from-forms
@@ -253,11 +272,13 @@ module _ (zeros : List ℕ) (capitals o-ang mode : ℕ) (z : zeros ≡ replicate
     asked-at : (i : ℕ) → i < forms-from → getD asked i 0 ≡ getD written i 0
     asked-at i h = stays-at written forms-from within-written (index ++ rest) i h
 
-    pub asked-mode : mode-in asked ≡ mode
-    asked-mode = asked-at (ascii-characters + 2) (omega arith) ∙ written-mode
+    pub asked-mode : mode-in asked ≡ a .mode
+    asked-mode = asked-at (ascii-characters + 3) (omega arith) ∙ written-mode
 
-    pub asked-choices : choices-in asked ≡ choose capitals o-ang
-    asked-choices = chosen-by (asked-at ascii-characters (omega arith)) (asked-at (ascii-characters + 1) (omega arith)) ∙ written-choices
+    pub asked-choices : choices-in asked ≡ chosen a
+    asked-choices =
+        chosen-by (asked-at ascii-characters (omega arith)) (asked-at (ascii-characters + 1) (omega arith)) (asked-at (ascii-characters + 2) (omega arith))
+        ∙ written-choices
 
     asked-forms : drop forms-from asked ≡ index ++ rest
     asked-forms = stays-behind written forms-from within-written (index ++ rest)

@@ -15,7 +15,7 @@ use Rattle.base.specs.ListLaws.{same-some, first-past, first-here}
 use Rattle.definition.specs.Blocks.{small}
 use Rattle.definition.specs.DecompositionRows.{right-part, decomposition-fault}
 use Rattle.definition.specs.Limits.{most-mode, most-choice}
-use Rattle.definition.specs.Refusals.{Refusal, refuse, when, placed, refused-mode, refused-capitals, refused-o-ang, refused-code}
+use Rattle.definition.specs.Refusals.{Refusal, refuse, when, placed, refused-mode, refused-capitals, refused-o-ang, refused-readings, refused-code}
 use Rattle.definition.specs.Utf8.{bad-sequence, bad-from, decoded, decode-by}
 use Rattle.definition.specs.Call.{Inputs, Called, code-right, first-left-out, before-text, text-refusal, refusal}
 use Rattle.definition.specs.Accepted as accepted
@@ -43,11 +43,11 @@ indexed-so b x e f Accepted = (e, f ∙ ap index-of (checked-ready b e .0))
 indexed-so b x e f (Refused n p) = tt
 
 -- the choices of a call
-abbrev pub choose : ℕ → ℕ → Choices
-choose capitals o-ang = record { capitals = capitals; o-ang = o-ang }
+abbrev pub choose : ℕ → ℕ → ℕ → Choices
+choose capitals o-ang readings = record { capitals = capitals; o-ang = o-ang; readings = readings }
 
 abbrev pub chosen : Asked → Choices
-chosen a = choose (a .capitals) (a .«o_ang»)
+chosen a = choose (a .capitals) (a .«o_ang») (a .readings)
 
 -- what a call was given, and what it returned with the whole output
 abbrev pub given : ℕ → Choices → List ℕ → List ℕ → List ℕ → List ℕ → List ℕ → List ℕ → ℕ → ℕ → ℕ → Inputs
@@ -74,6 +74,7 @@ by-asked mode choices = first-of
     (when (ltb most-mode mode) refused-mode 0
     ∷ when (ltb most-choice (choices .capitals)) refused-capitals 0
     ∷ when (ltb most-choice (choices .o-ang)) refused-o-ang 0
+    ∷ when (ltb most-choice (choices .readings)) refused-readings 0
     ∷ [])
 
 -- the refusal of a language code
@@ -136,11 +137,11 @@ first-firsts (some r ∷ k) l = refl
 
 pub asked-first : (mode : ℕ) (choices : Choices) (l : List (Option Refusal)) → first-of (by-asked mode choices ∷ l)
     ≡ first-of (when (ltb most-mode mode) refused-mode 0 ∷ when (ltb most-choice (choices .capitals)) refused-capitals 0
-    ∷ when (ltb most-choice (choices .o-ang)) refused-o-ang 0 ∷ l)
+    ∷ when (ltb most-choice (choices .o-ang)) refused-o-ang 0 ∷ when (ltb most-choice (choices .readings)) refused-readings 0 ∷ l)
 unfolding by-asked
 asked-first mode choices l =
     first-firsts (when (ltb most-mode mode) refused-mode 0 ∷ when (ltb most-choice (choices .capitals)) refused-capitals 0
-    ∷ when (ltb most-choice (choices .o-ang)) refused-o-ang 0 ∷ []) l
+    ∷ when (ltb most-choice (choices .o-ang)) refused-o-ang 0 ∷ when (ltb most-choice (choices .readings)) refused-readings 0 ∷ []) l
 
 -- nothing refused of either is nothing refused
 pub nothing-refused : (i : Inputs) → before-text (i .mode) (i .choices) (i .rules) (i .classes) (i .vowels) (i .decompositions) (i .code) ≡ none → text-refusal (i .text) ≡ none → refusal i ≡ none

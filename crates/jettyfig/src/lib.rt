@@ -49,6 +49,8 @@ const REFUSED_CAPITALS: u64 = 12;
 
 const REFUSED_O_ANG: u64 = 15;
 
+const REFUSED_READINGS: u64 = 17;
+
 const REFUSED_CLASSES: u64 = 3;
 
 const REFUSED_VOWELS: u64 = 4;
@@ -85,6 +87,7 @@ pub struct Asked {
     pub mode: u8,
     pub capitals: u8,
     pub o_ang: u8,
+    pub readings: u8,
 }
 
 // What was found of the tables and the code: nothing, or a refusal.
@@ -156,6 +159,9 @@ fn check_asked(asked: Asked) -> Verdict
     }
     if MOST_CHOICE < asked.o_ang {
         return Verdict::Refused(REFUSED_O_ANG, 0);
+    }
+    if MOST_CHOICE < asked.readings {
+        return Verdict::Refused(REFUSED_READINGS, 0);
     }
     Verdict::Accepted
 }
@@ -482,6 +488,7 @@ fn respond<'a>(
     let mut prepared = [0u32; PREPARED];
     prepared[words::CAPITALS] = asked.capitals as u32;
     prepared[words::O_ANG] = asked.o_ang as u32;
+    prepared[words::READINGS] = asked.readings as u32;
     prepared[words::MODE] = asked.mode as u32;
     match check(
         asked,
@@ -514,6 +521,7 @@ pub extern "C" fn jettyfig_romanize<'a>(
     mode: u8,
     capitals: u8,
     o_ang: u8,
+    readings: u8,
     rules: &'a [u8],
     classes: &[u8],
     vowels: &[u8],
@@ -524,7 +532,7 @@ pub extern "C" fn jettyfig_romanize<'a>(
     room: &mut [u8],
     out: &mut [u8],
 ) -> Answer
-    ensures answer { λ r. ⌜ returned r (now (out .exit)) ≡ called (given mode (choose capitals «o_ang») (now (rules .entry)) (now (classes .entry)) (now (vowels .entry))
+    ensures answer { λ r. ⌜ returned r (now (out .exit)) ≡ called (given mode (choose capitals «o_ang» readings) (now (rules .entry)) (now (classes .entry)) (now (vowels .entry))
         (now (decompositions .entry)) (now (code .entry)) (now (text .entry)) (length (now (slots .entry))) (length (now (room .entry))) (length (now (out .entry)))) ⌝ }
     ensures slots { λ _. ⌜ now (slots .exit) ≡ replicate (length (now (slots .entry))) 0 ⌝ }
     ensures room { λ _. ⌜ now (room .exit) ≡ replicate (length (now (room .entry))) 0 ⌝ }
@@ -533,6 +541,7 @@ pub extern "C" fn jettyfig_romanize<'a>(
         mode,
         capitals,
         o_ang,
+        readings,
     };
     let answered = respond(
         asked,

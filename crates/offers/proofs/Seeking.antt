@@ -41,16 +41,16 @@ module _ (w : Text) (l : List Text) (most k : ℕ) where
       ∙ ap (λ i. same w (getD l k []) || any (same w) (take (most - (k + 1)) (drop i l))) m)
 
 -- of some rows whose rules hold
-module _ (w : Text) (x : Edge) where
+module _ (w : Text) (b : Bool) (x : Edge) where
   abbrev pub among-all : List Rule → Bool
-  among-all rs = any (same w) (texts (all-offers x rs))
+  among-all rs = any (same w) (texts (all-offers b x rs))
 
-  put-turn : (b : Bool) (r : Rule) (rs : List Rule)
-      → among-all (put b r rs) ≡ ((b && any (same w) (texts (offers x r))) || among-all rs)
+  put-turn : (h : Bool) (r : Rule) (rs : List Rule)
+      → among-all (put h r rs) ≡ ((h && any (same w) (texts (offers b x r))) || among-all rs)
   unfolding all-offers
   put-turn true r rs =
-      ap (any (same w)) (map-append (λ (c : Edge). c .text) (offers x r) (all-offers x rs))
-      ∙ any-append (same w) (texts (offers x r)) (texts (all-offers x rs))
+      ap (any (same w)) (map-append (λ (c : Edge). c .text) (offers b x r) (all-offers b x rs))
+      ∙ any-append (same w) (texts (offers b x r)) (texts (all-offers b x rs))
   put-turn false r rs = refl
 
   module _ (code : Text) (start end : Bool) (R : List ℕ) (row left : ℕ) where
@@ -59,12 +59,12 @@ module _ (w : Text) (x : Edge) where
     rows-over h = sym (ap (λ l. among-all (keep (holds-at code start end) l)) (none-in R row left h))
 
     pub rows-turn : 0 < left → Rows R row left → (z : ℕ) → z ≡ rule-size (drop row R) → (t : Bool)
-        → t ≡ (holds-at code start end (rule-of (drop row R)) && any (same w) (texts (offers x (rule-of (drop row R)))))
+        → t ≡ (holds-at code start end (rule-of (drop row R)) && any (same w) (texts (offers b x (rule-of (drop row R)))))
         → (t || among-all (holding code start end R (row + z) (left - 1))) ≡ among-all (holding code start end R row left)
     unfolding keep
     rows-turn h k z q t e =
         let r = rule-of (drop row R) in
         ap (λ (y : Bool). y || among-all (holding code start end R (row + z) (left - 1))) e
-        ∙ ap (λ n. (holds-at code start end r && any (same w) (texts (offers x r))) || among-all (holding code start end R (row + n) (left - 1))) q
+        ∙ ap (λ n. (holds-at code start end r && any (same w) (texts (offers b x r))) || among-all (holding code start end R (row + n) (left - 1))) q
         ∙ sym (ap (λ l. among-all (keep (holds-at code start end) l)) (one-in R row left h k)
         ∙ put-turn (holds-at code start end r) r (holding code start end R (row + rule-size (drop row R)) (left - 1)))

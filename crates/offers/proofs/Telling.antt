@@ -1,7 +1,7 @@
 -- A row's texts by its flags, and what they are to an edge: one law for each answer.
 use mathlib.Core.Bool.{Bool, true, false, _&&_, _||_, true≢false}
 use mathlib.Core.List.{List, [], _++_, map, append-nil}
-use mathlib.Core.Option.{none, some}
+use mathlib.Core.Option.{Option, none, some}
 use mathlib.Core.Path.{_≡_, refl, sym, ap, _∙_, subst}
 use Prim.Native.Nat.{ℕ, _-_, _≤_, _<_}
 use native.Mathlib.Omega.{arith}
@@ -9,6 +9,7 @@ use lib.ListN.{length, getD, take, drop, length-map, length-drop}
 use lib.Seq.{take-all}
 use borrow.Author.Tests.{eq-eqb, ne-eqb}
 use Rattle.base.specs.Pick.{pick}
+use Rattle.base.specs.Bools.{and-right}
 use Rattle.base.specs.Lists.{has, is, maybe, same}
 use Rattle.base.specs.Alls.{All, All-getD, Opt}
 use Rattle.definition.specs.Limits.{most-target}
@@ -28,7 +29,7 @@ use Rattle.rule_row.specs.Others.{others}
 use Rattle.edge.specs.declared.Numbers.{Numbers}
 use Rattle.edge.specs.Slots.{edge-by}
 use Rattle.offers.specs.declared.Offers.{Offers}
-use Rattle.offers.specs.Texts.{offer-at, Spoken, Tells, count-of, target-there, cored-is, by-other, by-target, text-at, core-own, core-note}
+use Rattle.offers.specs.Texts.{offer-at, Spoken, Tells, count-of, is-reading, at-target, target-there, cored-is, by-other, by-reading, by-target, text-at, core-own, core-note}
 
 -- An ASCII text against the bytes of another
 pub same-bytes : (w b : List ℕ) → All Low w → TextBytes b → same w (decoded b) ≡ same w b
@@ -88,19 +89,29 @@ module _ (s : List ℕ) where
   unfolding rule-of
   end-flag f e = ap (λ (y : Bool). text-where y (drop (end-target-at s) s)) e
 
-  end-some : rule-flag s end-target-bit ≡ true → R .end-target ≡ some U
+  pub end-some : rule-flag s end-target-bit ≡ true → R .end-target ≡ some U
   unfolding text-where pick
   end-some e = end-flag true e
+
+  pub end-short : Worded R → rule-flag s end-target-bit ≡ true → Short most-target U
+  end-short h e = subst (Opt (Short most-target)) (end-some e) (h .end-target)
 
   pub end-is : Worded R → (b : List ℕ) → TextBytes b → rule-flag s end-target-bit ≡ true
       → same U b ≡ is (λ u. same u (decoded b)) (R .end-target)
   end-is h b t e =
-      let l = subst (Opt (Short most-target)) (end-some e) (h .end-target) .low in
-      sym (ap (is (λ u. same u (decoded b))) (end-some e) ∙ same-bytes U b l t)
+      sym (ap (is (λ u. same u (decoded b))) (end-some e) ∙ same-bytes U b (end-short h e .low) t)
 
   pub end-not : (b : List ℕ) → rule-flag s end-target-bit ≡ false → false ≡ is (λ u. same u (decoded b)) (R .end-target)
   unfolding text-where pick
   end-not b e = sym (ap (is (λ u. same u (decoded b))) (end-flag false e))
+
+  pub end-has : has (R .end-target) ≡ rule-flag s end-target-bit
+  unfolding text-where pick
+  end-has = go (rule-flag s end-target-bit) refl
+    where
+      go : (f : Bool) → rule-flag s end-target-bit ≡ f → has (R .end-target) ≡ f
+      go true e = ap has (end-flag true e)
+      go false e = ap has (end-flag false e)
 
   others-are : R .others ≡ others s
   unfolding rule-of
@@ -110,8 +121,26 @@ module _ (s : List ℕ) where
   unfolding rule-of
   other-short h k = All-getD (Short most-target) (others s) k [] (h .others) (short-none most-target)
 
+  -- Is the end target a reading of an edge with the text `b`, whose text the target `w` is or is not?
+  module _ (y : Bool) (w b : List ℕ) where
+    abbrev Read : Bool
+    Read = (y && same w (decoded b)) && has (R .end-target)
+
+    pub read-so : All Low w → TextBytes b → y ≡ true → same w b ≡ true → rule-flag s end-target-bit ≡ Read
+    read-so l t e f = sym
+        (ap (λ (c : Bool). (c && same w (decoded b)) && has (R .end-target)) e
+        ∙ ap (λ (c : Bool). c && has (R .end-target)) (same-bytes w b l t ∙ f) ∙ end-has)
+
+    pub read-other : All Low w → TextBytes b → y ≡ true → same w b ≡ false → false ≡ Read
+    read-other l t e f = sym
+        (ap (λ (c : Bool). (c && same w (decoded b)) && has (R .end-target)) e
+        ∙ ap (λ (c : Bool). c && has (R .end-target)) (same-bytes w b l t ∙ f))
+
+    pub read-not : y ≡ false → false ≡ Read
+    read-not e = sym (ap (λ (c : Bool). (c && same w (decoded b)) && has (R .end-target)) e)
+
   -- What it offers
-  module _ (x : Edge) where
+  module _ (b : Bool) (x : Edge) where
     abbrev taken : Bool
     taken = same W (x .text) || cored x W
 
@@ -127,24 +156,28 @@ module _ (s : List ℕ) where
         go false = unfold pick in refl
 
     pub tells : (o : Offers) → rule-flag s target-bit ≡ true → (t : Bool) → taken ≡ t → o .others ≡ pick t (length (others s)) 0
-        → o .cored ≡ cored x W → o .target ≡ is (λ u. same u (x .text)) (R .end-target) → Tells x R o
+        → o .cored ≡ cored x W → o .reading ≡ ((b && same W (x .text)) && has (R .end-target))
+        → o .target ≡ is (λ u. same u (x .text)) (R .end-target) → Tells b x R o
     unfolding maybe
-    tells o f t e n c g = record {
+    tells o f t e n c v g = record {
       others = n ∙ sym (ap (λ t. maybe t 0 (λ w. length (target-offers x R w))) (target-some f) ∙ taken-count t e);
       cored = c ∙ sym (ap (is (cored x)) (target-some f));
+      reading = v ∙ sym (ap (λ t. is (λ w. b && same w (x .text)) t && has (R .end-target)) (target-some f));
       target = g ∙ sym (ap (λ t. has t && is (λ u. same u (x .text)) (R .end-target)) (target-some f));
     }
 
-    pub tells-nothing : (o : Offers) → rule-flag s target-bit ≡ false → o .others ≡ 0 → o .cored ≡ false → o .target ≡ false → Tells x R o
+    pub tells-nothing : (o : Offers) → rule-flag s target-bit ≡ false → o .others ≡ 0 → o .cored ≡ false → o .reading ≡ false → o .target ≡ false
+        → Tells b x R o
     unfolding maybe
-    tells-nothing o f n c g = record {
+    tells-nothing o f n c v g = record {
       others = n ∙ sym (ap (λ t. maybe t 0 (λ w. length (target-offers x R w))) (target-none f));
       cored = c ∙ sym (ap (is (cored x)) (target-none f));
+      reading = v ∙ sym (ap (λ t. is (λ w. b && same w (x .text)) t && has (R .end-target)) (target-none f));
       target = g ∙ sym (ap (λ t. has t && is (λ u. same u (x .text)) (R .end-target)) (target-none f));
     }
 
 -- The text of number `k`
-module _ (s : List ℕ) (e : Numbers) (b : List ℕ) (o : Offers) (k : ℕ) (h : Tells (edge-by e b) (rule-of s) o) (l : k < count-of o) where
+module _ (s : List ℕ) (y : Bool) (e : Numbers) (b : List ℕ) (o : Offers) (k : ℕ) (h : Tells y (edge-by e b) (rule-of s) o) (l : k < count-of o) where
   abbrev x : Edge
   x = edge-by e b
 
@@ -170,32 +203,43 @@ module _ (s : List ℕ) (e : Numbers) (b : List ℕ) (o : Offers) (k : ℕ) (h :
   unfolding rule-of
   other-there q = by-other h there k d q .0
 
-  text-other : k < o .others → offer-at x r k ≡ getD (others s) k [] ++ edge-vowel x (W s)
+  text-other : k < o .others → offer-at y x r k ≡ getD (others s) k [] ++ edge-vowel x (W s)
   unfolding other rule-of
   text-other q = text-at h k d l ∙ ap (λ (c : Edge). c .text) (by-other h there k d q .1)
 
-  pub text-plain : k < o .others → o .cored ≡ false → getD (others s) k [] ≡ offer-at x r k
+  pub text-plain : k < o .others → o .cored ≡ false → getD (others s) k [] ≡ offer-at y x r k
   unfolding pick
   text-plain q z = sym
-      (text-other q ∙ ap (λ (y : Bool). getD (others s) k [] ++ pick y (drop (x .core) (x .text)) []) (sym (cored-is h there) ∙ z)
+      (text-other q ∙ ap (λ (z : Bool). getD (others s) k [] ++ pick z (drop (x .core) (x .text)) []) (sym (cored-is h there) ∙ z)
       ∙ append-nil (getD (others s) k []))
 
   pub note-there : Spoken e b → o .cored ≡ true → e .note ≡ note-core
   note-there q z = core-note q (W s) (sym (cored-is h there) ∙ z)
 
   pub text-cored : Spoken e b → k < o .others → o .cored ≡ true
-      → getD (others s) k [] ++ take (length b - e .core) (drop (e .core) b) ≡ offer-at x r k
+      → getD (others s) k [] ++ take (length b - e .core) (drop (e .core) b) ≡ offer-at y x r k
   unfolding pick edge-by
   text-cored p q z =
       let own = core-own p (note-there p z) in sym
-      (text-other q ∙ ap (λ (y : Bool). getD (others s) k [] ++ pick y (drop (e .core) (decoded b)) []) (sym (cored-is h there) ∙ z)
+      (text-other q ∙ ap (λ (z : Bool). getD (others s) k [] ++ pick z (drop (e .core) (decoded b)) []) (sym (cored-is h there) ∙ z)
       ∙ ap (λ l. getD (others s) k [] ++ drop (e .core) l) own
       ∙ ap (λ l. getD (others s) k [] ++ l) (sym (take-all (length b - e .core) (drop (e .core) b) (omega (arith, length-drop (e .core) b)))))
 
-  pub text-target : o .others ≤ k → W s ≡ offer-at x r k
-  unfolding other count-of pick
-  text-target q = sym (text-at h k d l ∙ ap (λ (c : Edge). c .text) (by-target h there k d (last (o .target) refl) l))
+  -- behind the alternatives the end target, where it is offered
+  pub end-flag-there : o .reading ≡ true → rule-flag s end-target-bit ≡ true
+  end-flag-there z = sym (end-has s) ∙ and-right (is (λ w. y && same w (x .text)) (r .target)) _ (sym (h .reading) ∙ z)
+
+  pub text-reading : k ≡ o .others → o .reading ≡ true → U s ≡ offer-at y x r k
+  unfolding other
+  text-reading q z =
+      let p = by-reading h there k d q z in
+      let own : p .0 ≡ U s = some-is (sym (p .1) ∙ end-some s (end-flag-there z)) in
+      sym (text-at h k d l ∙ ap (λ (c : Edge). c .text) (p .2) ∙ own)
     where
-      last : (f : Bool) → o .target ≡ f → k ≡ o .others
-      last true z = let p = ap (λ y. pick {A = ℕ} y 1 0) z in omega (arith, p, l, q)
-      last false z = let p = ap (λ y. pick {A = ℕ} y 1 0) z in omega (arith, p, l, q)
+      some-is : {u v : Text} → _≡_ {A = Option Text} (some u) (some v) → u ≡ v
+      some-is {u} {v} e = unfold maybe in ap (λ o. maybe o [] (λ w. w)) e
+
+  -- and last the target
+  pub text-target : o .others ≤ k → is-reading o k ≡ false → W s ≡ offer-at y x r k
+  unfolding other
+  text-target q n = sym (text-at h k d l ∙ ap (λ (c : Edge). c .text) (by-target h there k d (at-target o k q n l) l))

@@ -4,7 +4,7 @@ ghost use mathlib.Core.Bool.{_&&_, _||_};
 ghost use mathlib.Core.Path.{_≡_};
 ghost use Prim.Native.Nat.{_≤_, _<_};
 ghost use lib.ListN.{length, take, drop};
-ghost use Rattle.base.specs.Lists.{any, is, same};
+ghost use Rattle.base.specs.Lists.{any, has, is, same};
 ghost use Rattle.base.specs.Alls.{All};
 ghost use Rattle.definition.specs.Shorts.{Low};
 ghost use Rattle.definition.specs.Limits.{most-alternative};
@@ -17,28 +17,30 @@ ghost use Rattle.utf8.specs.Encodings.{TextBytes};
 ghost use Rattle.lent_bytes.specs.Puts.{put-at};
 ghost use Rattle.edge.specs.Slots.{edge-by};
 ghost use Rattle.words.specs.Found.{Row, Rows};
-ghost use Rattle.offers.specs.Texts.{texts, offer-at, Spoken, Tells, most-others, most-offers, count-of, holding};
+ghost use Rattle.offers.specs.Texts.{texts, offer-at, Spoken, Tells, most-others, most-offers, count-of, is-reading, holding};
 use edge::Numbers;
 
-// A row offers this many texts at most: its alternatives, whose number is a byte, and its target.
-const MOST_OFFERS: usize = 256;
+// A row offers this many texts at most: its alternatives, whose number is a byte, and both targets.
+const MOST_OFFERS: usize = 257;
 
 // Bytes of an offered text, at most.
 pub const MOST_OFFER: usize = 68;
 
 // What was asked of an edge's span: is it at a start of word, at an end of word, and which row of the rule table is its
-// first?
+// first? And are end-of-syllable readings chosen?
 pub struct Asked {
     pub start: bool,
     pub end: bool,
     pub first: usize,
+    pub readings: bool,
 }
 
-// What a row offers for an edge: how many of its alternatives, with the edge's vowel behind them or not, and its target
-// where its end-of-syllable target was taken.
+// What a row offers for an edge: how many of its alternatives, with the edge's vowel behind them or not; its end-of-syllable
+// target, as a reading, where its target was taken; and its target where its end-of-syllable target was.
 pub struct Offers {
     pub others: usize,
     pub cored: bool,
+    pub reading: bool,
     pub target: bool,
 }
 
@@ -75,31 +77,49 @@ fn is_at_end(rules: &[u8], row: usize, text: &[u8]) -> bool
     false
 }
 
+// Are readings chosen, is the row's target `w` the edge's text, and has the row an end-of-syllable target?
+fn is_read(rules: &[u8], row: usize, readings: bool, text: &[u8], w: &[u8]) -> bool
+    requires { ⌜ TextBytes (now text) × All Low (now w) ⌝ }
+    ensures { λ r. ⌜ r ≡ ((readings && same (now (w .entry)) (decoded (now (text .entry)))) && has (rule-of (drop row (now (rules .entry))) .end-target)) ⌝ }
+{
+    if readings {
+        if lent_bytes::same(w, text) {
+            return rule_row::flag(rules, row, rule_row::END_TARGET_BIT);
+        }
+        return false;
+    }
+    false
+}
+
 // What a row offers.
-pub fn offers_of(rules: &[u8], row: usize, e: Numbers, text: &[u8]) -> Offers
+pub fn offers_of(rules: &[u8], row: usize, readings: bool, e: Numbers, text: &[u8]) -> Offers
     requires { ⌜ Row (drop row (now rules)) × Spoken e (now text) ⌝ }
-    ensures { λ r. ⌜ Tells (edge-by e (now (text .entry))) (rule-of (drop row (now (rules .entry)))) r × (r .others ≤ most-others) ⌝ }
+    ensures { λ r. ⌜ Tells readings (edge-by e (now (text .entry))) (rule-of (drop row (now (rules .entry)))) r × (r .others ≤ most-others) ⌝ }
 {
     if rule_row::flag(rules, row, rule_row::TARGET_BIT) {
         let w = rule_row::target_text(rules, row);
         let target = is_at_end(rules, row, text);
         let cored = is_core(e, text, w);
+        let reading = is_read(rules, row, readings, text, w);
         if is_taken(e, text, w) {
             return Offers {
                 others: rule_row::others_count(rules, row),
                 cored,
+                reading,
                 target,
             };
         }
         return Offers {
             others: 0,
             cored,
+            reading,
             target,
         };
     }
     Offers {
         others: 0,
         cored: false,
+        reading: false,
         target: false,
     }
 }
@@ -109,27 +129,44 @@ pub fn offers_count(o: Offers) -> usize
     requires { ⌜ o .others ≤ most-others ⌝ }
     ensures { λ r. ⌜ r ≡ count-of o ⌝ }
 {
+    if o.reading {
+        if o.target {
+            return o.others + 2;
+        }
+        return o.others + 1;
+    }
     if o.target {
         return o.others + 1;
     }
     o.others
 }
 
+// Is text number `k` of what a row offers its end-of-syllable target? That one comes after the alternatives.
+pub fn is_reading(o: Offers, k: usize) -> bool
+    ensures { λ r. ⌜ r ≡ is-reading o k ⌝ }
+{
+    if o.reading {
+        return k == o.others;
+    }
+    false
+}
+
 // Puts text number `k` of what a row offers to the front, and tells its length: an alternative, with the edge's vowel where the
-// target is its core, or the target.
+// target is its core; the end-of-syllable target; or the target.
 pub fn put_offer(
     bytes: &mut [u8],
     rules: &[u8],
     row: usize,
+    readings: bool,
     o: Offers,
     e: Numbers,
     text: &[u8],
     k: usize,
 ) -> usize
     requires { ⌜ (most-alternative ≤ length (now bytes)) × Row (drop row (now rules)) × Spoken e (now text)
-        × Tells (edge-by e (now text)) (rule-of (drop row (now rules))) o × (k < count-of o) ⌝ }
-    ensures { λ r. ⌜ (now (bytes .exit) ≡ put-at 0 (offer-at (edge-by e (now (text .entry))) (rule-of (drop row (now (rules .entry)))) k) (now (bytes .entry)))
-        × (r ≡ length (offer-at (edge-by e (now (text .entry))) (rule-of (drop row (now (rules .entry)))) k)) × (r ≤ most-alternative) ⌝ }
+        × Tells readings (edge-by e (now text)) (rule-of (drop row (now rules))) o × (k < count-of o) ⌝ }
+    ensures { λ r. ⌜ (now (bytes .exit) ≡ put-at 0 (offer-at readings (edge-by e (now (text .entry))) (rule-of (drop row (now (rules .entry)))) k) (now (bytes .entry)))
+        × (r ≡ length (offer-at readings (edge-by e (now (text .entry))) (rule-of (drop row (now (rules .entry)))) k)) × (r ≤ most-alternative) ⌝ }
 {
     if k < o.others {
         let w = rule_row::other_text(rules, row, k);
@@ -143,18 +180,31 @@ pub fn put_offer(
         }
         return len;
     }
+    if is_reading(o, k) {
+        let u = rule_row::end_target_text(rules, row);
+        lent_bytes::put_text(bytes, u);
+        return u.len();
+    }
     let w = rule_row::target_text(rules, row);
     lent_bytes::put_text(bytes, w);
     w.len()
 }
 
 // Is a text among the first `most` that a row offers?
-pub fn row_offers(rules: &[u8], row: usize, e: Numbers, text: &[u8], most: usize, w: &[u8]) -> bool
+pub fn row_offers(
+    rules: &[u8],
+    row: usize,
+    readings: bool,
+    e: Numbers,
+    text: &[u8],
+    most: usize,
+    w: &[u8],
+) -> bool
     requires { ⌜ Row (drop row (now rules)) × Spoken e (now text) ⌝ }
-    ensures { λ r. ⌜ (r ≡ any (same (now (w .entry))) (take most (texts (offers (edge-by e (now (text .entry))) (rule-of (drop row (now (rules .entry))))))))
-        × (length (texts (offers (edge-by e (now (text .entry))) (rule-of (drop row (now (rules .entry)))))) ≤ most-offers) ⌝ }
+    ensures { λ r. ⌜ (r ≡ any (same (now (w .entry))) (take most (texts (offers readings (edge-by e (now (text .entry))) (rule-of (drop row (now (rules .entry))))))))
+        × (length (texts (offers readings (edge-by e (now (text .entry))) (rule-of (drop row (now (rules .entry)))))) ≤ most-offers) ⌝ }
 {
-    let o = offers_of(rules, row, e, text);
+    let o = offers_of(rules, row, readings, e, text);
     let n = offers_count(o);
     let mut bytes = [0u8; MOST_OFFER];
     let mut k: usize = 0;
@@ -162,7 +212,7 @@ pub fn row_offers(rules: &[u8], row: usize, e: Numbers, text: &[u8], most: usize
         if most <= k {
             return false;
         }
-        let len = put_offer(&mut bytes, rules, row, o, e, text, k);
+        let len = put_offer(&mut bytes, rules, row, readings, o, e, text, k);
         if lent_bytes::same(w, &bytes[..len]) {
             return true;
         }
@@ -183,10 +233,10 @@ fn holding_row_offers(
 ) -> bool
     requires { ⌜ Row (drop row (now rules)) × Spoken e (now text) ⌝ }
     ensures { λ r. ⌜ r ≡ (holds-at (now (code .entry)) (asked .start) (asked .end) (rule-of (drop row (now (rules .entry))))
-        && any (same (now (w .entry))) (texts (offers (edge-by e (now (text .entry))) (rule-of (drop row (now (rules .entry))))))) ⌝ }
+        && any (same (now (w .entry))) (texts (offers (asked .readings) (edge-by e (now (text .entry))) (rule-of (drop row (now (rules .entry))))))) ⌝ }
 {
     if rule_choice::holds(rules, code, row, asked.start, asked.end) {
-        return row_offers(rules, row, e, text, MOST_OFFERS, w);
+        return row_offers(rules, row, asked.readings, e, text, MOST_OFFERS, w);
     }
     false
 }
@@ -202,7 +252,7 @@ pub fn rows_offer(
     w: &[u8],
 ) -> bool
     requires { ⌜ Rows (now rules) (asked .first) rows × Spoken e (now text) ⌝ }
-    ensures { λ r. ⌜ r ≡ any (same (now (w .entry))) (texts (all-offers (edge-by e (now (text .entry)))
+    ensures { λ r. ⌜ r ≡ any (same (now (w .entry))) (texts (all-offers (asked .readings) (edge-by e (now (text .entry)))
         (holding (now (code .entry)) (asked .start) (asked .end) (now (rules .entry)) (asked .first) rows))) ⌝ }
 {
     let mut row = asked.first;

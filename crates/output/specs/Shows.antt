@@ -14,7 +14,7 @@ use Rattle.definition.specs.Texts.{Text}
 use Rattle.definition.specs.Tables.{Tables, lexicon}
 use Rattle.definition.specs.Utf8.{encoded}
 use Rattle.definition.specs.Edges.{Edge, Mem, State, view}
-use Rattle.definition.specs.Paths.{joined, path-from, sorted, path-of, with-alternatives-of, all-edges-of}
+use Rattle.definition.specs.Paths.{joined, reads, path-from, sorted, path-of, with-alternatives-of, all-edges-of}
 use Rattle.definition.specs.Offers.{found-all, alternatives-are}
 use Rattle.definition.specs.Bounds.{Sound, sound-formed}
 use Rattle.definition.specs.Listing.{edge-rows, block, listing, shown}
@@ -42,11 +42,11 @@ module _ (D : Tables) (t : Text) (n : ℕ) (l : length t ≡ n) (mode : ℕ) (es
 
   -- mode 2: the path, then its alternatives
   pub lists-alternatives : mode ≡ 2 → All (Sound n) es
-      → listed D t mode (es, m) ≡ path-from n 0 es ++ found-all (lexicon D) t (view (D .classes) es) m (path-from n 0 es)
+      → listed D t mode (es, m) ≡ path-from n 0 es ++ found-all (reads (D .choices)) (lexicon D) t (view (D .classes) es) m (path-from n 0 es)
   unfolding listed with-alternatives-of path-of
   lists-alternatives e h =
-      ap (λ k. listed D t k (es, m)) e ∙ alternatives-are (lexicon D) t (view (D .classes) es) n es (All-map sound-formed es h) (length t) 0 m
-      ∙ ap (λ k. path-from k 0 es ++ found-all (lexicon D) t (view (D .classes) es) m (path-from k 0 es)) l
+      ap (λ k. listed D t k (es, m)) e ∙ alternatives-are (reads (D .choices)) (lexicon D) t (view (D .classes) es) n es (All-map sound-formed es h) (length t) 0 m
+      ∙ ap (λ k. path-from k 0 es ++ found-all (reads (D .choices)) (lexicon D) t (view (D .classes) es) m (path-from k 0 es)) l
 
   -- below: the path
   pub lists-path : mode ≤ 1 → listed D t mode (es, m) ≡ path-from n 0 es

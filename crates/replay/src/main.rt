@@ -94,7 +94,7 @@ fn skip(input: &[u8], at: usize) -> usize
     at + 4 + number(input, at)
 }
 
-// The call at `at` over rubbish, in rooms as large as it says: its fields stand at `at + 15`, `a`, `b`, `c`, `d` and `e`.
+// The call at `at` over rubbish, in rooms as large as it says: its fields stand at `at + 16`, `a`, `b`, `c`, `d` and `e`.
 fn run_fields(
     input: &[u8],
     at: usize,
@@ -112,6 +112,7 @@ fn run_fields(
     let mode = (base::byte(input, at) % 256) as u8;
     let capitals = (base::byte(input, at + 1) % 256) as u8;
     let o_ang = (base::byte(input, at + 2) % 256) as u8;
+    let readings = (base::byte(input, at + 3) % 256) as u8;
     fill(slots, RUBBISH);
     fill(room, RUBBISH);
     fill(out, RUBBISH);
@@ -119,7 +120,8 @@ fn run_fields(
         mode,
         capitals,
         o_ang,
-        field(input, at + 15),
+        readings,
+        field(input, at + 16),
         field(input, a),
         field(input, b),
         field(input, c),
@@ -136,7 +138,7 @@ fn run_in(input: &[u8], at: usize, slots: &mut [u8], room: &mut [u8], out: &mut 
     requires { ⌜ at < 16777216 ⌝ }
     ensures { λ r. ⌜ at < r .next ⌝ }
 {
-    let a = skip(input, at + 15);
+    let a = skip(input, at + 16);
     let b = skip(input, a);
     let c = skip(input, b);
     let d = skip(input, c);
@@ -180,8 +182,8 @@ fn lent_room() -> [u8; 131072] {
     [0u8; 131072]
 }
 
-fn calls_room() -> [u8; 3100000] {
-    [0u8; 3100000]
+fn calls_room() -> [u8; 3400000] {
+    [0u8; 3400000]
 }
 
 // All calls, one behind the other.

@@ -42,19 +42,25 @@ digit (d ∷ e ∷ w) l h k = absurd (omega arith)
 -- The word of each choice, and any other
 module _ (w : List ℕ) (c : Chosen) where
   pub for-capitals : true ≡ same w (chars "capitals") → {right : Bool} → right ≡ (c .right && eqb (c .capitals) 0)
-      → record { capitals = 1; «o_ang» = c .«o_ang»; right = right } ≡ with-choice w c
+      → record { capitals = 1; «o_ang» = c .«o_ang»; readings = c .readings; right = right } ≡ with-choice w c
   unfolding with-choice pick
   for-capitals e f = rw (sym e, f) refl
 
   pub for-o-ang : false ≡ same w (chars "capitals") → true ≡ same w (chars "o_ang") → {right : Bool} → right ≡ (c .right && eqb (c .«o_ang») 0)
-      → record { capitals = c .capitals; «o_ang» = 1; right = right } ≡ with-choice w c
+      → record { capitals = c .capitals; «o_ang» = 1; readings = c .readings; right = right } ≡ with-choice w c
   unfolding with-choice pick
   for-o-ang e f g = rw (sym e, sym f, g) refl
 
-  pub for-none : false ≡ same w (chars "capitals") → false ≡ same w (chars "o_ang")
-      → record { capitals = c .capitals; «o_ang» = c .«o_ang»; right = false } ≡ with-choice w c
+  pub for-readings : false ≡ same w (chars "capitals") → false ≡ same w (chars "o_ang") → true ≡ same w (chars "readings")
+      → {right : Bool} → right ≡ (c .right && eqb (c .readings) 0)
+      → record { capitals = c .capitals; «o_ang» = c .«o_ang»; readings = 1; right = right } ≡ with-choice w c
   unfolding with-choice pick
-  for-none e f = rw (sym e, sym f) refl
+  for-readings e f g h = rw (sym e, sym f, sym g, h) refl
+
+  pub for-none : false ≡ same w (chars "capitals") → false ≡ same w (chars "o_ang") → false ≡ same w (chars "readings")
+      → record { capitals = c .capitals; «o_ang» = c .«o_ang»; readings = c .readings; right = false } ≡ with-choice w c
+  unfolding with-choice pick
+  for-none e f g = rw (sym e, sym f, sym g) refl
 
 -- A code that is not one byte is no dash; one byte may be
 and-false : (b : Bool) → false ≡ (b && false)

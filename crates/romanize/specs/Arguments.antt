@@ -19,14 +19,15 @@ mode-of (d ∷ []) = pick (leb 48 d && leb d 57) (d - 48) no-mode
 mode-of (d ∷ e ∷ w) = no-mode
 
 -- what words behind the mode choose: one more names a choice, and no word may name one twice or name none
-abbrev chosen-as : ℕ → ℕ → Bool → Chosen
-chosen-as capitals o-ang right = record { capitals = capitals; «o_ang» = o-ang; right = right }
+abbrev chosen-as : ℕ → ℕ → ℕ → Bool → Chosen
+chosen-as capitals o-ang readings right = record { capitals = capitals; «o_ang» = o-ang; readings = readings; right = right }
 
 unfoldable pub with-choice : List ℕ → Chosen → Chosen
 with-choice w c =
-    pick (same w (chars "capitals")) (chosen-as 1 (c .«o_ang») (c .right && eqb (c .capitals) 0))
-    (pick (same w (chars "o_ang")) (chosen-as (c .capitals) 1 (c .right && eqb (c .«o_ang») 0))
-    (chosen-as (c .capitals) (c .«o_ang») false))
+    pick (same w (chars "capitals")) (chosen-as 1 (c .«o_ang») (c .readings) (c .right && eqb (c .capitals) 0))
+    (pick (same w (chars "o_ang")) (chosen-as (c .capitals) 1 (c .readings) (c .right && eqb (c .«o_ang») 0))
+    (pick (same w (chars "readings")) (chosen-as (c .capitals) (c .«o_ang») 1 (c .right && eqb (c .readings) 0))
+    (chosen-as (c .capitals) (c .«o_ang») (c .readings) false)))
 
 -- a dash is no language code
 unfoldable pub is-dash : List ℕ → Bool

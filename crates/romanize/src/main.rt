@@ -1,8 +1,9 @@
-// romanize RULES CLASSES VOWELS DECOMPOSITIONS CODE MODE [capitals] [o_ang]: romanizes standard input by the tables of four files.
+// romanize RULES CLASSES VOWELS DECOMPOSITIONS CODE MODE [capitals] [o_ang] [readings]: romanizes standard input by the tables of
+// four files.
 //
 // CODE is a language code, or - for none. MODE is 0 for the string, 1 for the path, 2 for the path and its alternatives, 3 for
-// all edges; these are written a line for each edge: start, end, annotation, core length and text. The words `capitals` and
-// `o_ang`, in either order, turn these choices on. One line end behind the text is no part of it. A refusal is one line on
+// all edges; these are written a line for each edge: start, end, annotation, core length and text. The words `capitals`, `o_ang`
+// and `readings`, in any order, turn these choices on. One line end behind the text is no part of it. A refusal is one line on
 // standard error, and nothing is written.
 ghost use mathlib.Core.Bool.{_&&_};
 ghost use mathlib.Core.Path.{_≡_};
@@ -35,6 +36,7 @@ const ON: u8 = 1;
 pub struct Chosen {
     pub capitals: u8,
     pub o_ang: u8,
+    pub readings: u8,
     pub right: bool,
 }
 
@@ -75,7 +77,7 @@ fn out_room() -> [u8; 1793029] {
 fn usage() {
     io::write_all(
         STDERR_FILENO,
-        b"usage: romanize RULES CLASSES VOWELS DECOMPOSITIONS CODE MODE [capitals] [o_ang] < TEXT\n",
+        b"usage: romanize RULES CLASSES VOWELS DECOMPOSITIONS CODE MODE [capitals] [o_ang] [readings] < TEXT\n",
     );
     io::write_all(
         STDERR_FILENO,
@@ -88,6 +90,10 @@ fn usage() {
     io::write_all(
         STDERR_FILENO,
         b"o_ang: Thai O ang asks no further back than its word, so a word reads in its line as alone\n",
+    );
+    io::write_all(
+        STDERR_FILENO,
+        b"readings: the alternatives have what a rule reads at the end of a syllable, as alt2\n",
     );
 }
 
@@ -154,6 +160,7 @@ fn with_choice(word: &[u8], chosen: Chosen) -> Chosen
         return Chosen {
             capitals: ON,
             o_ang: chosen.o_ang,
+            readings: chosen.readings,
             right: is_new(chosen.capitals, chosen.right),
         };
     }
@@ -161,12 +168,22 @@ fn with_choice(word: &[u8], chosen: Chosen) -> Chosen
         return Chosen {
             capitals: chosen.capitals,
             o_ang: ON,
+            readings: chosen.readings,
             right: is_new(chosen.o_ang, chosen.right),
+        };
+    }
+    if lent_bytes::same(word, b"readings") {
+        return Chosen {
+            capitals: chosen.capitals,
+            o_ang: chosen.o_ang,
+            readings: ON,
+            right: is_new(chosen.readings, chosen.right),
         };
     }
     Chosen {
         capitals: chosen.capitals,
         o_ang: chosen.o_ang,
+        readings: chosen.readings,
         right: false,
     }
 }
@@ -184,6 +201,7 @@ fn choices() -> Chosen {
     let mut chosen = Chosen {
         capitals: OFF,
         o_ang: OFF,
+        readings: OFF,
         right: 7 <= count,
     };
     let mut i: usize = 7;
@@ -351,9 +369,16 @@ fn say_choice(number: u64) {
         );
         return;
     }
+    if number == 15 {
+        io::write_all(
+            STDERR_FILENO,
+            b"the choice of O ang is neither 0 nor 1; place ",
+        );
+        return;
+    }
     io::write_all(
         STDERR_FILENO,
-        b"the choice of O ang is neither 0 nor 1; place ",
+        b"the choice of readings is neither 0 nor 1; place ",
     );
 }
 
@@ -380,12 +405,12 @@ fn say_meaning(number: u64, place: u64) {
         say_text(number);
     } else if number < 12 {
         say_room(number);
-    } else if number == 12 {
-        say_choice(number);
-    } else if number == 15 {
-        say_choice(number);
-    } else {
+    } else if number == 13 {
         say_decomposition(number);
+    } else if number == 14 {
+        say_decomposition(number);
+    } else {
+        say_choice(number);
     }
     io::print_decimal(STDERR_FILENO, place);
 }
@@ -469,6 +494,7 @@ fn romanize<'a>(
         mode,
         chosen.capitals,
         chosen.o_ang,
+        chosen.readings,
         rules,
         classes,
         vowels,

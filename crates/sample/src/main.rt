@@ -522,6 +522,7 @@ fn main() {
         1,
         0,
         0,
+        0,
         &RULES,
         &CLASSES,
         &VOWELS,

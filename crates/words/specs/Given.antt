@@ -44,17 +44,21 @@ abbrev pub letters-in : List ℕ → List ℕ
 letters-in ready = take ascii-characters ready
 
 abbrev pub choices-in : List ℕ → Choices
-choices-in ready = record { capitals = getD ready ascii-characters 0; o-ang = getD ready (ascii-characters + 1) 0 }
+choices-in ready = record {
+  capitals = getD ready ascii-characters 0;
+  o-ang = getD ready (ascii-characters + 1) 0;
+  readings = getD ready (ascii-characters + 2) 0;
+}
 
 abbrev pub mode-in : List ℕ → ℕ
-mode-in ready = getD ready (ascii-characters + 2) 0
+mode-in ready = getD ready (ascii-characters + 3) 0
 
 -- the index of the decomposition table has so many entries
 abbrev pub form-entries : ℕ
 form-entries = 512
 
 abbrev pub forms-from : ℕ
-forms-from = ascii-characters + 3
+forms-from = ascii-characters + 4
 
 abbrev pub forms-in : List ℕ → List ℕ
 forms-in ready = take form-entries (drop forms-from ready)

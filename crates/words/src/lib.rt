@@ -37,15 +37,18 @@ pub struct Look {
 pub struct Choices {
     pub capitals: u32,
     pub o_ang: u32,
+    pub readings: u32,
 }
 
-// Where what was made ready has the choices of capitals and of O ang, behind the ASCII letters, and the mode; where the index
-// of the decomposition table begins, with so many entries, and where that of the rule table does; and how much all of it is.
+// Where what was made ready has the choices, behind the ASCII letters, and the mode; where the index of the decomposition
+// table begins, with so many entries, and where that of the rule table does; and how much all of it is.
 pub const CAPITALS: usize = 128;
 
 pub const O_ANG: usize = CAPITALS + 1;
 
-pub const MODE: usize = O_ANG + 1;
+pub const READINGS: usize = O_ANG + 1;
+
+pub const MODE: usize = READINGS + 1;
 
 pub const FORMS: usize = MODE + 1;
 
@@ -150,6 +153,7 @@ pub fn choices_in(ready: &[u32]) -> Choices
     Choices {
         capitals: number_at(ready, CAPITALS),
         o_ang: number_at(ready, O_ANG),
+        readings: number_at(ready, READINGS),
     }
 }
 

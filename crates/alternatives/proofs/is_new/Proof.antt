@@ -22,7 +22,7 @@ returns c =
     let q = c .before .before .before .before .before .before .before in
     let a = q .args in
     let x = edge-by (a .e) (now (a .text)) in
-    let ws = offered x (now (a .code)) (a .asked) (now (a .rules)) (a .before) ++ take (a .k) (texts (offers x (rule-of (drop (a .row) (now (a .rules)))))) in
+    let ws = offered x (now (a .code)) (a .asked) (now (a .rules)) (a .before) ++ take (a .k) (texts (offers (a .asked .readings) x (rule-of (drop (a .row) (now (a .rules)))))) in
     own-again (a .e) (now (a .text)) (now (a .w)) (q .pre .2) (q .pre .3) ws (sym (c .before .same .ensures) ∙ c .if1 .taken)
 
 may-hold-requires : tie.Need-may-hold-requires
@@ -37,7 +37,7 @@ returns-2 c =
     let q = c .before .before .before .before .before .before .before .before .before .before in
     let a = q .args in
     let x = edge-by (a .e) (now (a .text)) in
-    let ws = offered x (now (a .code)) (a .asked) (now (a .rules)) (a .before) ++ take (a .k) (texts (offers x (rule-of (drop (a .row) (now (a .rules)))))) in
+    let ws = offered x (now (a .code)) (a .asked) (now (a .rules)) (a .before) ++ take (a .k) (texts (offers (a .asked .readings) x (rule-of (drop (a .row) (now (a .rules)))))) in
     other-again (a .e) (now (a .text)) (now (a .w)) (q .pre .2) (q .pre .3) ws (sym (s .before .same .ensures) ∙ s .if1 .left)
     (c .is-offered .result) (c .is-offered .ensures)
 
@@ -47,7 +47,7 @@ returns-3 c =
     let q = c .before .before .before .before .before .before .before .before .before in
     let a = q .args in
     let x = edge-by (a .e) (now (a .text)) in
-    let ws = offered x (now (a .code)) (a .asked) (now (a .rules)) (a .before) ++ take (a .k) (texts (offers x (rule-of (drop (a .row) (now (a .rules)))))) in
+    let ws = offered x (now (a .code)) (a .asked) (now (a .rules)) (a .before) ++ take (a .k) (texts (offers (a .asked .readings) x (rule-of (drop (a .row) (now (a .rules)))))) in
     other-again (a .e) (now (a .text)) (now (a .w)) (q .pre .2) (q .pre .3) ws (sym (s .before .same .ensures) ∙ s .if1 .left)
     false (sym (c .before .may-hold .ensures ws (q .pre .4) (c .if2 .left)))
 

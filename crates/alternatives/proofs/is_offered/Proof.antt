@@ -20,7 +20,7 @@ returns c =
     let a = c .before .before .before .before .before .before .args in
     let x = edge-by (a .e) (now (a .text)) in
     by-rows (now (a .w)) (offered x (now (a .code)) (a .asked) (now (a .rules)) (a .before))
-    (take (a .k) (texts (offers x (rule-of (drop (a .row) (now (a .rules))))))) (f .result) (f .ensures) (c .if1 .taken)
+    (take (a .k) (texts (offers (a .asked .readings) x (rule-of (drop (a .row) (now (a .rules))))))) (f .result) (f .ensures) (c .if1 .taken)
 
 row-offers-requires : tie.Need-row-offers-requires
 row-offers-requires c κs = search needs
@@ -31,7 +31,7 @@ returns-2 c =
     let a = c .before .before .before .before .before .before .before .args in
     let x = edge-by (a .e) (now (a .text)) in
     by-row (now (a .w)) (offered x (now (a .code)) (a .asked) (now (a .rules)) (a .before))
-    (take (a .k) (texts (offers x (rule-of (drop (a .row) (now (a .rules))))))) (f .result) (f .ensures) (c .before .if1 .left)
+    (take (a .k) (texts (offers (a .asked .readings) x (rule-of (drop (a .row) (now (a .rules))))))) (f .result) (f .ensures) (c .before .if1 .left)
     (c .row-offers .result) (c .row-offers .ensures .0)
 
 pub is-offered-spec : {M : Type 1} → statement M

@@ -9,7 +9,7 @@ use denote.Ref.{now}
 use Rattle.base.specs.Alls.{All}
 use Rattle.definition.specs.Edges.{Edge, right-best}
 use Rattle.definition.specs.Bounds.{Sound}
-use Rattle.definition.specs.Paths.{next, path-from}
+use Rattle.definition.specs.Paths.{reads, next, path-from}
 use Rattle.definition.specs.Recalled.{Recalls}
 use Rattle.definition.specs.Offers.{found-all}
 use Rattle.edge.specs.declared.BestEdge.{BestEdge}
@@ -29,8 +29,8 @@ abbrev Inv-loop : tie.InvT-loop
 Inv-loop out₀ rules ready code line slots room₀ places₀ starts n count used to₀ p₀ out room places to p =
     let es = edges-of room₀ count slots in
     ((w : World) → Told w ready → Lent w line places₀
-    → (put-items true (found-all (lexicon-of rules w code) (w .text) (seen w) (memory (size w) places₀) (path-from (n - p) p es)) (to, out)
-    ≡ put-items true (found-all (lexicon-of rules w code) (w .text) (seen w) (memory (size w) places₀) (path-from n 0 es)) (to₀, out₀))
+    → (put-items true (found-all (reads (w .choices)) (lexicon-of rules w code) (w .text) (seen w) (memory (size w) places₀) (path-from (n - p) p es)) (to, out)
+    ≡ put-items true (found-all (reads (w .choices)) (lexicon-of rules w code) (w .text) (seen w) (memory (size w) places₀) (path-from n 0 es)) (to₀, out₀))
     × Recalls (lexicon-of rules w code) (w .text) (seen w) (memory (size w) places) (memory (size w) places₀) × (told places ≡ told places₀))
     × (take used room₀ ≡ take used room) × (p ≤ n) × (to ≤ to₀ + edge-bytes * p)
     × (length out ≡ length out₀) × (length room ≡ length room₀) × (length places ≡ length places₀)
@@ -79,7 +79,7 @@ loop-holds c =
     let es = edges-of (now (a .room)) (a .listed .count) (now (a .slots)) in
     let e : c .text-len .result - 0 ≡ c .text-len .result = omega arith in (
       (λ w told lent. (
-        ap (λ k. put-items true (found-all (lexicon-of (now (a .rules)) w (now (a .code))) (w .text) (seen w) (memory (size w) (now (a .places))) (path-from k 0 es))
+        ap (λ k. put-items true (found-all (reads (w .choices)) (lexicon-of (now (a .rules)) w (now (a .code))) (w .text) (seen w) (memory (size w) (now (a .places))) (path-from k 0 es))
             (a .listed .at, now (a .out))) e,
         (λ p. refl),
         refl,
@@ -160,11 +160,11 @@ loop-again c =
           let m₀ = memory (size w) (now (a .places)) in
           let j = i .0 w told lent in
           let d = r .ensures .0 w told (lent-after (l .loop .places) lent (j .2)) in (
-            ap (λ x. put-items true (found-all L (w .text) (seen w) m₀ x) then-at)
+            ap (λ x. put-items true (found-all (reads (w .choices)) L (w .text) (seen w) m₀ x) then-at)
                 (path-enough (N l) (Es l) (sound l) (N l - f .result) k (f .result) (omega (arith, z .1)) (omega (arith, t, z .0)))
-                ∙ found-on L (w .text) (seen w) (Es l) (best-means (l .loop .room) (S l) (b .result)) k p (f .result) (memory (size w) (l .loop .places)) m₀
+                ∙ found-on (reads (w .choices)) L (w .text) (seen w) (Es l) (best-means (l .loop .room) (S l) (b .result)) k p (f .result) (memory (size w) (l .loop .places)) m₀
                 then-at now-at (right l (b .result) (best .0)) (f .ensures .0 (l .loop .room)) (j .1) (d .0)
-                ∙ ap (λ n. put-items true (found-all L (w .text) (seen w) m₀ (path-from n p (Es l))) now-at) e ∙ j .0,
+                ∙ ap (λ n. put-items true (found-all (reads (w .choices)) L (w .text) (seen w) m₀ (path-from n p (Es l))) now-at) e ∙ j .0,
             (λ s. d .1 s ∙ j .1 s),
             d .2 ∙ j .2,
           )),
@@ -196,10 +196,10 @@ returns c =
     let m₀ = memory (size w) (now (a .places)) in
     let n : N l ≡ size w = l .before .text-len .ensures ∙ line-size (lent .text) in
     let first : Written = (a .listed .at, now (a .out)) in
-    sym (ap (λ k. put-items true (found-all L (w .text) (seen w) m₀ (path-from k (l .loop .p) (Es l))) (l .loop .to, l .loop .out)) e)
+    sym (ap (λ k. put-items true (found-all (reads (w .choices)) L (w .text) (seen w) m₀ (path-from k (l .loop .p) (Es l))) (l .loop .to, l .loop .out)) e)
     ∙ l .loop .inv .0 w told lent .0
-    ∙ ap (λ k. put-items true (found-all L (w .text) (seen w) m₀ (path-from k 0 (Es l))) first) n
-    ∙ ap (λ x. put-items true (found-all L (w .text) (seen w) m₀ (path-from (size w) 0 x)) first) es
+    ∙ ap (λ k. put-items true (found-all (reads (w .choices)) L (w .text) (seen w) m₀ (path-from k 0 (Es l))) first) n
+    ∙ ap (λ x. put-items true (found-all (reads (w .choices)) L (w .text) (seen w) m₀ (path-from (size w) 0 x)) first) es
 
 pub put-alternatives-spec : {M : Type 1} → statement M
 put-alternatives-spec =

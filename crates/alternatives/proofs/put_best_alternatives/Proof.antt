@@ -10,7 +10,7 @@ use denote.Ref.{now}
 use Rattle.base.specs.Alls.{Opt}
 use Rattle.definition.specs.Limits.{most-bytes}
 use Rattle.definition.specs.Bounds.{Sound}
-use Rattle.definition.specs.Paths.{join}
+use Rattle.definition.specs.Paths.{reads, join}
 use Rattle.definition.specs.Offers.{found-all}
 use Rattle.lent_bytes.specs.Puts.{put-at, put-front, front-read, front-length}
 use Rattle.edge.specs.Slots.{bytes-of, edge-by, edge-of}
@@ -159,8 +159,8 @@ returns c =
           let L = lexicon-of (now (a .rules)) w (now (a .code)) in
           let m₀ = memory (size w) (now (a .places)) in
           let d = p .ensures .0 w told lent in (
-            d .0 ∙ ap (λ x. put-items true (found-all L (w .text) (seen w) m₀ (x ∷ [])) (a .listed .at, now (a .out))) is
-                ∙ ap (λ o. put-items true (found-all L (w .text) (seen w) m₀ (join (best-means (now (a .room)) (now (a .slots)) o) [])) (a .listed .at, now (a .out))) (sym (b .1)),
+            d .0 ∙ ap (λ x. put-items true (found-all (reads (w .choices)) L (w .text) (seen w) m₀ (x ∷ [])) (a .listed .at, now (a .out))) is
+                ∙ ap (λ o. put-items true (found-all (reads (w .choices)) L (w .text) (seen w) m₀ (join (best-means (now (a .room)) (now (a .slots)) o) [])) (a .listed .at, now (a .out))) (sym (b .1)),
             d .1,
             d .2,
           )),
@@ -175,8 +175,8 @@ returns-2 c =
       (λ w told lent.
           let L = lexicon-of (now (a .rules)) w (now (a .code)) in
           let m₀ = memory (size w) (now (a .places)) in (
-            ap (λ l. put-items true l (a .listed .at, now (a .out))) (found-nothing L (w .text) (seen w) m₀
-                ∙ ap (λ b. found-all L (w .text) (seen w) m₀ (join (best-means (now (a .room)) (now (a .slots)) b) [])) (sym (c .enum-told .given .1))),
+            ap (λ l. put-items true l (a .listed .at, now (a .out))) (found-nothing (reads (w .choices)) L (w .text) (seen w) m₀
+                ∙ ap (λ b. found-all (reads (w .choices)) L (w .text) (seen w) m₀ (join (best-means (now (a .room)) (now (a .slots)) b) [])) (sym (c .enum-told .given .1))),
             (λ p. refl),
             refl,
           )),

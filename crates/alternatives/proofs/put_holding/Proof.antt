@@ -37,9 +37,9 @@ returns c =
     let hold = holds-at (now (a .code)) (a .asked .start) (a .asked .end) r in
     let ws = offered x (now (a .code)) (a .asked) (now (a .rules)) (a .before) in
     let h = sym (i .before .holds .ensures) ∙ i .if1 .taken in (
-      p .ensures .0 ∙ ap (λ l. put-items true l (a .at, now (a .out))) (one-holds x r (x .text ∷ ws) hold h),
+      p .ensures .0 ∙ ap (λ l. put-items true l (a .at, now (a .out))) (one-holds (a .asked .readings) x r (x .text ∷ ws) hold h),
       p .ensures .1,
-      marked-holds x r ws hold _ h (p .ensures .2),
+      marked-holds (a .asked .readings) x r ws hold _ h (p .ensures .2),
     )
 
 returns-2 : tie.Need-returns-2
@@ -52,9 +52,9 @@ returns-2 c =
     let hold = holds-at (now (a .code)) (a .asked .start) (a .asked .end) r in
     let ws = offered x (now (a .code)) (a .asked) (now (a .rules)) (a .before) in
     let h = sym (c .before .holds .ensures) ∙ c .if1 .left in (
-      ap (λ l. put-items true l (a .at, now (a .out))) (none-holds x r (x .text ∷ ws) hold h),
+      ap (λ l. put-items true l (a .at, now (a .out))) (none-holds (a .asked .readings) x r (x .text ∷ ws) hold h),
       omega arith,
-      marked-not x r ws hold (now (a .cells)) h (q .pre .4),
+      marked-not (a .asked .readings) x r ws hold (now (a .cells)) h (q .pre .4),
     )
 
 pub put-holding-spec : {M : Type 1} → statement M

@@ -1,13 +1,13 @@
 -- `alternatives::put_offers`: what was written and what is left of the offers leave what all leave.
-use mathlib.Core.Bool.{true}
+use mathlib.Core.Bool.{Bool, true}
 use mathlib.Core.List.{List, _∷_, _++_, append-nil}
 use mathlib.Core.Path.{_≡_, refl, sym, ap, _∙_, subst}
-use Prim.Native.Nat.{_+_, _-_, _*_, _≤_, _<_}
+use Prim.Native.Nat.{ℕ, _+_, _-_, _*_, _≤_, _<_}
 use native.Mathlib.Omega.{arith}
 use lib.ListN.{length, take, drop}
 use lib.Seq.{length-take-le}
 use denote.Ref.{now}
-use Rattle.base.specs.Pick.{pick-all}
+use Rattle.base.specs.Pick.{pick, pick-all}
 use Rattle.base.specs.Alls.{All}
 use Rattle.definition.specs.Limits.{most-alternative}
 use Rattle.definition.specs.Shorts.{Low, Short}
@@ -31,7 +31,7 @@ abbrev Inv-loop : tie.InvT-loop
 Inv-loop out₀ at rules code asked before row e text cells₀ o n bytes₀ to₀ k₀ out cells bytes to k =
     let x = edge-by e text in
     let ws = earlier x code asked rules before in
-    let l = offers x (rule-of (drop row rules)) in
+    let l = offers (asked .readings) x (rule-of (drop row rules)) in
     (put-items true (news (ws ++ take k (texts l)) (drop k l)) (to, out) ≡ put-items true (news ws l) (at, out₀))
     × (k ≤ n) × (to ≤ at + offer-bytes * k) × (length out ≡ length out₀) × (length cells ≡ length cells₀)
     × Marked (offered x code asked rules before ++ take k (texts l)) cells × (length bytes ≡ most-alternative)
@@ -48,6 +48,9 @@ X l = let a = l .before .before .before .before .before .before .before .before 
 abbrev R : At → Rule
 R l = let a = l .before .before .before .before .before .before .before .before .args in rule-of (drop (a .row) (now (a .rules)))
 
+abbrev Y : At → Bool
+Y l = l .before .before .before .before .before .before .before .before .args .asked .readings
+
 -- what was offered before
 abbrev F : At → List Text
 F l = let a = l .before .before .before .before .before .before .before .before .args in offered (X l) (now (a .code)) (a .asked) (now (a .rules)) (a .before)
@@ -57,17 +60,17 @@ E l = X l .text ∷ F l
 
 -- the text of this turn
 abbrev U : At → Text
-U l = offer-at (X l) (R l) (l .loop .k)
+U l = offer-at (Y l) (X l) (R l) (l .loop .k)
 
 few : (l : At) → l .before .offers-count .result ≤ most-offers
 unfolding count-of
 few l =
     let o = l .before .before .offers-of in
-    let p = pick-all (λ n. n ≤ 1) (o .result .target) {x = 1} {y = 0} (omega arith) (omega arith) in
-    omega (arith, o .ensures .1, l .before .offers-count .ensures, p)
+    let one : (b : Bool) → pick {A = ℕ} b 1 0 ≤ 1 = λ b. pick-all (λ n. n ≤ 1) b {x = 1} {y = 0} (omega arith) (omega arith) in
+    omega (arith, o .ensures .1, l .before .offers-count .ensures, one (o .result .reading), one (o .result .target))
 
 short : (l : At) → Short most-alternative (U l)
-short l = let q = l .before .before .before .before .before .before .before .before in text-short (q .pre .2) (q .pre .1 .spoken) (l .loop .k)
+short l = let q = l .before .before .before .before .before .before .before .before in text-short (q .pre .2) (q .pre .1 .spoken) (Y l) (l .loop .k)
 
 -- an offer that was put: where that was, how many bytes there are, and which text it is
 abbrev Put : Type 0
@@ -100,7 +103,7 @@ loop-holds c =
     let a = q .args in
     let x = edge-by (a .e) (now (a .text)) in
     let ws = offered x (now (a .code)) (a .asked) (now (a .rules)) (a .before) in
-    let l = offers x (rule-of (drop (a .row) (now (a .rules)))) in (
+    let l = offers (a .asked .readings) x (rule-of (drop (a .row) (now (a .rules)))) in (
       ap (λ us. put-items true (news us l) (a .at, now (a .out))) (append-nil (x .text ∷ ws)),
       omega arith,
       omega arith,
@@ -176,14 +179,14 @@ loop-again c =
     let o = l .before .before .offers-of in
     let h : l .loop .k < count-of (o .result) = omega (arith, t, l .before .offers-count .ensures) in
     let u = told f in (
-      offers-on (a .e) (now (a .text)) (R l) (o .result) (o .ensures .0) (E l) (l .loop .k) h (n .result) (z .result) _
+      offers-on (Y l) (a .e) (now (a .text)) (R l) (o .result) (o .ensures .0) (E l) (l .loop .k) h (n .result) (z .result) _
           (p .result, p .last .0) (l .loop .to, l .loop .out) (z .ensures) u (n .ensures) (p .ensures .0) ∙ l .loop .inv .0,
       omega (arith, t),
       omega (arith, l .loop .inv .2, p .ensures .1),
       search needs,
       search needs,
-      subst (λ us. Marked us (m .last .0)) (texts-on (a .e) (now (a .text)) (R l) (o .result) (o .ensures .0) (E l) (l .loop .k) h _ u (F l))
-          (m .ensures (F l ++ take (l .loop .k) (texts (offers (X l) (R l)))) (l .loop .inv .5)),
+      subst (λ us. Marked us (m .last .0)) (texts-on (Y l) (a .e) (now (a .text)) (R l) (o .result) (o .ensures .0) (E l) (l .loop .k) h _ u (F l))
+          (m .ensures (F l ++ take (l .loop .k) (texts (offers (Y l) (X l) (R l)))) (l .loop .inv .5)),
       long f,
     )
 
@@ -201,9 +204,9 @@ returns c =
     let o = l .before .before .offers-of in
     let h : count-of (o .result) ≤ l .loop .k = omega (arith, l .before .offers-count .ensures) in (
       sym (ap (λ es. put-items true es (l .loop .to, l .loop .out))
-          (offers-over (a .e) (now (a .text)) (R l) (o .result) (o .ensures .0) (E l) (l .loop .k) h)) ∙ l .loop .inv .0,
+          (offers-over (Y l) (a .e) (now (a .text)) (R l) (o .result) (o .ensures .0) (E l) (l .loop .k) h)) ∙ l .loop .inv .0,
       omega (arith, few l, l .loop .inv .1, l .loop .inv .2),
-      subst (λ us. Marked (F l ++ us) (l .loop .cells)) (texts-over (a .e) (now (a .text)) (R l) (o .result) (o .ensures .0) (E l) (l .loop .k) h) (l .loop .inv .5),
+      subst (λ us. Marked (F l ++ us) (l .loop .cells)) (texts-over (Y l) (a .e) (now (a .text)) (R l) (o .result) (o .ensures .0) (E l) (l .loop .k) h) (l .loop .inv .5),
     )
 
 pub put-offers-spec : {M : Type 1} → statement M

@@ -26,7 +26,7 @@ abbrev Inv-loop : tie.InvT-loop
 Inv-loop out₀ at rules code asked rows e text cells₀ to₀ row₀ before₀ out cells to row before =
     let x = edge-by e text in
     (put-items true (left-news x code asked rules before row (rows - before)) (to, out)
-    ≡ put-items true (found-by x (holding code (asked .start) (asked .end) rules (asked .first) rows)) (at, out₀))
+    ≡ put-items true (found-by (asked .readings) x (holding code (asked .start) (asked .end) rules (asked .first) rows)) (at, out₀))
     × (rules-from rules row ≡ drop before (rules-from rules (asked .first))) × Rows rules row (rows - before)
     × (before ≤ rows) × (to ≤ at + row-bytes * before) × (length out ≡ length out₀) × (length cells ≡ length cells₀)
     × Marked (offered x code asked rules before) cells

@@ -39,6 +39,12 @@ cast-prepared-3 c = search needs
 array-write-prepared-3 : tie.Need-array-write-prepared-3
 array-write-prepared-3 c = search needs
 
+cast-prepared-4 : tie.Need-cast-prepared-4
+cast-prepared-4 c = search needs
+
+array-write-prepared-4 : tie.Need-array-write-prepared-4
+array-write-prepared-4 c = search needs
+
 sub-check : tie.Need-sub-check
 sub-check c = search needs
 
@@ -54,8 +60,8 @@ zeros = replicate (all-ready + 2 * (most-characters + 3)) 0
 
 check-requires : tie.Need-check-requires
 check-requires c κs =
-    let a = c .before .before .before .before .before .before .before .before .before .before .before .before .before .before .before .before .before .args .asked in
-    forms-lent zeros (a .capitals) (a .«o_ang») (a .mode) refl
+    let a = c .before .before .before .before .before .before .before .before .before .before .before .before .before .before .before .before .before .before .args .asked in
+    forms-lent zeros a refl
 
 enum-known-number : tie.Need-enum-known-number
 enum-known-number c = search needs
@@ -69,14 +75,14 @@ enum-told c = search needs
 slice-aggregate-read : tie.Need-slice-aggregate-read
 slice-aggregate-read c =
     let k = c .before .before .before .before in
-    let z = k .before .before .before .before .before .before .before in
+    let z = k .before .before .before .before .before .before .before .before in
     let a = z .before .before .before .before .before .before .before .before .before .before .before .args in
-    sym (asked-long zeros (a .asked .capitals) (a .asked .«o_ang») (a .asked .mode) refl (k .check .last .1 .1 .1 .1 .1 .1 .0) (k .check .kept .1 .1 .1 .1 .1 .1 .0))
+    sym (asked-long zeros (a .asked) refl (k .check .last .1 .1 .1 .1 .1 .1 .0) (k .check .kept .1 .1 .1 .1 .1 .1 .0))
 
 read-requires : tie.Need-read-requires
 read-requires c κs =
     let k = c .before .before .before .before .before .before .before in
-    let z = k .before .before .before .before .before .before .before in
+    let z = k .before .before .before .before .before .before .before .before in
     let a = z .before .before .before .before .before .before .before .before .before .before .before .args in
     let e = c .before .before .before .before .enum-told .given .1 in
     let x = k .check .last .1 .1 .1 .1 .1 .1 .0 in
@@ -85,11 +91,11 @@ read-requires c κs =
     let long = ap length (z .clear .ensures) ∙ length-replicate (length (now (a .out))) 0 in
     let index = subst (Indexed (now (a .decompositions)) x) e (k .check .ensures .1) in (
       record {
-        passed = ap (λ (m : ℕ). of m (choices-in (asked zeros (a .asked .capitals) (a .asked .«o_ang») (a .asked .mode) refl x l))) (asked-mode zeros (a .asked .capitals) (a .asked .«o_ang») (a .asked .mode) refl x l)
-            ∙ ap (λ (y : Choices). of (a .asked .mode) y) (asked-choices zeros (a .asked .capitals) (a .asked .«o_ang») (a .asked .mode) refl x l)
+        passed = ap (λ (m : ℕ). of m (choices-in (asked zeros (a .asked) refl x l))) (asked-mode zeros (a .asked) refl x l)
+            ∙ ap (λ (y : Choices). of (a .asked .mode) y) (asked-choices zeros (a .asked) refl x l)
             ∙ sym (k .check .ensures .0) ∙ ap verdict-means e;
-        blank = asked-blank zeros (a .asked .capitals) (a .asked .«o_ang») (a .asked .mode) refl x l (now (a .decompositions)) (index .1);
-        whole = asked-long zeros (a .asked .capitals) (a .asked .«o_ang») (a .asked .mode) refl x l;
+        blank = asked-blank zeros (a .asked) refl x l (now (a .decompositions)) (index .1);
+        whole = asked-long zeros (a .asked) refl x l;
       },
       z .clear .ensures ∙ ap (λ (m : ℕ). replicate {A = ℕ} m 0) (sym long),
     )
@@ -100,7 +106,7 @@ same-length c = search needs
 returns : tie.Need-returns
 returns c =
     let k = c .before .before .before .before .before in
-    let z = k .before .before .before .before .before .before .before in
+    let z = k .before .before .before .before .before .before .before .before in
     let a = z .before .before .before .before .before .before .before .before .before .before .before .args in
     let i = given (a .asked .mode) (chosen (a .asked)) (now (a .rules)) (now (a .classes)) (now (a .vowels)) (now (a .decompositions)) (now (a .code)) (now (a .text))
     (length (now (a .slots))) (length (now (a .room))) (length (now (a .out))) in
@@ -116,14 +122,18 @@ same-length-3 : tie.Need-same-length-3
 same-length-3 c = search needs
 
 same-length-4 : tie.Need-same-length-4
-same-length-4 c = search needs
+same-length-4 c =
+    let r = c .before .before .before .before .before .before .before in
+    let k = r .before .before .before .before .before .before .before .before in
+    let z = k .before .before .before .before .before .before .before .before in
+    r .read .kept .1 .1 .1 .1 .1 .1 .1 .1 .1 .0 ∙ z .clear .kept .0
 
 returns-2 : tie.Need-returns-2
 returns-2 c =
     let r = c .before .before .before .before .before .before .before in
     let t = r .before .before .before .before .before in
     let k = t .before .before .before in
-    let z = k .before .before .before .before .before .before .before in
+    let z = k .before .before .before .before .before .before .before .before in
     let a = z .before .before .before .before .before .before .before .before .before .before .before .args in
     let e = t .enum-told .given .1 in
     let x = k .check .last .1 .1 .1 .1 .1 .1 .0 in
@@ -133,8 +143,8 @@ returns-2 c =
     let run : ℕ → Choices → ℕ → Called = λ m y o. unless-refused (of m y o) (text-refusal (now (a .text))) in
     let out = z .clear .last .0 in
     r .read .ensures
-    ∙ ap (λ (m : ℕ). run m (choices-in (asked zeros (a .asked .capitals) (a .asked .«o_ang») (a .asked .mode) refl x l)) (length out)) (asked-mode zeros (a .asked .capitals) (a .asked .«o_ang») (a .asked .mode) refl x l)
-    ∙ ap (λ (y : Choices). run (a .asked .mode) y (length out)) (asked-choices zeros (a .asked .capitals) (a .asked .«o_ang») (a .asked .mode) refl x l)
+    ∙ ap (λ (m : ℕ). run m (choices-in (asked zeros (a .asked) refl x l)) (length out)) (asked-mode zeros (a .asked) refl x l)
+    ∙ ap (λ (y : Choices). run (a .asked .mode) y (length out)) (asked-choices zeros (a .asked) refl x l)
     ∙ ap (λ (o : ℕ). run (a .asked .mode) (chosen (a .asked)) o) (ap length (z .clear .ensures) ∙ length-replicate (length (now (a .out))) 0)
     ∙ check-right (of (a .asked .mode) (chosen (a .asked)) (length (now (a .out)))) (sym (k .check .ensures .0) ∙ ap verdict-means e)
 
@@ -149,6 +159,8 @@ respond-spec =
     array-write-prepared-2
     cast-prepared-3
     array-write-prepared-3
+    cast-prepared-4
+    array-write-prepared-4
     sub-check
     part-prepared-start
     part-prepared-end

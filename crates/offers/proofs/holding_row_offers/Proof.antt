@@ -22,7 +22,7 @@ row-offers-requires c κs = search needs
 returns : tie.Need-returns
 returns c =
     let a = c .before .before .before .before .before .before .before .args in
-    let l = texts (offers (edge-by (a .e) (now (a .text))) (rule-of (drop (a .row) (now (a .rules))))) in
+    let l = texts (offers (a .asked .readings) (edge-by (a .e) (now (a .text))) (rule-of (drop (a .row) (now (a .rules))))) in
     let n = any (same (now (a .w))) in
     c .row-offers .ensures .0 ∙ ap n (take-all most-offers l (c .row-offers .ensures .1))
     ∙ sym (ap (λ (y : Bool). y && n l) (sym (c .before .before .holds .ensures) ∙ c .before .if1 .taken))
@@ -30,7 +30,7 @@ returns c =
 returns-2 : tie.Need-returns-2
 returns-2 c =
     let a = c .before .before .before .before .before .before .args in
-    let l = texts (offers (edge-by (a .e) (now (a .text))) (rule-of (drop (a .row) (now (a .rules))))) in
+    let l = texts (offers (a .asked .readings) (edge-by (a .e) (now (a .text))) (rule-of (drop (a .row) (now (a .rules))))) in
     let n = any (same (now (a .w))) in
     sym (ap (λ (y : Bool). y && n l) (sym (c .before .holds .ensures) ∙ c .if1 .left))
 

@@ -1,4 +1,5 @@
--- `offers::put_offer`: an alternative, with the vowel put behind it or without, or the target.
+-- `offers::put_offer`: an alternative, with the vowel put behind it or without; the end-of-syllable target; or the target.
+use mathlib.Core.Bool.{true}
 use mathlib.Core.List.{List, [], _++_}
 use mathlib.Core.Path.{_≡_, refl, sym, ap, _∙_}
 use Prim.Native.Nat.{ℕ, _+_, _-_, _≤_}
@@ -8,13 +9,13 @@ use denote.Ref.{now}
 use Rattle.base.specs.ListLaws.{take-most}
 use Rattle.definition.specs.Limits.{most-target, most-alternative}
 use Rattle.definition.specs.Notes.{note-core}
-use Rattle.definition.specs.RuleRows.{rule-of}
+use Rattle.definition.specs.RuleRows.{rule-flag, end-target-bit, rule-of}
 use Rattle.definition.specs.Texts.{Text}
 use Rattle.lent_bytes.specs.Puts.{put-at, put-next, put-front, front-length}
 use Rattle.rule_row.specs.Others.{others}
 use Rattle.edge.specs.Slots.{edge-by}
-use Rattle.offers.specs.Texts.{offer-at, text-short}
-use Rattle.offers.proofs.Telling.{target-short, other-short, flag-there, other-there, note-there, text-plain, text-cored, text-target}
+use Rattle.offers.specs.Texts.{offer-at, at-reading, text-short}
+use Rattle.offers.proofs.Telling.{target-short, end-short, other-short, flag-there, end-flag-there, other-there, note-there, text-plain, text-cored, text-reading, text-target}
 use borrow.Author.Needs.{needs}
 use Rattle.offers.proofs.put_offer.Statement.{statement}
 use Rattle.offers.proofs.put_offer.Tie as tie
@@ -30,10 +31,10 @@ abbrev Old : tie.Start → List ℕ
 Old q = now (q .args .bytes)
 
 abbrev T : tie.Start → Text
-T q = offer-at (edge-by (q .args .e) (B q)) (rule-of (S q)) (q .args .k)
+T q = offer-at (q .args .readings) (edge-by (q .args .e) (B q)) (rule-of (S q)) (q .args .k)
 
 text-fits : (q : tie.Start) → length (T q) ≤ most-alternative
-text-fits q = text-short (q .pre .2) (q .pre .1 .spoken) (q .args .k) .long
+text-fits q = text-short (q .pre .2) (q .pre .1 .spoken) (q .args .readings) (q .args .k) .long
 
 -- where the function begins, and the alternative that was read
 abbrev start : tie.After-other-text → tie.Start
@@ -49,13 +50,13 @@ other-fits m = let q = start m in omega (arith, ap length (m .other-text .ensure
 core-there : (t : tie.Then2) → let q = start (t .before .before .before .before .before) in q .args .e .note ≡ note-core
 core-there t =
     let q = start (t .before .before .before .before .before) in
-    note-there (S q) (q .args .e) (B q) (q .args .o) (q .args .k) (q .pre .3) (q .pre .4) (q .pre .2) (t .if2 .taken)
+    note-there (S q) (q .args .readings) (q .args .e) (B q) (q .args .o) (q .args .k) (q .pre .3) (q .pre .4) (q .pre .2) (t .if2 .taken)
 
 other-text-requires : tie.Need-other-text-requires
 other-text-requires c κs =
     let q = c .before .before .before .before .before in
     let a = q .args in
-    record { placed = q .pre .1 .placed; there = other-there (S q) (a .e) (B q) (a .o) (a .k) (q .pre .3) (q .pre .4) (omega arith) }
+    record { placed = q .pre .1 .placed; there = other-there (S q) (a .readings) (a .e) (B q) (a .o) (a .k) (q .pre .3) (q .pre .4) (omega arith) }
 
 put-text-requires : tie.Need-put-text-requires
 put-text-requires c κs = let m = c .before in omega (arith, other-fits m, start m .pre .0)
@@ -103,7 +104,7 @@ returns c =
     let first = put-front (W m) (W m) (Old q) (f .put-text .last .0) (f .put-text .ensures) refl in
     let both : W m ++ now (v .result) ≡ T q =
     ap (λ l. l ++ now (v .result)) (m .other-text .ensures) ∙ ap (λ l. getD (others (S q)) (a .k) [] ++ l) (v .ensures)
-    ∙ text-cored (S q) (a .e) (B q) (a .o) (a .k) (q .pre .3) (q .pre .4) (q .pre .2) (omega arith) (t .if2 .taken) in
+    ∙ text-cored (S q) (a .readings) (a .e) (B q) (a .o) (a .k) (q .pre .3) (q .pre .4) (q .pre .2) (omega arith) (t .if2 .taken) in
     let e = sym (length-append (W m) (now (v .result))) ∙ ap length both in (
       c .before .before .put-at .ensures
           ∙ put-next 0 (length (W m)) (W m) (now (v .result)) (Old q) (f .put-text .last .0) (omega arith) (omega arith) first
@@ -122,21 +123,37 @@ returns-2 c =
     let q = start m in
     let a = q .args in
     let own : W m ≡ T q =
-    m .other-text .ensures ∙ text-plain (S q) (a .e) (B q) (a .o) (a .k) (q .pre .3) (q .pre .4) (omega arith) (c .if2 .left) in
+    m .other-text .ensures ∙ text-plain (S q) (a .readings) (a .e) (B q) (a .o) (a .k) (q .pre .3) (q .pre .4) (omega arith) (c .if2 .left) in
     (put-front (W m) (T q) (Old q) (f .put-text .last .0) (f .put-text .ensures) own, ap length own, omega (arith, ap length own, text-fits q))
 
-target-text-requires : tie.Need-target-text-requires
-target-text-requires c κs =
-    let q = c .before .before .before .before .before in
+-- Behind the alternatives: where both ways begin, and what is known there
+abbrev Asked : Type 0
+Asked = tie.After-is-reading
+
+abbrev begin : Asked → tie.Start
+begin m = m .before .before .before .before .before .before
+
+reading : (m : Asked) → m .is-reading .result ≡ true → (begin m .args .k ≡ begin m .args .o .others) × (begin m .args .o .reading ≡ true)
+reading m z = let a = begin m .args in at-reading (a .o) (a .k) (sym (m .is-reading .ensures) ∙ z)
+
+end-flag : (m : Asked) → m .is-reading .result ≡ true → rule-flag (S (begin m)) end-target-bit ≡ true
+end-flag m z =
+    let q = begin m in
     let a = q .args in
-    (q .pre .1 .placed, flag-there (S q) (a .e) (B q) (a .o) (a .k) (q .pre .3) (q .pre .4))
+    end-flag-there (S q) (a .readings) (a .e) (B q) (a .o) (a .k) (q .pre .3) (q .pre .4) (reading m z .1)
+
+is-reading-requires : tie.Need-is-reading-requires
+is-reading-requires c κs = search needs
+
+end-target-text-requires : tie.Need-end-target-text-requires
+end-target-text-requires c κs = let m = c .before in (begin m .pre .1 .placed, end-flag m (c .if3 .taken))
 
 put-text-requires-2 : tie.Need-put-text-requires-2
 put-text-requires-2 c κs =
-    let q = c .before .before .before .before .before .before .before in
-    let a = q .args in
-    let z = target-short (S q) (q .pre .1 .spoken) (flag-there (S q) (a .e) (B q) (a .o) (a .k) (q .pre .3) (q .pre .4)) .long in
-    omega (arith, ap length (c .before .target-text .ensures), z, q .pre .0)
+    let m = c .before .before .before in
+    let q = begin m in
+    let z = end-short (S q) (q .pre .1 .spoken) (end-flag m (c .before .before .if3 .taken)) .long in
+    omega (arith, ap length (c .before .end-target-text .ensures), z, q .pre .0)
 
 same-length-3 : tie.Need-same-length-3
 same-length-3 c = search needs
@@ -144,12 +161,42 @@ same-length-3 c = search needs
 returns-3 : tie.Need-returns-3
 returns-3 c =
     let f = c .before .before in
+    let w = f .before .before .end-target-text in
+    let m = f .before .before .before .before in
+    let q = begin m in
+    let a = q .args in
+    let t = reading m (f .before .before .before .if3 .taken) in
+    let own : now (w .result) ≡ T q =
+    w .ensures ∙ text-reading (S q) (a .readings) (a .e) (B q) (a .o) (a .k) (q .pre .3) (q .pre .4) (t .0) (t .1) in
+    (put-front (now (w .result)) (T q) (Old q) (f .put-text2 .last .0) (f .put-text2 .ensures) own, ap length own, omega (arith, ap length own, text-fits q))
+
+target-text-requires : tie.Need-target-text-requires
+target-text-requires c κs =
+    let q = begin (c .before) in
+    let a = q .args in
+    (q .pre .1 .placed, flag-there (S q) (a .readings) (a .e) (B q) (a .o) (a .k) (q .pre .3) (q .pre .4))
+
+put-text-requires-3 : tie.Need-put-text-requires-3
+put-text-requires-3 c κs =
+    let q = begin (c .before .before .before) in
+    let a = q .args in
+    let z = target-short (S q) (q .pre .1 .spoken) (flag-there (S q) (a .readings) (a .e) (B q) (a .o) (a .k) (q .pre .3) (q .pre .4)) .long in
+    omega (arith, ap length (c .before .target-text .ensures), z, q .pre .0)
+
+same-length-4 : tie.Need-same-length-4
+same-length-4 c = search needs
+
+returns-4 : tie.Need-returns-4
+returns-4 c =
+    let f = c .before .before in
     let w = f .before .before .target-text in
-    let q = f .before .before .before .before .before .before .before .before in
+    let m = f .before .before .before .before in
+    let q = begin m in
     let a = q .args in
     let own : now (w .result) ≡ T q =
-    w .ensures ∙ text-target (S q) (a .e) (B q) (a .o) (a .k) (q .pre .3) (q .pre .4) (omega arith) in
-    (put-front (now (w .result)) (T q) (Old q) (f .put-text2 .last .0) (f .put-text2 .ensures) own, ap length own, omega (arith, ap length own, text-fits q))
+    w .ensures ∙ text-target (S q) (a .readings) (a .e) (B q) (a .o) (a .k) (q .pre .3) (q .pre .4) (omega (arith, m .before .if1 .left))
+    (sym (m .is-reading .ensures) ∙ f .before .before .before .if3 .left) in
+    (put-front (now (w .result)) (T q) (Old q) (f .put-text3 .last .0) (f .put-text3 .ensures) own, ap length own, omega (arith, ap length own, text-fits q))
 
 pub put-offer-spec : {M : Type 1} → statement M
 put-offer-spec =
@@ -166,7 +213,12 @@ put-offer-spec =
     returns
     same-length-2
     returns-2
-    target-text-requires
+    is-reading-requires
+    end-target-text-requires
     put-text-requires-2
     same-length-3
-    returns-3)
+    returns-3
+    target-text-requires
+    put-text-requires-3
+    same-length-4
+    returns-4)

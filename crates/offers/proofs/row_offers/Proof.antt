@@ -21,18 +21,18 @@ use Rattle.offers.proofs.row_offers.Statement.{statement}
 use Rattle.offers.proofs.row_offers.Tie as tie
 
 abbrev Inv-loop : tie.InvT-loop
-Inv-loop rules row e text most w o n bytes₀ k₀ bytes k =
-    let l = texts (offers (edge-by e text) (rule-of (drop row rules))) in
+Inv-loop rules row readings e text most w o n bytes₀ k₀ bytes k =
+    let l = texts (offers readings (edge-by e text) (rule-of (drop row rules))) in
     (left-of w l most k ≡ any (same w) (take most l)) × (length bytes ≡ most-alternative)
 
 abbrev μ-loop : tie.MeasureT-loop
-μ-loop rules row e text most w o n bytes₀ k₀ bytes k = n - k
+μ-loop rules row readings e text most w o n bytes₀ k₀ bytes k = n - k
 
 abbrev At : Type 0
 At = tie.At-loop Inv-loop μ-loop
 
 abbrev L : At → List Text
-L l = let a = l .before .before .before .before .before .before .args in texts (offers (edge-by (a .e) (now (a .text))) (rule-of (drop (a .row) (now (a .rules)))))
+L l = let a = l .before .before .before .before .before .before .args in texts (offers (a .readings) (edge-by (a .e) (now (a .text))) (rule-of (drop (a .row) (now (a .rules)))))
 
 abbrev W : At → Text
 W l = now (l .before .before .before .before .before .before .args .w)
@@ -76,7 +76,7 @@ offers-count-requires c κs = c .offers-of .ensures .1
 loop-holds : tie.Need-loop-holds Inv-loop μ-loop
 loop-holds c =
     let a = c .before .before .before .before .before .args in
-    let l = texts (offers (edge-by (a .e) (now (a .text))) (rule-of (drop (a .row) (now (a .rules))))) in
+    let l = texts (offers (a .readings) (edge-by (a .e) (now (a .text))) (rule-of (drop (a .row) (now (a .rules))))) in
     let z : a .most - 0 ≡ a .most = omega arith in
     (ap (λ n. any (same (now (a .w))) (take n l)) z, refl)
 

@@ -19,7 +19,7 @@ use Rattle.offers.proofs.rows_offer.Tie as tie
 abbrev Inv-loop : tie.InvT-loop
 Inv-loop rules code asked rows e text w row₀ left₀ row left =
     let x = edge-by e text in
-    (among-all w x (holding code (asked .start) (asked .end) rules row left) ≡ among-all w x (holding code (asked .start) (asked .end) rules (asked .first) rows)) × Rows rules row left
+    (among-all w (asked .readings) x (holding code (asked .start) (asked .end) rules row left) ≡ among-all w (asked .readings) x (holding code (asked .start) (asked .end) rules (asked .first) rows)) × Rows rules row left
 
 abbrev μ-loop : tie.MeasureT-loop
 μ-loop rules code asked rows e text w row₀ left₀ row left = left
@@ -45,7 +45,7 @@ returns : tie.Need-returns Inv-loop μ-loop
 returns c =
     let l = c .before .before .before in
     let a = l .before .before .before .before .before .args in
-    rows-turn (now (a .w)) (X l) (now (a .code)) (a .asked .start) (a .asked .end) (R l) (l .loop .row) (l .loop .left) (omega arith) (l .loop .inv .1) _ refl true
+    rows-turn (now (a .w)) (a .asked .readings) (X l) (now (a .code)) (a .asked .start) (a .asked .end) (R l) (l .loop .row) (l .loop .left) (omega arith) (l .loop .inv .1) _ refl true
     (sym (c .if1 .taken) ∙ c .before .holding-row-offers .ensures) ∙ l .loop .inv .0
 
 size-requires : tie.Need-size-requires Inv-loop μ-loop
@@ -70,7 +70,7 @@ loop-again c =
     let l = c .before .before .before .before in
     let a = l .before .before .before .before .before .args in
     let z = c .size .ensures .0 in (
-      rows-turn (now (a .w)) (X l) (now (a .code)) (a .asked .start) (a .asked .end) (R l) (l .loop .row) (l .loop .left) (omega arith) (l .loop .inv .1) _ z false
+      rows-turn (now (a .w)) (a .asked .readings) (X l) (now (a .code)) (a .asked .start) (a .asked .end) (R l) (l .loop .row) (l .loop .left) (omega arith) (l .loop .inv .1) _ z false
           (sym (c .before .if1 .left) ∙ c .before .before .holding-row-offers .ensures) ∙ l .loop .inv .0,
       rows-next (R l) (l .loop .row) (l .loop .left) (omega arith) (l .loop .inv .1) _ z,
     )
@@ -79,7 +79,7 @@ returns-2 : tie.Need-returns-2 Inv-loop μ-loop
 returns-2 c =
     let l = c .before in
     let a = l .before .before .before .before .before .args in
-    rows-over (now (a .w)) (X l) (now (a .code)) (a .asked .start) (a .asked .end) (R l) (l .loop .row) (l .loop .left) (omega arith) ∙ l .loop .inv .0
+    rows-over (now (a .w)) (a .asked .readings) (X l) (now (a .code)) (a .asked .start) (a .asked .end) (R l) (l .loop .row) (l .loop .left) (omega arith) ∙ l .loop .inv .0
 
 pub rows-offer-spec : {M : Type 1} → statement M
 rows-offer-spec =

@@ -7,7 +7,7 @@ use native.Mathlib.Omega.{arith}
 use denote.Ref.{now}
 use Rattle.definition.specs.Tables.{lexicon}
 use Rattle.definition.specs.Edges.{Edge, view}
-use Rattle.definition.specs.Paths.{path-from, sorted}
+use Rattle.definition.specs.Paths.{reads, path-from, sorted}
 use Rattle.definition.specs.Offers.{found-all}
 use Rattle.definition.specs.Bounds.{Sound}
 use Rattle.definition.specs.Call.{tables-of}
@@ -84,11 +84,11 @@ returns-2 c =
     let m = memory (size w) (now (a .places)) in
     let long : size w ≡ n = omega (arith, line-size (lent .text), h .sized) in
     let ps = path-from n 0 (w .edges) in
-    let fs = found-all (lexicon D) (w .text) (view (D .classes) (w .edges)) m ps in
+    let fs = found-all (reads (D .choices)) (lexicon D) (w .text) (view (D .classes) (w .edges)) m ps in
     let path = ap (λ (k : ℕ). path-from k 0 (w .edges)) long in
     let mode = g .before .before .before .before .if2 .taken in
     g .put-alternatives .ensures w told lent e
-    ∙ ap (λ (l : List Edge). put-items true (found-all (lexicon D) (w .text) (view (D .classes) (w .edges)) m l) (f .put-path .result, f .put-path .last .0)) path
+    ∙ ap (λ (l : List Edge). put-items true (found-all (reads (D .choices)) (lexicon D) (w .text) (view (D .classes) (w .edges)) m l) (f .put-path .result, f .put-path .last .0)) path
     ∙ ap (put-items true fs) (f .put-path .ensures .0 ∙ ap (λ (es : List Edge). put-items true (path-from n 0 es) (5, now (a .out))) e)
     ∙ sym (put-items-append true ps fs (5, now (a .out)))
     ∙ sym (ap (λ (l : List Edge). put-items true l (5, now (a .out))) (lists-alternatives D (w .text) n long (a .built .mode) (w .edges) m (omega (arith, mode))

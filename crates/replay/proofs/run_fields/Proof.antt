@@ -28,6 +28,15 @@ byte-requires-3 c κs = search needs
 cast-o-ang : tie.Need-cast-o-ang
 cast-o-ang c = search needs
 
+add-byte-3 : tie.Need-add-byte-3
+add-byte-3 c = search needs
+
+byte-requires-4 : tie.Need-byte-requires-4
+byte-requires-4 c κs = search needs
+
+cast-readings : tie.Need-cast-readings
+cast-readings c = search needs
+
 fill-requires : tie.Need-fill-requires
 fill-requires c κs = search needs
 
@@ -93,6 +102,9 @@ run-fields-spec =
     add-byte-2
     byte-requires-3
     cast-o-ang
+    add-byte-3
+    byte-requires-4
+    cast-readings
     fill-requires
     fill-requires-2
     fill-requires-3
