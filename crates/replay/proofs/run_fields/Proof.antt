@@ -65,7 +65,7 @@ field-requires-5 : tie.Need-field-requires-5
 field-requires-5 c κs = search needs
 
 field-requires-6 : tie.Need-field-requires-6
-field-requires-6 c κs = search needs
+field-requires-6 c κs = let q = c .before .before .before .before .before .before .before .before .before .before .before .before .before .before .before .before .before .before .before .before .before .before .before .before .before in omega (arith, q .pre .5)
 
 jettyfig-romanize-requires : tie.Need-jettyfig-romanize-requires
 jettyfig-romanize-requires c κs = search needs
@@ -75,14 +75,14 @@ same-length c =
     let x = c .before .before .before .before .before .before in
     let m = x .before .before .before .before .before .before .before .before .before .before in
     let f = m .before .before .before .before .before .before .before .before .before .before in
-    omega (arith, x .jettyfig-romanize .kept .1 .1 .1 .1 .1 .1 .1 .1 .1 .0, f .fill .kept .0)
+    omega (arith, x .jettyfig-romanize .kept .1 .1 .1 .1 .1 .1 .1 .1 .1 .1 .0, f .fill .kept .0)
 
 same-length-2 : tie.Need-same-length-2
 same-length-2 c =
     let x = c .before .before .before .before .before .before in
     let m = x .before .before .before .before .before .before .before .before .before .before in
     let f = m .before .before .before .before .before .before in
-    omega (arith, x .jettyfig-romanize .kept .1 .1 .1 .1 .1 .1 .1 .1 .1 .1 .0, f .fill2 .kept .0)
+    omega (arith, x .jettyfig-romanize .kept .1 .1 .1 .1 .1 .1 .1 .1 .1 .1 .1 .0, f .fill2 .kept .0)
 
 same-length-3 : tie.Need-same-length-3
 same-length-3 c = search needs
