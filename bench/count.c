@@ -1,6 +1,6 @@
 /* Calls whose instructions are to be counted:
  *
- *     count FOLDER LENGTH ROOMS MODE CAPITALS O_ANG TIMES
+ *     count FOLDER LENGTH ROOMS MODE CAPITALS O_ANG READINGS TIMES
  *
  * FOLDER holds rules.bin, classes.bin, vowels.bin, decompositions.bin and labels.txt. The texts are so many labels, or with another LENGTH than 0 so
  * many texts of LENGTH characters, which are labels joined by spaces; `empty` in its place makes them empty. Rooms are ROOMS bytes
@@ -12,7 +12,7 @@
 
 #include "jettyfig.h"
 
-enum { MOST_TEXTS = 32, MOST_BYTES = 1 << 20, WORDS = 8 };
+enum { MOST_TEXTS = 32, MOST_BYTES = 1 << 20, WORDS = 9 };
 
 typedef struct {
     uint8_t bytes[MOST_BYTES];
@@ -77,9 +77,9 @@ static uint8_t *lend(size_t n) {
 
 int main(int argc, char **argv) {
     size_t k, room_length, times;
-    uint8_t *slots, *room, *out, mode, capitals, o_ang;
+    uint8_t *slots, *room, *out, mode, capitals, o_ang, readings;
     int empty;
-    if (argc != WORDS) quit("usage: count FOLDER LENGTH ROOMS MODE CAPITALS O_ANG TIMES");
+    if (argc != WORDS) quit("usage: count FOLDER LENGTH ROOMS MODE CAPITALS O_ANG READINGS TIMES");
     read_file(argv[1], "rules.bin", &rules);
     read_file(argv[1], "classes.bin", &classes);
     read_file(argv[1], "vowels.bin", &vowels);
@@ -91,14 +91,16 @@ int main(int argc, char **argv) {
     mode = (uint8_t)strtoul(argv[4], NULL, 10);
     capitals = (uint8_t)strtoul(argv[5], NULL, 10);
     o_ang = (uint8_t)strtoul(argv[6], NULL, 10);
-    times = strtoul(argv[7], NULL, 10);
+    readings = (uint8_t)strtoul(argv[7], NULL, 10);
+    times = strtoul(argv[8], NULL, 10);
     if (times > MOST_TEXTS) quit("too many texts");
     slots = lend(room_length), room = lend(room_length), out = lend(4 * room_length);
     for (k = 0; k < times; k++) {
-        jettyfig_answer a = jettyfig_romanize(mode, capitals, o_ang, rules.bytes, rules.length, classes.bytes, classes.length,
-                                              vowels.bytes, vowels.length, decompositions.bytes, decompositions.length,
-                                              (const uint8_t *)"", 0, text[k].bytes, empty ? 0 : text[k].length, slots,
-                                              room_length, room, room_length, out, 4 * room_length);
+        jettyfig_answer a = jettyfig_romanize(mode, capitals, o_ang, readings, rules.bytes, rules.length, classes.bytes,
+                                              classes.length, vowels.bytes, vowels.length, decompositions.bytes,
+                                              decompositions.length, (const uint8_t *)"", 0, text[k].bytes,
+                                              empty ? 0 : text[k].length, slots, room_length, room, room_length, out,
+                                              4 * room_length);
         if (a.number != JETTYFIG_DONE) quit("a call was refused");
     }
     return 0;

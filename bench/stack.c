@@ -42,11 +42,12 @@ static file read_file(const char *folder, const char *name) {
     return r;
 }
 
+/* with readings, for which mode 2 has one step more */
 static void call(void) {
-    answer = jettyfig_romanize(mode, JETTYFIG_CAPITALS_OFF, JETTYFIG_O_ANG_OFF, rules.bytes, rules.length, classes.bytes,
-                               classes.length, vowels.bytes, vowels.length, decompositions.bytes, decompositions.length,
-                               (const uint8_t *)"", 0, text.bytes, text.length, slots, sizeof slots, room, sizeof room, out,
-                               sizeof out);
+    answer = jettyfig_romanize(mode, JETTYFIG_CAPITALS_OFF, JETTYFIG_O_ANG_OFF, JETTYFIG_READINGS_ON, rules.bytes,
+                               rules.length, classes.bytes, classes.length, vowels.bytes, vowels.length, decompositions.bytes,
+                               decompositions.length, (const uint8_t *)"", 0, text.bytes, text.length, slots, sizeof slots, room,
+                               sizeof room, out, sizeof out);
 }
 
 /* Bytes of the stack that one call on its own touches. */

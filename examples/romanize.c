@@ -47,10 +47,10 @@ int main(int argc, char **argv) {
     read_all(fopen(argv[3], "rb"), argv[3], &vowels);
     read_all(fopen(argv[4], "rb"), argv[4], &decompositions);
     read_all(stdin, "standard input", &text);
-    a = jettyfig_romanize(JETTYFIG_SHOW_STRING, JETTYFIG_CAPITALS_OFF, JETTYFIG_O_ANG_OFF, rules.bytes, rules.length,
-                          classes.bytes, classes.length, vowels.bytes, vowels.length, decompositions.bytes,
-                          decompositions.length, (const uint8_t *)"", 0, text.bytes, text.length, slots, sizeof slots, room,
-                          sizeof room, out, sizeof out);
+    a = jettyfig_romanize(JETTYFIG_SHOW_STRING, JETTYFIG_CAPITALS_OFF, JETTYFIG_O_ANG_OFF, JETTYFIG_READINGS_OFF,
+                          rules.bytes, rules.length, classes.bytes, classes.length, vowels.bytes, vowels.length,
+                          decompositions.bytes, decompositions.length, (const uint8_t *)"", 0, text.bytes, text.length, slots,
+                          sizeof slots, room, sizeof room, out, sizeof out);
     if (a.number != JETTYFIG_DONE) {
         fprintf(stderr, "refused with %llu at %llu\n", (unsigned long long)a.number, (unsigned long long)a.place);
         return 1;

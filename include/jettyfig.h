@@ -19,8 +19,8 @@ extern "C" {
 #endif
 
 /* The version of this header and its library: as text, and as a number that rises. */
-#define JETTYFIG_VERSION "5.0.0"
-#define JETTYFIG_VERSION_NUMBER 50000 /* 10000 for the first part, 100 for the second, 1 for the third */
+#define JETTYFIG_VERSION "6.0.0"
+#define JETTYFIG_VERSION_NUMBER 60000 /* 10000 for the first part, 100 for the second, 1 for the third */
 
 /* What a call shows: its argument `mode`. */
 enum jettyfig_show {
@@ -49,6 +49,15 @@ enum jettyfig_o_ang {
     JETTYFIG_O_ANG_ON = 1   /* to the nearest space, U+0020 and no other: "k k" */
 };
 
+/* `readings`: whether a rule's end-of-syllable target is an alternative. A rule may have such a target besides its own: U+0E08 is
+ * "ch", and "t" where a syllable ends. Off, as the published Rust has it, only the first is one: "ch" where "t" was taken. On, "t"
+ * is one too where "ch" was taken. So whoever fills a search index that should find a word by its end-of-syllable reading too should
+ * turn it on. It changes JETTYFIG_SHOW_ALTERNATIVES alone. U+0E08 by itself is an example. */
+enum jettyfig_readings {
+    JETTYFIG_READINGS_OFF = 0, /* "ch" alone */
+    JETTYFIG_READINGS_ON = 1   /* "ch", and "t" as JETTYFIG_EDGE_ALT2, unless that text is listed for these characters already */
+};
+
 /* A listing is a version byte 1, a 4-byte length of all that follows, and a row for each edge: the length of the rest of the
  * row (2 bytes), start, end (2 each, in characters of the text), annotation, core length (1 each), and the edge's text in
  * UTF-8. All numbers are big-endian. */
@@ -67,7 +76,9 @@ enum jettyfig_edge {
     JETTYFIG_EDGE_CO = 9,       /* a private one */
     JETTYFIG_EDGE_ZS = 10,      /* a fallback: a space */
     JETTYFIG_EDGE_ORIG = 11,    /* a fallback: the character itself */
-    JETTYFIG_EDGE_ALT = 12,     /* an alternative: one of a rule, with the edge's vowel where it has one; 13 does not occur */
+    JETTYFIG_EDGE_ALT = 12,     /* an alternative: one of a rule, with the edge's vowel where it has one */
+    JETTYFIG_EDGE_ALT2 = 13,    /* an alternative, with JETTYFIG_READINGS_ON alone: a rule's end-of-syllable target, as its table has
+                                 * it, where its target was taken */
     JETTYFIG_EDGE_ALT3 = 14,    /* an alternative: a rule's target where its end-of-syllable target was taken */
     JETTYFIG_EDGE_DECOMP = 15   /* the string of the characters that a row of the decomposition table holds */
 };
@@ -80,6 +91,7 @@ enum jettyfig_number {
     JETTYFIG_REFUSED_MODE = 1,      /* the mode is above 3; 0 */
     JETTYFIG_REFUSED_CAPITALS = 12, /* the choice of capitals is above 1; 0 */
     JETTYFIG_REFUSED_O_ANG = 15,    /* the choice of O ang is above 1; 0 */
+    JETTYFIG_REFUSED_READINGS = 17, /* the choice of readings is above 1; 0 */
     JETTYFIG_REFUSED_LENGTH = 20,   /* the rule table's header; 0. A row that the table ends in; its offset. A field that its row
                                      * ends before or in; the field's offset. Bytes that a row has left over; the first's */
     JETTYFIG_REFUSED_RANGE = 21,    /* a rule's flag bit 7, or a count or a text's length out of its range; its offset */
@@ -145,7 +157,7 @@ typedef struct {
  * length says can be read there, and in slots, room and output written; these three overlap no other slice, nor each other;
  * no other thread writes any of the nine, or reads these three, before the call returns; and there are JETTYFIG_STACK bytes of
  * stack. */
-jettyfig_answer jettyfig_romanize(uint8_t mode, uint8_t capitals, uint8_t o_ang,
+jettyfig_answer jettyfig_romanize(uint8_t mode, uint8_t capitals, uint8_t o_ang, uint8_t readings,
                                   const uint8_t *rules, size_t rules_length,
                                   const uint8_t *classes, size_t classes_length,
                                   const uint8_t *vowels, size_t vowels_length,

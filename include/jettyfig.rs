@@ -5,8 +5,8 @@
 #![allow(dead_code)]
 
 /// The version of this file and its library: as text, and as a number that rises.
-pub const VERSION: &str = "5.0.0";
-pub const VERSION_NUMBER: u32 = 50000;
+pub const VERSION: &str = "6.0.0";
+pub const VERSION_NUMBER: u32 = 60000;
 
 /// What a call shows: its mode. The string, the path, the path and its alternatives, all edges.
 pub const SHOW_STRING: u8 = 0;
@@ -22,6 +22,10 @@ pub const CAPITALS_ON: u8 = 1;
 pub const O_ANG_OFF: u8 = 0;
 pub const O_ANG_ON: u8 = 1;
 
+/// The choice of readings; `jettyfig.h` explains both, and says who should turn it on.
+pub const READINGS_OFF: u8 = 0;
+pub const READINGS_ON: u8 = 1;
+
 /// What an edge is: the annotation of its row in a listing; `jettyfig.h` explains each.
 pub const EDGE_ROM: u8 = 1;
 pub const EDGE_CORE: u8 = 2;
@@ -35,6 +39,7 @@ pub const EDGE_CO: u8 = 9;
 pub const EDGE_ZS: u8 = 10;
 pub const EDGE_ORIG: u8 = 11;
 pub const EDGE_ALT: u8 = 12;
+pub const EDGE_ALT2: u8 = 13;
 pub const EDGE_ALT3: u8 = 14;
 pub const EDGE_DECOMP: u8 = 15;
 
@@ -47,6 +52,7 @@ pub enum Refusal {
     Mode = 1,
     Capitals = 12,
     OAng = 15,
+    Readings = 17,
     Length = 20,
     Range = 21,
     Letter = 22,
@@ -73,6 +79,7 @@ impl Refusal {
             1 => Refusal::Mode,
             12 => Refusal::Capitals,
             15 => Refusal::OAng,
+            17 => Refusal::Readings,
             20 => Refusal::Length,
             21 => Refusal::Range,
             22 => Refusal::Letter,
@@ -146,6 +153,7 @@ pub const STACK: usize = 21504;
 pub struct Choices {
     pub capitals: u8,
     pub o_ang: u8,
+    pub readings: u8,
 }
 
 /// Tables that are lent to calls. They need not be right: a call checks them. One without rows is `&[1, 0, 0, 0, 0]`.
@@ -170,6 +178,7 @@ unsafe extern "C" {
         mode: u8,
         capitals: u8,
         o_ang: u8,
+        readings: u8,
         rules: *const u8,
         rules_length: usize,
         classes: *const u8,
@@ -199,6 +208,7 @@ pub fn romanize(mode: u8, choices: Choices, tables: Tables, code: &[u8], text: &
             mode,
             choices.capitals,
             choices.o_ang,
+            choices.readings,
             tables.rules.as_ptr(),
             tables.rules.len(),
             tables.classes.as_ptr(),

@@ -3,8 +3,9 @@
 //!
 //!   bench FOLDER                                 times: labels, and texts of 64 to 512 characters, which are labels joined
 //!                                                by spaces, in all four modes
-//!   bench FOLDER count WHO LENGTH MODE TIMES     so many calls, to count their instructions: WHO is `rust`, `library`, or
-//!                                                `empty` for the library with empty texts; LENGTH 0 takes labels
+//!   bench FOLDER count WHO LENGTH MODE TIMES     so many calls, to count their instructions: WHO is `rust`, `library`,
+//!                                                `readings` for the library with this choice, or `empty` for the library
+//!                                                with empty texts; LENGTH 0 takes labels
 //!   bench FOLDER once MODE                       one call with the text of text.txt, and the Rust's answer beside it
 //!
 //! A call of the library checks its tables each time, and the Rust reads its tables once. So the engine is told apart from the
@@ -27,6 +28,7 @@ const OUT: usize = 256 * 1024;
 
 /// What the library is lent for all calls.
 struct Lent<'a> {
+    choices: Choices,
     tables: Tables<'a>,
     slots: Vec<u8>,
     room: Vec<u8>,
@@ -36,7 +38,7 @@ struct Lent<'a> {
 impl Lent<'_> {
     fn romanize(&mut self, mode: u8, text: &str) -> &[u8] {
         let rooms = Rooms { slots: &mut self.slots, room: &mut self.room, out: &mut self.out };
-        let answer = jettyfig::romanize(mode, Choices::default(), self.tables, b"", text.as_bytes(), rooms);
+        let answer = jettyfig::romanize(mode, self.choices, self.tables, b"", text.as_bytes(), rooms);
         assert_eq!(answer.number, 0, "{text}: refused at {}", answer.place);
         &self.out[..answer.length as usize]
     }
@@ -117,7 +119,8 @@ fn main() {
     let (rules, classes, vowels) = (read("rules.bin"), read("classes.bin"), read("vowels.bin"));
     let decompositions = read("decompositions.bin");
     let tables = Tables { rules: &rules, classes: &classes, vowels: &vowels, decompositions: &decompositions };
-    let mut library = Lent { tables, slots: vec![0; SLOTS], room: vec![0; ROOM], out: vec![0; OUT] };
+    let choices = Choices::default();
+    let mut library = Lent { choices, tables, slots: vec![0; SLOTS], room: vec![0; ROOM], out: vec![0; OUT] };
     let published = || oracle::Tables::read([&rules, &classes, &vowels, &decompositions]).expect("the tables are right");
     match words.get(1).map(String::as_str) {
         None => {
@@ -127,6 +130,7 @@ fn main() {
         Some("count") => {
             let (who, texts, mode, times) = (&words[2], texts(&text("labels.txt"), number(3)), number(4) as u8, number(5));
             let taken = texts.iter().take(times);
+            library.choices.readings = (who == "readings") as u8;
             match who.as_str() {
                 "rust" => {
                     let published = published();

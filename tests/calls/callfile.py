@@ -1,8 +1,8 @@
 """Call files: calls and their answers, one after another, all numbers big-endian.
 
-A call is its mode (1 byte), capitals (1), O ang (1), the bytes of slots, room and output (4 each), then rules, classes, vowels,
-decompositions, code and text (each a 4-byte length and its bytes). Its answer follows: number (1), place, length and edges (4 each), and
-`length` output bytes; past these the output must be zero to its end. A file whose name ends in .xz is compressed."""
+A call is its mode (1 byte), capitals (1), O ang (1), readings (1), the bytes of slots, room and output (4 each), then rules, classes,
+vowels, decompositions, code and text (each a 4-byte length and its bytes). Its answer follows: number (1), place, length and edges (4
+each), and `length` output bytes; past these the output must be zero to its end. A file whose name ends in .xz is compressed."""
 import lzma
 import pathlib
 import sys
@@ -12,7 +12,7 @@ sys.path.insert(0, str(pathlib.Path(__file__).resolve().parents[2] / "tools"))
 from tables import Bytes
 
 # numbers of a call that stand before its tables: mode and choices
-NUMBERS = 3
+NUMBERS = 4
 
 
 class Given(NamedTuple):
@@ -20,6 +20,7 @@ class Given(NamedTuple):
     mode: int
     capitals: int
     o_ang: int
+    readings: int
     rules: bytes
     classes: bytes
     vowels: bytes

@@ -1,8 +1,8 @@
 /* Answers calls with the library, for a program of another processor than the library's: an emulator runs this one.
  *
- * Standard input holds calls: mode, capitals, O ang, the lengths of the nine slices, each a 4-byte number, then the slices, each with
- * its guard behind it. Standard output gets for each the library's answer, four 8-byte numbers, then the slices and guards as the
- * call has left them: whoever asks compares them. All numbers are little-endian, as this processor has them. */
+ * Standard input holds calls: mode, capitals, O ang, readings, the lengths of the nine slices, each a 4-byte number, then the slices, each
+ * with its guard behind it. Standard output gets for each the library's answer, four 8-byte numbers, then the slices and guards as
+ * the call has left them: whoever asks compares them. All numbers are little-endian, as this processor has them. */
 #include "jettyfig.h"
 #include <stdlib.h>
 #include <string.h>
@@ -15,6 +15,7 @@ struct asked {
     uint32_t mode;
     uint32_t capitals;
     uint32_t o_ang;
+    uint32_t readings;
     uint32_t length[SLICES];
 };
 
@@ -44,8 +45,9 @@ static void give(const char *from, size_t n) {
 
 static jettyfig_answer call(const struct asked *asked, uint8_t *s[SLICES]) {
     const uint32_t *n = asked->length;
-    return jettyfig_romanize((uint8_t)asked->mode, (uint8_t)asked->capitals, (uint8_t)asked->o_ang, s[0], n[0], s[1], n[1],
-                             s[2], n[2], s[3], n[3], s[4], n[4], s[5], n[5], s[6], n[6], s[7], n[7], s[8], n[8]);
+    return jettyfig_romanize((uint8_t)asked->mode, (uint8_t)asked->capitals, (uint8_t)asked->o_ang, (uint8_t)asked->readings,
+                             s[0], n[0], s[1], n[1], s[2], n[2], s[3], n[3], s[4], n[4], s[5], n[5], s[6], n[6], s[7], n[7],
+                             s[8], n[8]);
 }
 
 int main(void) {

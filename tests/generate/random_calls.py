@@ -1,6 +1,7 @@
 #!/usr/bin/env python3
 """Random calls, answered by the oracle. Small alphabets of each script meet random rules made from pieces of the text, so that
-sources match, targets chain and the special characters stand beside each other.
+sources match, targets chain and the special characters stand beside each other. The last quarter of the calls is of worlds with readings,
+where the texts of rules are often equal; only these choose readings.
 
 usage: random_calls.py ORACLE SEED COUNT FILE.calls[.xz]"""
 import random
@@ -84,6 +85,9 @@ MANY_SLOTS, MUCH_ROOM = 17 * 512 * 12, 512 * 198
 
 class World:
     """the tables and texts of one case"""
+    MODES = (0, 1, 2, 2, 3, 3)
+    FORMED = 0.6      # how often there are decompositions
+
     def __init__(self, rng):
         self.rng = rng
         self.lined = self.chance(0.4)
@@ -93,7 +97,7 @@ class World:
             part = list(ALPHABETS[name].items())
             self.kinds.update(rng.sample(part, rng.randint(min(3, len(part)), len(part))))
         self.phrases = [phrase for name in names for phrase in rng.sample(PHRASES[name], 2)]
-        self.formed = self.chance(0.6)
+        self.formed = self.chance(self.FORMED)
         if self.formed:
             self.kinds.update(rng.sample(list(FORMS.items()), rng.randint(1, 4)))
             self.kinds.update({"1": (NUMBER,)} if self.chance(0.5) else {})       # numbers beside numbers
@@ -241,10 +245,14 @@ class World:
         codes = rng.sample(CODES, rng.randint(1, 3)) if self.odd(0.15) else []
         if codes and self.code and self.chance(0.5):
             codes[0] = self.code
+        target, end, others = self.texts(source)
+        return Rule(source, target, flags, count, list(dict.fromkeys(codes)), end, others)
+
+    def texts(self, source):
+        """target, end-of-syllable target and alternatives of a rule"""
         target = None if self.odd(0.08) else self.target(source)
         end = self.target() if self.odd(0.25) else None
-        others = [self.target() for _ in range(rng.choice((0, 0, 0, 1, 2, 3)))]
-        return Rule(source, target, flags, count, list(dict.fromkeys(codes)), end, others)
+        return target, end, [self.target() for _ in range(self.rng.choice((0, 0, 0, 1, 2, 3)))]
 
     def some_rules(self):
         made = []
@@ -257,9 +265,38 @@ class World:
     def choice(self):
         return self.rng.randint(2, 255) if self.chance(0.01) else self.rng.choice((0, 1))
 
+    def readings(self):
+        return 0
+
     def given(self):
-        return Given(self.rng.choice((0, 1, 2, 2, 3, 3)), self.choice(), self.choice(), rules(*self.rules), lowered(classes(self.kinds), self.lower),
+        return Given(self.rng.choice(self.MODES), self.choice(), self.choice(), self.readings(), rules(*self.rules), lowered(classes(self.kinds), self.lower),
                      vowels(*self.vowels), forms(self.forms), self.code.encode(), self.text.encode())
+
+
+class ReadWorld(World):
+    """a world with readings: short texts, and a source has few texts for its rules' targets, end-of-syllable targets and alternatives, so
+    that these are often equal, in one rule and in different ones"""
+    MODES = (0, 1, 2, 2, 2, 2, 2, 2, 2, 3)
+    FORMED = 0.2
+
+    def some_text(self):
+        return super().some_text()[:8]
+
+    def some_rules(self):
+        made = []
+        for source in self.sources():
+            self.few = [self.target(source), self.target(), self.target(), ""]
+            made += [self.rule(source) for _ in range(self.rng.choice((1, 1, 2, 2, 3)))]
+        return made
+
+    def texts(self, source):
+        rng = self.rng
+        target = None if self.chance(0.05) else rng.choice([self.few[0]] * 3 + self.few)
+        end = None if self.chance(0.2) else rng.choice(self.few)
+        return target, end, [rng.choice(self.few) for _ in range(rng.choice((0, 0, 0, 1, 2)))]
+
+    def readings(self):
+        return self.choice()
 
 
 def lent(rng, built):
@@ -280,20 +317,20 @@ def lent(rng, built):
 
 def made(rng, case, built):
     """the call; it is refused where a choice is, and only there"""
-    assert (built is None) == (case.capitals > 1 or case.o_ang > 1), case
-    if built:
-        return call(case, built, lent(rng, built))
-    return Call(case, Lent(12, 9, 9), refused(12 if case.capitals > 1 else 15, 0))
+    number = next((number for choice, number in ((case.capitals, 12), (case.o_ang, 15), (case.readings, 17)) if choice > 1), None)
+    assert (built is None) == (number is not None), case
+    return call(case, built, lent(rng, built)) if built else Call(case, Lent(12, 9, 9), refused(number, 0))
 
 
-def generated(program, seed, count):
+def generated(program, world, seed, count):
     rng = random.Random(seed)
-    cases = [World(rng).given() for _ in range(count)]
+    cases = [world(rng).given() for _ in range(count)]
     return [made(rng, case, built) for case, built in zip(cases, ask(program, cases))]
 
 
 def main(program, seed, count, path):
-    calls = generated(program, int(seed), int(count))
+    seed, count = int(seed), int(count)
+    calls = generated(program, World, seed, count - count // 4) + generated(program, ReadWorld, seed, count // 4)
     callfile.write(path, calls)
     numbers = [c.answer.number for c in calls]
     print("%d calls: %s" % (len(calls), ", ".join("%d of %d" % (numbers.count(n), n) for n in sorted(set(numbers)))))

@@ -1,8 +1,9 @@
 #!/usr/bin/env python3
 """Small cases made by hand: document 01's sample results, and for each corner of its text the smallest call that tells a wrong
-reading from the right one. Where a string or a count of edges is stated here, the oracle must give it.
+reading from the right one. Where a string, a count of edges or the alternatives are stated here, the oracle must give them.
 
 usage: reading.py ORACLE FILE.calls.xz"""
+import itertools
 import sys
 
 import sample
@@ -24,11 +25,12 @@ A6, A5 = (6, A, "a"), (5, A, "a")
 
 
 class Corner:
-    """a case in all four modes; `want` is the path's string, `begins` how it begins, `edges` the lattice's count, where stated;
-    `lower` are the characters of lower case, `made` the decompositions"""
-    def __init__(self, text, rows, kinds, vowel_rows=(), code="", want=None, edges=None, begins="", capitals=0, o_ang=0, lower="",
-                 made={}):
-        self.text, self.code, self.want, self.edges, self.begins, self.choices = text, code, want, edges, begins, (capitals, o_ang)
+    """a case in all four modes; `want` is the path's string, `begins` how it begins, `edges` the lattice's count, `listed` what mode 2
+    lists behind the path, as codes and texts, where stated; `lower` are the characters of lower case, `made` the decompositions"""
+    def __init__(self, text, rows, kinds, vowel_rows=(), code="", want=None, edges=None, begins="", listed=None, capitals=0, o_ang=0,
+                 readings=0, lower="", made={}):
+        self.text, self.code, self.want, self.edges, self.begins, self.listed = text, code, want, edges, begins, listed
+        self.choices = capitals, o_ang, readings
         self.tables = rows if isinstance(rows, bytes) else rules(*rows), \
             lowered(kinds if isinstance(kinds, bytes) else classes(kinds), lower), \
             vowel_rows if isinstance(vowel_rows, bytes) else vowels(*vowel_rows), forms(made)
@@ -41,6 +43,12 @@ def by_o_ang(text, rows, kinds, wants, **more):
     """the case with the choice of O ang off and on, and the string that each gives"""
     for o_ang, want in enumerate(wants):
         yield Corner(text, rows, kinds, want=want, o_ang=o_ang, **more)
+
+
+def by_readings(text, rows, kinds, off, on, **more):
+    """the case with the choice of readings off and on, and the alternatives that each lists"""
+    for readings, listed in enumerate((off, on)):
+        yield Corner(text, rows, kinds, listed=listed, readings=readings, **more)
 
 
 def sample_results():
@@ -665,6 +673,99 @@ def alternatives():
     yield Corner("x", [Rule("x", "", others=["b", ""])], {})
 
 
+def readings():
+    """with the choice a rule whose target is the edge's text lists its end-of-syllable target too, as 13, unless that text is listed
+    already for the same characters; 12 is a rule's alternative, 14 the target of a rule whose end-of-syllable target is the text"""
+    def rule(target, end=None, others=(), **more):
+        return Rule("x", target, end=end, others=others, **more)
+
+    none = []
+    # the character is "k", and "t" where a syllable ends, which a text of one character never does
+    yield from by_readings("x", [rule("k", "t")], {}, none, [(13, "t")], want="k")
+    yield from by_readings("x", [rule("k")], {}, none, none, want="k")
+    # as the table has it: the plus of a tail stays
+    yield from by_readings("x", [rule("k", "+n")], {}, none, [(13, "+n")])
+    # "ka" is "k" and a vowel: by the core "k" there are alternatives, with the vowel, and no reading; by "ka" itself there is one
+    core = dict(kinds={"x": SIX}, vowel_rows=[A6], want="ka")
+    yield from by_readings("x", [rule("k", "t", ["g"])], off=[(12, "ga")], on=[(12, "ga")], **core)
+    yield from by_readings("x", [rule("k", "t"), rule("ka", "d", ["g"])], off=[(12, "g")], on=[(12, "g"), (13, "d")], **core)
+    # behind the rule's own alternatives, and not again where it is one of them
+    yield from by_readings("x", [rule("k", "t", ["a", "b"])], {}, [(12, "a"), (12, "b")], [(12, "a"), (12, "b"), (13, "t")])
+    yield from by_readings("x", [rule("k", "t", ["a", "t"])], {}, [(12, "a"), (12, "t")], [(12, "a"), (12, "t")])
+    # the edge has this text itself
+    yield from by_readings("x", [rule("k", "k")], {}, none, none)
+    # two rules, one reading or two, in the order of the rules
+    yield from by_readings("x", [rule("k", "t"), rule("k", "t")], {}, none, [(13, "t")])
+    yield from by_readings("x", [rule("k", "t"), rule("k", "d")], {}, none, [(13, "t"), (13, "d")])
+    yield from by_readings("x", [rule("k", "d"), rule("k", "t")], {}, none, [(13, "d"), (13, "t")])
+    # what one rule has listed, whether as a reading or as an alternative, a later one does not list again
+    yield from by_readings("x", [rule("k", "t"), rule("k", others=["t"])], {}, [(12, "t")], [(13, "t")])
+    yield from by_readings("x", [rule("k", others=["t"]), rule("k", "t")], {}, [(12, "t")], [(12, "t")])
+    # the same of two rules that say the opposite of each other; that for "k" has the higher count
+    k, t = rule("k", "t", count=1), rule("t", "k")
+    yield from by_readings("x", [k, t], {}, [(14, "t")], [(13, "t")], want="k")
+    yield from by_readings("x", [t, k], {}, [(14, "t")], [(14, "t")], want="k")
+    # an empty text is a text: it is listed, once, and an edge may have it
+    yield from by_readings("x", [rule("k", "")], {}, none, [(13, "")])
+    yield from by_readings("x", [rule("k", ""), rule("k", "")], {}, none, [(13, "")])
+    yield from by_readings("x", [rule("k", "", [""])], {}, [(12, "")], [(12, "")])
+    yield from by_readings("x", [rule("", "t")], {}, none, [(13, "t")], want="")
+    yield from by_readings("x", [rule("", "")], {}, none, none, want="")
+    # no target, no reading
+    yield from by_readings("x", [rule("k"), rule(None, "t")], {}, none, none)
+    # another text's rule
+    yield from by_readings("x", [rule("k", count=1), rule("d", "t", ["a"])], {}, none, none, want="k")
+    # the second character ends a syllable: there the target is the other reading, as it always was
+    yield from by_readings("xx", [rule("k", "t")], {}, [(14, "k")], [(13, "t"), (14, "k")], want="kt")
+    yield from by_readings("xx", [rule("k", "t"), rule("t", "d")], {}, [(14, "k")], [(13, "t"), (14, "k"), (13, "d")], want="kt")
+    # of each character its own: the first character's "t" keeps no other one's out
+    yield from by_readings("xaxa", [rule("k", "t"), ("a", "a")], {}, none, [(13, "t"), (13, "t")], want="kaka")
+    yield from by_readings("xyxy", [Rule("xy", "ka", end="ta"), rule("k", "t")], {}, [(14, "ka")], [(13, "ta"), (14, "ka")], want="kata")
+    # a rule that is not valid here: of another language, or of another place in the word
+    foreign = [rule("k"), rule("k", "t", codes=["abc"])]
+    yield from by_readings("x", foreign, {}, none, none)
+    yield from by_readings("x", foreign, {}, none, none, code="def")
+    yield from by_readings("x", foreign, {}, none, [(13, "t")], code="abc")
+    inside = [rule("k"), rule("k", "t", flags=NOT_START)]
+    yield from by_readings("x", inside, {}, none, none)
+    yield from by_readings("axa", [*inside, ("a", "a")], {}, none, [(13, "t")], want="aka")
+    # the text of a tail is not the target: "+n" gives "n"; nor is a text that became small
+    yield from by_readings("x", [rule("+n", "t")], {}, none, none, want="n")
+    cased = dict(rows=[Rule("Ж", "ZH", end="S"), ("ж", "zh")], kinds={"Ж": L, "ж": L}, lower="ж")
+    yield from by_readings("Жж", off=none, on=[(13, "S")], want="ZHzh", **cased)
+    yield from by_readings("Жж", off=none, on=none, want="Zhzh", capitals=1, **cased)
+    # what was doubled or put together is no rule's target
+    yield from by_readings("っx", [rule("ka", "t")], {}, none, none, want="kka")
+    # a decomposition's edge is asked like any other; the string inside it lists nothing
+    kana = {c: HIRA for c in "っ①か"}
+    yield from by_readings("xっ①", [("xっ", "s"), Rule("①", "ka", end="t"), ("か", "ka")], kana, none, [(13, "t")], want="ska", made={"①": "か"})
+    yield from by_readings("①", [Rule("か", "ka", end="t")], kana, none, none, want="ka", made={"①": "か"})
+    # 64 bytes
+    yield from by_readings("x", [rule("k", "t" * 64)], {}, none, [(13, "t" * 64)])
+
+
+def readings_elsewhere():
+    """the string, the path and all edges have no alternatives, and so no readings"""
+    yield from by_readings("xx", [Rule("x", "k", end="t", others=["a"])], {}, [(12, "a"), (14, "k")], [(12, "a"), (13, "t"), (14, "k")], want="kt")
+
+
+def reading_pairs():
+    """two rules of one character, in both orders: what the first one's target "k", which the path has, its end-of-syllable target and its
+    alternative can have to do with the second one's"""
+    ends, others = (None, "", "k", "t"), ((), ("t",))
+    for end, other, target2, end2, other2 in itertools.product(ends, others, (None, "", "k", "t"), ends, others):
+        first, second = Rule("x", "k", 0, 1, (), end, other), Rule("x", target2, 0, 0, (), end2, other2)
+        yield Corner("x", [first, second], {}, want="k", readings=1)
+        yield Corner("x", [second, first], {}, want="k", readings=1)
+
+
+def readings_again():
+    """corners that are about alternatives and about ends of syllables, with readings"""
+    for corner in itertools.chain(alternatives(), syllables()):
+        corner.choices = 0, 0, 1
+        yield corner
+
+
 def letters():
     """every set of letters, letter by letter"""
     thai = {**{c: T for c in "กขอายx"}, "เ": (LETTER, THAI, PRE)}
@@ -696,7 +797,8 @@ GROUPS = {
     sample_results: lambda k: range(4), longest_and_most: lambda k: range(4), vowel_step: TURNS, word_boundaries: TURNS, rule_choice: TURNS,
     syllables: TURNS, expansion: TURNS, thai: TURNS, capitals: TURNS, decompositions: TURNS,
     decompositions_and_rules: TURNS, decompositions_and_words: TURNS, fallbacks: TURNS,
-    alternatives: lambda k: (k % 2, 2), letters: lambda k: (3,), o_ang: TURNS,
+    alternatives: lambda k: (k % 2, 2), letters: lambda k: (3,), o_ang: TURNS, readings: lambda k: (2,), readings_elsewhere: lambda k: (0, 1, 3),
+    reading_pairs: lambda k: (2,), readings_again: lambda k: (2,),
 }
 
 
@@ -708,10 +810,21 @@ def checked(corner, built):
         raise SystemExit("%r: the oracle says %r, stated is %r" % (corner.text, got, stated))
     if corner.edges is not None and len(built[0].added) != corner.edges:
         raise SystemExit("%r: the oracle has %d edges, stated are %d" % (corner.text, len(built[0].added), corner.edges))
+    path, listed = (read_listing(built[mode].output) for mode in (1, 2))
+    others = [(edge.annotation, edge.text) for edge in listed[len(path):]]
+    if corner.listed is not None and others != corner.listed:
+        raise SystemExit("%r: the oracle lists %s, stated is %s" % (corner.text, others, corner.listed))
+
+
+def check_elsewhere(program, corners):
+    """readings change nothing but alternatives"""
+    asked = [corner.given(mode) for corner in corners for mode in (0, 1, 3)]
+    assert ask(program, asked) == ask(program, [given._replace(readings=0) for given in asked])
 
 
 def main(program, path):
     corners = [(corner, modes) for group, modes in GROUPS.items() for corner in group()]
+    check_elsewhere(program, [corner for corner, _ in corners])
     built = iter(ask(program, [corner.given(mode) for corner, _ in corners for mode in range(4)]))
     calls = []
     for k, (corner, modes) in enumerate(corners):

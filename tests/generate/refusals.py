@@ -1,7 +1,7 @@
 #!/usr/bin/env python3
-"""Refusals made by hand from document 01's table 'Numbers a call returns' and from docs/FORMAT.md's 12 to 15 and 20 to 25: each number
-with its place, and both sides of each border. Number and place are written here; the oracle only confirms that it refuses too (1, 3 to
-8, 12, 13, 15 and 20 to 25), or that its edges in their adding order give the same (9 to 11 and 14). The accepted side of a border is
+"""Refusals made by hand from document 01's table 'Numbers a call returns' and from docs/FORMAT.md's 12 to 15, 17 and 20 to 25: each
+number with its place, and both sides of each border. Number and place are written here; the oracle only confirms that it refuses too (1,
+3 to 8, 12, 13, 15, 17 and 20 to 25), or that its edges in their adding order give the same (9 to 11 and 14). The accepted side of a border is
 answered by it.
 
 usage: refusals.py ORACLE FILE.calls.xz MOST_RULES.calls.xz MOST_DECOMPOSITIONS.calls.xz"""
@@ -13,12 +13,12 @@ from lower import lowered
 from oracle import Call, Given, Lent, answered, ask, call, callfile, refused
 from tables import *
 
-PLAIN = Given(0, 0, 0, rules(("b", "B"), ("d", "D")), classes({"b": (LETTER, 6), "d": (LETTER,)}), vowels((5, A, "a"), (9, AO, "o")),
+PLAIN = Given(0, 0, 0, 0, rules(("b", "B"), ("d", "D")), classes({"b": (LETTER, 6), "d": (LETTER,)}), vowels((5, A, "a"), (9, AO, "o")),
               forms({"①": "1", "½": "1\u20442"}), b"", b"bad")
 PLENTY = Lent(1200, 400, 8)
 NONE = block([])
 # refused for mode, choices, tables, code or text, so that there is no lattice
-WITHOUT_LATTICE = {1, 12, 13, 15, *FAULTS, *range(3, 9)}
+WITHOUT_LATTICE = {1, 12, 13, 15, 17, *FAULTS, *range(3, 9)}
 
 
 class Border:
@@ -81,6 +81,18 @@ def choices():
         yield Border((11, size), Lent(60, size, size - 1), **thai, o_ang=o_ang)
     yield Border((10, 3), Lent(60, 1, 9), **thai)
     yield Border((10, 4), Lent(60, 1, 9), **thai, o_ang=1)
+    for value in (2, 3, 127, 128, 254, 255):
+        for mode in range(4):
+            yield Border((17, 0), mode=mode, readings=value)
+        yield Border((17, 0), capitals=1, o_ang=1, readings=value)
+    # a reading is a row more of the alternatives' output; it takes no slot and no room
+    read = dict(rules=rules(Rule("b", "k", end="ta")), text=b"b")
+    for value, size in ((0, 14), (1, 24)):
+        for mode, needs in ((0, 1), (1, 14), (2, size), (3, 14)):
+            yield Border(None, Lent(12, 1, needs), **read, mode=mode, readings=value)
+            yield Border((11, needs), Lent(12, 1, needs - 1), **read, mode=mode, readings=value)
+            yield Border((9, 0), Lent(11, 1, needs), **read, mode=mode, readings=value)
+            yield Border((10, 0), Lent(12, 0, needs), **read, mode=mode, readings=value)
 
 
 def headers():
@@ -553,7 +565,7 @@ def too_long():
     yield Border((14, 0), Lent(9999, 9999, 300), **long({"①": "x" * 18}, "①", table=(("x", "k" * 64),)))
     yield Border((14, 511), Lent(99999, 99999, 9999), **long({"①": more}, "a" * 511 + "①"))
     # a choice is refused before it
-    for choice, refusal in (("capitals", 12), ("o_ang", 15)):
+    for choice, refusal in (("capitals", 12), ("o_ang", 15), ("readings", 17)):
         yield Border((refusal, 0), Lent(9999, 9999, 300), **long({"①": more}, "①"), **{choice: 2})
 
 
@@ -562,7 +574,7 @@ def orders():
     b, c = rule_row("b", "B"), rule_row("c", "C")
     # in their order: number, place, what is changed
     faults = [
-        (1, 0, dict(mode=9)), (12, 0, dict(capitals=2)), (15, 0, dict(o_ang=2)), (20, 5 + len(b), dict(rules=block([b, b"\0"]))), (3, 5, dict(classes=block([class_row("b", 2)]))),
+        (1, 0, dict(mode=9)), (12, 0, dict(capitals=2)), (15, 0, dict(o_ang=2)), (17, 0, dict(readings=2)), (20, 5 + len(b), dict(rules=block([b, b"\0"]))), (3, 5, dict(classes=block([class_row("b", 2)]))),
         (4, 0, dict(vowels=b"\x02\0\0\0\0")), (13, 13, dict(decompositions=block([form_row("①", "1"), form_row("②", "①")]))), (5, 0, dict(code=b"xx")), (6, 1, dict(text=b"a\xff")), (7, 512, dict(text=b"a" * 513)),
         (8, 2, dict(text="ab\u0f00".encode())),
     ]
@@ -582,21 +594,27 @@ def orders():
                 yield Border((number, place), **{**changes, **more})
         for lent in small.values():
             yield Border((number, place), lent, **changes)
-    for rank, (number, place, _) in enumerate(faults[:8]):
+    for rank, (number, place, _) in enumerate(faults[:9]):
         yield Border((number, place), Lent(0, 0, 0), **from_rank(rank))
         yield Border((number, place), Lent(5, 5, 5), **from_rank(rank))
+    # the same with readings that are right
+    for rank, (number, place, _) in enumerate(faults[:3]):
+        yield Border((number, place), Lent(0, 0, 0), **{**from_rank(rank), "readings": 0})
+        yield Border((number, place), Lent(5, 5, 5), **{**from_rank(rank), "readings": 0})
     yield Border((9, 0), small[9])
     yield Border((10, 0), small[10])
     yield Border((11, 3), small[11], rules=NONE)
     # every other fault of the rule table has the same place among them
     for number, place, table in ((21, 5 + FLAGS, block([rule_row("c", "C", 128)])), (22, 5 + SOURCE, block([rule_row("\ud800", "C")])),
                                  (23, 5 + TEXT + 1, block([rule_row("c", "\x7f")])), (24, 5 + len(c), block([c, b]))):
-        yield Border((1, 0), **{**from_rank(0), "rules": table})
-        yield Border((12, 0), **{**from_rank(1), "rules": table})
-        yield Border((15, 0), **{**from_rank(2), "rules": table})
+        for rank, earlier in enumerate((1, 12, 15)):
+            for readings in (0, 2):
+                yield Border((earlier, 0), **{**from_rank(rank), "rules": table, "readings": readings})
         yield Border((15, 0), o_ang=255, rules=table)
-        yield Border((number, place), **{**from_rank(4), "rules": table})
-        for _, _, more in faults[4:]:
+        yield Border((17, 0), **{**from_rank(3), "rules": table})
+        yield Border((17, 0), readings=255, rules=table)
+        yield Border((number, place), **{**from_rank(5), "rules": table})
+        for _, _, more in faults[5:]:
             yield Border((number, place), **more, rules=table)
 
 

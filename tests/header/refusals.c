@@ -19,7 +19,7 @@ typedef struct {
 
 /* what a call is given: all of it is right, and a case spoils one part */
 typedef struct {
-    uint8_t mode, capitals, o_ang;
+    uint8_t mode, capitals, o_ang, readings;
     slice rules, classes, vowels, decompositions, code, text;
     size_t slots, room, out;
 } call;
@@ -82,9 +82,10 @@ static void expect(const char *name, const call *c, uint64_t number, uint64_t pl
     memset(slots, 0xA5, sizeof slots);
     memset(room, 0xA5, sizeof room);
     memset(out, 0xA5, sizeof out);
-    a = jettyfig_romanize(c->mode, c->capitals, c->o_ang, c->rules.bytes, c->rules.length, c->classes.bytes, c->classes.length,
-                          c->vowels.bytes, c->vowels.length, c->decompositions.bytes, c->decompositions.length, c->code.bytes,
-                          c->code.length, c->text.bytes, c->text.length, slots, c->slots, room, c->room, out, c->out);
+    a = jettyfig_romanize(c->mode, c->capitals, c->o_ang, c->readings, c->rules.bytes, c->rules.length, c->classes.bytes,
+                          c->classes.length, c->vowels.bytes, c->vowels.length, c->decompositions.bytes,
+                          c->decompositions.length, c->code.bytes, c->code.length, c->text.bytes, c->text.length, slots,
+                          c->slots, room, c->room, out, c->out);
     runs++;
     if (a.number != number || a.place != place || (number && (a.length || a.edges)) || !is_zero(slots, c->slots) ||
         !is_zero(room, c->room) || !is_zero(out + a.length, c->out - a.length)) {
@@ -113,8 +114,10 @@ int main(int argc, char **argv) {
     expect("done, with capitals", &c, JETTYFIG_DONE, 0);
     c = good, c.o_ang = JETTYFIG_O_ANG_ON;
     expect("done, with O ang", &c, JETTYFIG_DONE, 0);
-    c.capitals = JETTYFIG_CAPITALS_ON;
-    expect("done, with both choices", &c, JETTYFIG_DONE, 0);
+    c = good, c.readings = JETTYFIG_READINGS_ON;
+    expect("done, with readings", &c, JETTYFIG_DONE, 0);
+    c.capitals = JETTYFIG_CAPITALS_ON, c.o_ang = JETTYFIG_O_ANG_ON;
+    expect("done, with all choices", &c, JETTYFIG_DONE, 0);
 
     c = good, c.mode = JETTYFIG_SHOW_ALL_EDGES + 1, c.capitals = JETTYFIG_CAPITALS_ON + 1;
     expect("mode before capitals", &c, JETTYFIG_REFUSED_MODE, 0);
@@ -126,6 +129,10 @@ int main(int argc, char **argv) {
     expect("capitals before O ang", &c, JETTYFIG_REFUSED_CAPITALS, 0);
     c = good, c.o_ang = JETTYFIG_O_ANG_ON + 1, c.rules.length--;
     expect("O ang before rules", &c, JETTYFIG_REFUSED_O_ANG, 0);
+    c = good, c.o_ang = JETTYFIG_O_ANG_ON + 1, c.readings = JETTYFIG_READINGS_ON + 1;
+    expect("O ang before readings", &c, JETTYFIG_REFUSED_O_ANG, 0);
+    c = good, c.readings = JETTYFIG_READINGS_ON + 1, c.rules.length--;
+    expect("readings before rules", &c, JETTYFIG_REFUSED_READINGS, 0);
     c = good, c.rules.length--;
     expect("rules, header", &c, JETTYFIG_REFUSED_LENGTH, 0);
     /* the second row, at 19: length at 19, flags at 21, source at 25, target at 29, count of alternatives at 32 */

@@ -1,9 +1,9 @@
 /* The header's sizes are enough: calls of standard input with slots, room and output of exactly these sizes.
  *
  * Each case is rules, classes, vowels, decompositions, code and text: a length of four bytes, big-endian, and the bytes. With
- * capitals off and on and O ang off and on the string, the path and all edges must be done, unless a decomposition's text is too
- * long, which no size helps; so must alternatives, when they are called again with what a refusal says they need. And a lattice
- * must be refused with one slot less than it has edges, so that it is seen that the sizes are what decides. */
+ * each choice off and on the string, the path and all edges must be done, unless a decomposition's text is too long, which no size
+ * helps; so must alternatives, when they are called again with what a refusal says they need. And a lattice must be refused with
+ * one slot less than it has edges, so that it is seen that the sizes are what decides. */
 #include <stdio.h>
 #include <stdlib.h>
 
@@ -17,7 +17,7 @@ typedef struct {
 } slice;
 
 static slice part[PARTS];
-static uint8_t capitals, o_ang;
+static uint8_t capitals, o_ang, readings;
 static unsigned long cases, calls, too_long, differ;
 static double most_edges;
 
@@ -43,7 +43,7 @@ static size_t characters(const slice *s) {
 
 static jettyfig_answer romanize(uint8_t mode, size_t slots_length, size_t room_length, size_t out_length) {
     slice slots = lend(slots_length), room = lend(room_length), out = lend(out_length);
-    jettyfig_answer a = jettyfig_romanize(mode, capitals, o_ang, part[0].bytes, part[0].length, part[1].bytes,
+    jettyfig_answer a = jettyfig_romanize(mode, capitals, o_ang, readings, part[0].bytes, part[0].length, part[1].bytes,
                                           part[1].length, part[2].bytes, part[2].length, part[3].bytes, part[3].length,
                                           part[4].bytes, part[4].length, part[5].bytes, part[5].length, slots.bytes,
                                           slots.length, room.bytes, room.length, out.bytes, out.length);
@@ -57,7 +57,7 @@ static jettyfig_answer romanize(uint8_t mode, size_t slots_length, size_t room_l
 static void expect(jettyfig_answer a, uint64_t number, uint8_t mode) {
     if (a.number == number) return;
     differ++;
-    printf("differs: case %lu, mode %u, capitals %u, O ang %u: %llu at %llu\n", cases, mode, capitals, o_ang,
+    printf("differs: case %lu, mode %u, capitals %u, O ang %u, readings %u: %llu at %llu\n", cases, mode, capitals, o_ang, readings,
            (unsigned long long)a.number, (unsigned long long)a.place);
 }
 
@@ -91,7 +91,9 @@ int main(void) {
             }
         }
         for (capitals = JETTYFIG_CAPITALS_OFF; capitals <= JETTYFIG_CAPITALS_ON; capitals++) {
-            for (o_ang = JETTYFIG_O_ANG_OFF; o_ang <= JETTYFIG_O_ANG_ON; o_ang++) run();
+            for (o_ang = JETTYFIG_O_ANG_OFF; o_ang <= JETTYFIG_O_ANG_ON; o_ang++) {
+                for (readings = JETTYFIG_READINGS_OFF; readings <= JETTYFIG_READINGS_ON; readings++) run();
+            }
         }
         cases++;
         for (k = 0; k < PARTS; k++) free(part[k].bytes);

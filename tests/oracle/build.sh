@@ -35,20 +35,25 @@ n=$(grep -c '^[^ ]*: [-+]' "$out/edits.diff" || true)
 [ "$n" = 21 ] || { echo "21 edited lines expected, found $n"; cat "$out/edits.diff"; exit 1; }
 cmp "$here/edits.diff" "$out/edits.diff"
 
-# edited_too NAME EDIT: lattice/romanize.rs is edited once more, by sed, and NAME.diff lists what comes of it
+# edited_too NAME FILE EDIT: lattice/FILE is edited once more, by sed, and NAME.diff lists what comes of it
 edited_too() {
-  cp "$out/src/lattice/romanize.rs" "$out/romanize.rs"
-  sed -i "$2" "$out/src/lattice/romanize.rs"
-  (cd "$out" && diff -U0 romanize.rs src/lattice/romanize.rs | sed '1,2d' || true) | sed "s|^|lattice/romanize.rs: |" > "$out/$1.diff"
+  cp "$out/src/lattice/$2" "$out/$2"
+  sed -i "$3" "$out/src/lattice/$2"
+  (cd "$out" && diff -U0 "$2" "src/lattice/$2" | sed '1,2d' || true) | sed "s|^|lattice/$2: |" > "$out/$1.diff"
   cmp "$here/$1.diff" "$out/$1.diff"
 }
 # --- one line more, which does add logic: the Python rule for capitals, where a call chooses it ---
-edited_too capitals 's|^        // Gemination: .*|        rom = crate::capitals::as_python(rom, start, end, next_char);|'
+edited_too capitals romanize.rs 's|^        // Gemination: .*|        rom = crate::capitals::as_python(rom, start, end, next_char);|'
 # --- and one more: where the walk back behind O ang ends, where a call chooses it ---
 walk='self.find_rom_edge_path_backwards_str'
-edited_too o_ang "s/$walk(0, start, Some(1), false)/crate::o_ang::walked(\&self.s_chars, start, |from| $walk(from, start, Some(1), false))/"
+edited_too o_ang romanize.rs "s/$walk(0, start, Some(1), false)/crate::o_ang::walked(\&self.s_chars, start, |from| $walk(from, start, Some(1), false))/"
+# --- and two: which text a "rom-alt2" has, where a call chooses it ---
+alt2='(rom_t, rom_end_of_syllable).to_string()'
+edited_too readings paths.rs "
+  s/rom_t == old_rom && existing_edges.insert((start, end, rom_t.to_string()))/rom_t == old_rom \&\& existing_edges.insert((start, end, crate::readings::asked$alt2))/
+  /^ *rom_t.to_string(),\$/{N; /\"rom-alt2\"/s/rom_t.to_string()/crate::readings::listed$alt2/}"
 # --- two lines more: whether the neighbours of a decomposed character are numbers, from the class table ---
-edited_too numbers 's/c\.is_numeric()/crate::dicts::is_number(*c)/'
+edited_too numbers romanize.rs 's/c\.is_numeric()/crate::dicts::is_number(*c)/'
 cp "$here"/src/*.rs "$out/src/"
 
 # --- regex and its three helpers from Debian's package, as path crates ---

@@ -1,7 +1,7 @@
 #!/usr/bin/env python3
-"""Which blocks of the published Rust do call files enter? Counts every block of lattice/*.rs, and of the two rules that are added to
-it (capitals.rs, o_ang.rs): bodies of functions, closures, loops and matches, both sides of every `if` (the missing `else` too), and the other side
-of every `let .. else`.
+"""Which blocks of the published Rust do call files enter? Counts every block of lattice/*.rs, and of the three rules that are added to
+it (capitals.rs, o_ang.rs, readings.rs): bodies of functions, closures, loops and matches, both sides of every `if` (the missing `else`
+too), and the other side of every `let .. else`.
 
 usage: coverage.py RUST_SRC_DIR BUILD_DIR FILE.calls[.xz] ..
 
@@ -15,7 +15,7 @@ here = os.path.dirname(os.path.abspath(__file__))
 sys.path.insert(0, os.path.join(here, "..", "calls"))
 import callfile
 
-FILES = ["lattice/mod", "lattice/paths", "lattice/romanize", "lattice/rules", "lattice/word_boundaries", "capitals", "o_ang"]
+FILES = ["lattice/mod", "lattice/paths", "lattice/romanize", "lattice/rules", "lattice/word_boundaries", "capitals", "o_ang", "readings"]
 # lines that end in a brace but open no block of code
 NO_BLOCK = re.compile(r"\b(struct|enum|impl|match|use)\b[^|]*\{$|\bSelf \{$|=> match")
 ARM = re.compile(r"^( +)(\S.*) => ([^{}].*),$")

@@ -31,7 +31,7 @@ RULES, CLASSES, VOWELS, DECOMPOSITIONS = range(4)
 NAMES = ('rules', 'classes', 'vowels', 'decompositions')
 READERS = (read_rules, read_classes, read_vowels, read_decompositions)
 NUMBERS = (set(FAULTS), {3}, {4}, {13})     # by which each is refused
-BEFORE = (1, 12, 15)  # refused before any table is looked at: mode and choices
+BEFORE = (1, 12, 15, 17)  # refused before any table is looked at: mode and choices
 ROOM = 2200000      # the length of `room` in crates/tables_vectors
 LARGE = 4000        # longer tables are taken sparingly
 

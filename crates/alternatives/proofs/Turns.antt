@@ -5,12 +5,9 @@ use mathlib.Core.Path.{_≡_, refl, sym, ap, _∙_, subst}
 use Prim.Native.Nat.{ℕ, zero, suc, _+_, _-_, _≤_, _<_}
 use native.Mathlib.Omega.{arith}
 use native.Mathlib.Numerals.{add-one}
-use native.Mathlib.Decide.{decLt}
-use lib.Dec.{ltb}
 use lib.ListN.{length, getD, take, drop, drop-of-length-le}
 use lib.Seq.{take-all, drop-cons, drop-drop}
-use borrow.Author.Tests.{lt-ltb, le-ltb}
-use Rattle.base.specs.Pick.{pick, pick-all}
+use Rattle.base.specs.Pick.{pick}
 use Rattle.base.specs.Lists.{put, keep, any, same}
 use Rattle.base.specs.ListLaws.{any-append, keep-append}
 use Rattle.base.specs.Alls.{All}
@@ -209,6 +206,23 @@ module _ (y : Bool) (x : Edge) (r : Rule) (ws : List Text) (hold : Bool) where
   pub marked-not : (cells : List ℕ) → hold ≡ false → Marked ws cells → Marked (ws ++ texts (all-offers y x (put hold r []))) cells
   unfolding all-offers
   marked-not cells h m = subst (λ l. Marked l cells) (sym (append-nil ws) ∙ ap (λ b. ws ++ texts (all-offers y x (put b r []))) (sym h)) m
+
+  -- nothing is new, or marked, where nothing is offered
+  module _ (n : offers y x r ≡ []) where
+    none-offered : all-offers y x (put hold r []) ≡ []
+    unfolding all-offers
+    none-offered = go hold
+      where
+        go : (b : Bool) → all-offers y x (put b r []) ≡ []
+        go true = unfold all-offers in (append-nil (offers y x r) ∙ n)
+        go false = unfold all-offers in refl
+
+    pub none-new : [] ≡ news ws (all-offers y x (put hold r []))
+    unfolding news
+    none-new = sym (ap (news ws) none-offered)
+
+    pub none-marked : (cells : List ℕ) → Marked ws cells → Marked (ws ++ texts (all-offers y x (put hold r []))) cells
+    none-marked cells m = subst (λ l. Marked l cells) (sym (append-nil ws) ∙ ap (λ l. ws ++ texts l) (sym none-offered)) m
 
 -- Some rows, `before` of them done
 module _ (x : Edge) (code : Text) (a : Asked) (rules : List ℕ) where

@@ -175,8 +175,11 @@ fn put_holding(
         (holding-offers (edge-by e (now (text .entry))) (now (code .entry)) asked (rule-of (drop row (now (rules .entry)))))
         (at, now (out .entry)) (r, now (out .exit)) (now (cells .exit)) ⌝ }
 {
-    if rule_choice::holds(rules, code, row, asked.start, asked.end) {
-        return put_offers(out, at, rules, code, asked, before, row, e, text, cells);
+    if offers::may_offer(rules, row) {
+        if rule_choice::holds(rules, code, row, asked.start, asked.end) {
+            return put_offers(out, at, rules, code, asked, before, row, e, text, cells);
+        }
+        return at;
     }
     at
 }

@@ -10,7 +10,7 @@ use lib.Dec.{eqb}
 use borrow.Author.Tests.{eq-eqb}
 use Rattle.base.specs.Pick.{pick, pick-ind}
 use Rattle.base.specs.Bools.{and-right}
-use Rattle.base.specs.Lists.{put, keep, any, has, is, maybe, same}
+use Rattle.base.specs.Lists.{put, keep, any, has, maybe, same}
 use Rattle.base.specs.ListLaws.{same-refl, same-true}
 use Rattle.base.specs.Alls.{All, All-each, All-map}
 use Rattle.definition.specs.Notes.{note-alt2}

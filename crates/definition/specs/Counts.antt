@@ -10,7 +10,7 @@ use lib.ListN.{length, getD, drop}
 use borrow.Author.Tests.{leb-true}
 use Rattle.base.specs.Pick.{pick-ind, pick-all}
 use Rattle.base.specs.Bools.{and-left, and-right}
-use Rattle.base.specs.Lists.{put, keep, maybe, same}
+use Rattle.base.specs.Lists.{put, keep, maybe}
 use Rattle.base.specs.ListLaws.{same-true}
 use Rattle.base.specs.Alls.{All, Opt-any, maybe-all}
 use Rattle.definition.specs.Limits.{most-rows, most-alternatives}

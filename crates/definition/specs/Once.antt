@@ -4,12 +4,11 @@ use mathlib.Core.Bool.{Bool, true, false, _&&_, _||_, true≢false}
 use mathlib.Core.Path.{_≡_, sym, ap, _∙_, subst}
 use mathlib.Core.List.{List, [], _∷_, _++_}
 use mathlib.Core.Option.{none}
-use Prim.Native.Nat.{ℕ, _<_}
 use native.Mathlib.Omega.{arith}
 use lib.Dec.{eqb}
 use lib.ListN.{length}
 use borrow.Author.Tests.{eq-eqb}
-use Rattle.base.specs.Pick.{pick, pick-ind}
+use Rattle.base.specs.Pick.{pick-ind}
 use Rattle.base.specs.Bools.{or-right}
 use Rattle.base.specs.Lists.{put, keep, any, same}
 use Rattle.base.specs.ListLaws.{same-refl}

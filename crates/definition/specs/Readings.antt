@@ -4,7 +4,6 @@ use mathlib.Core.Bool.{Bool, true, false, not, _||_, or-assoc, or-true}
 use mathlib.Core.Path.{_≡_, refl, sym, ap, _∙_}
 use mathlib.Core.List.{List, [], _∷_, _++_, map, map-append}
 use mathlib.Core.Option.{Option, none, some}
-use Prim.Native.Nat.{ℕ}
 use Rattle.base.specs.Pick.{pick}
 use Rattle.base.specs.Lists.{put, any, maybe, same}
 use Rattle.base.specs.ListLaws.{any-append, same-refl, same-true}

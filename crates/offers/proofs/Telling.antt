@@ -35,7 +35,7 @@ use Rattle.offers.specs.Texts.{offer-at, Spoken, Tells, count-of, is-rea
 pub same-bytes : (w b : List ℕ) → All Low w → TextBytes b → same w (decoded b) ≡ same w b
 same-bytes w b l t = ap (λ u. same u (decoded b)) (sym (low-decoded w l)) ∙ same-decoded (low-bytes w l) t
 
--- Is it the core of an edge; does it give its alternatives?
+-- Is it the core of an edge?
 module _ (e : Numbers) (b w : List ℕ) where
   abbrev X : Edge
   X = edge-by e b
@@ -50,18 +50,27 @@ module _ (e : Numbers) (b w : List ℕ) where
       (ap (λ (y : Bool). y && same w (take (e .core) (decoded b))) (eq-eqb (e .note) note-core n)
       ∙ ap (λ l. same w (take (e .core) l)) (core-own h n))
 
+  -- Does it give its alternatives: is it the text, or the core?
   module _ (h : Spoken e b) (l : All Low w) where
-    pub taken-whole : same w b ≡ true → true ≡ (same w (X .text) || cored X w)
+    text-same : same w (X .text) ≡ same w b
     unfolding edge-by
-    taken-whole z = sym (ap (λ (y : Bool). y || cored X w) (same-bytes w b l (h .text) ∙ z))
+    text-same = same-bytes w b l (h .text)
 
-    pub taken-core : same w b ≡ false → cored X w ≡ (same w (X .text) || cored X w)
-    unfolding edge-by
-    taken-core z = sym (ap (λ (y : Bool). y || cored X w) (same-bytes w b l (h .text) ∙ z))
+    pub taken-by : (t c : Bool) → same w b ≡ t → cored X w ≡ c → (same w (X .text) || cored X w) ≡ (t || c)
+    taken-by t c p q = ap (λ (y : Bool). y || cored X w) (text-same ∙ p) ∙ ap (λ (y : Bool). t || y) q
+
+    pub read-by : (y t : Bool) → same w b ≡ t → (o : Bool) → (t && (y && o)) ≡ ((y && same w (X .text)) && o)
+    read-by y t p o = go t y ∙ ap (λ (z : Bool). (y && z) && o) (sym (text-same ∙ p))
+      where
+        go : (t y : Bool) → (t && (y && o)) ≡ ((y && t) && o)
+        go true true = refl
+        go true false = refl
+        go false true = refl
+        go false false = refl
 
 -- The texts of a row by their flags
 module _ (s : List ℕ) where
-  abbrev W : Text
+  abbrev pub W : Text
   W = text-of (drop (target-at s) s)
 
   abbrev U : Text
@@ -113,7 +122,7 @@ module _ (s : List ℕ) where
       go true e = ap has (end-flag true e)
       go false e = ap has (end-flag false e)
 
-  others-are : R .others ≡ others s
+  pub others-are : R .others ≡ others s
   unfolding rule-of
   others-are = refl
 
@@ -121,23 +130,12 @@ module _ (s : List ℕ) where
   unfolding rule-of
   other-short h k = All-getD (Short most-target) (others s) k [] (h .others) (short-none most-target)
 
-  -- Is the end target a reading of an edge with the text `b`, whose text the target `w` is or is not?
-  module _ (y : Bool) (w b : List ℕ) where
-    abbrev Read : Bool
-    Read = (y && same w (decoded b)) && has (R .end-target)
+  -- Is there one, where readings are chosen?
+  pub read-so : (y : Bool) → y ≡ true → rule-flag s end-target-bit ≡ (y && has (R .end-target))
+  read-so y e = sym (ap (λ (c : Bool). c && has (R .end-target)) e ∙ end-has)
 
-    pub read-so : All Low w → TextBytes b → y ≡ true → same w b ≡ true → rule-flag s end-target-bit ≡ Read
-    read-so l t e f = sym
-        (ap (λ (c : Bool). (c && same w (decoded b)) && has (R .end-target)) e
-        ∙ ap (λ (c : Bool). c && has (R .end-target)) (same-bytes w b l t ∙ f) ∙ end-has)
-
-    pub read-other : All Low w → TextBytes b → y ≡ true → same w b ≡ false → false ≡ Read
-    read-other l t e f = sym
-        (ap (λ (c : Bool). (c && same w (decoded b)) && has (R .end-target)) e
-        ∙ ap (λ (c : Bool). c && has (R .end-target)) (same-bytes w b l t ∙ f))
-
-    pub read-not : y ≡ false → false ≡ Read
-    read-not e = sym (ap (λ (c : Bool). (c && same w (decoded b)) && has (R .end-target)) e)
+  pub read-not : (y : Bool) → y ≡ false → false ≡ (y && has (R .end-target))
+  read-not y e = sym (ap (λ (c : Bool). c && has (R .end-target)) e)
 
   -- What it offers
   module _ (b : Bool) (x : Edge) where

@@ -9,9 +9,9 @@ use native.Mathlib.Decide.{decLt}
 use lib.ListN.{length, getD, drop, length-append, length-map, length-drop, List·getD-append}
 use lib.Seq.{getD-at}
 use lib.Dec.{eqb, ltb}
-use borrow.Author.Tests.{eqb-true, eqb-false, lt-ltb, le-ltb}
+use borrow.Author.Tests.{eqb-true, eqb-false, ltb-false, lt-ltb, le-ltb}
 use Rattle.base.specs.Pick.{pick, pick-ind, pick-all}
-use Rattle.base.specs.Bools.{and-left, and-right}
+use Rattle.base.specs.Bools.{and-left, and-right, or-left, or-right}
 use Rattle.base.specs.Lists.{keep, has, is, maybe, same}
 use Rattle.base.specs.Alls.{All, All-append, All-getD, All-drop, maybe-all}
 use Rattle.definition.specs.Limits.{most-target, most-vowel, most-alternative}
@@ -96,6 +96,51 @@ at-target o k h z l = go (o .reading) refl
     go true e = unfold pick in
         (let w = ap (λ c. pick {A = ℕ} c 1 0) e in let v = eqb-false k (o .others) (sym (ap (λ (c : Bool). c && eqb k (o .others)) e) ∙ z) in omega (arith, w, v, h, l, few))
     go false e = unfold pick in (let w = ap (λ c. pick {A = ℕ} c 1 0) e in omega (arith, w, h, l, few))
+
+-- a rule without an end target and without alternatives offers nothing to any edge
+unfoldable pub offering : Rule → Bool
+offering r = has (r .end-target) || ltb 0 (length (r .others))
+
+pub offers-none : (b : Bool) (x : Edge) (r : Rule) → offering r ≡ false → offers b x r ≡ []
+unfolding offering
+offers-none b x r e = go (r .target) refl
+  where
+    bare : r .end-target ≡ none
+    bare = not-has (r .end-target) (or-left (has (r .end-target)) (ltb 0 (length (r .others))) e)
+      where
+        not-has : (o : Option Text) → has o ≡ false → o ≡ none
+        not-has none h = refl
+        not-has (some u) h = absurd (true≢false h)
+
+    plain : r .others ≡ []
+    plain = not-some (r .others) (ltb-false 0 (length (r .others)) (or-right (has (r .end-target)) (ltb 0 (length (r .others))) e))
+      where
+        not-some : (l : List Text) → length l ≤ 0 → l ≡ []
+        not-some [] h = refl
+        not-some (u ∷ l) h = absurd (omega arith)
+
+    picked : (c : Bool) → pick {A = List Edge} c [] [] ≡ []
+    picked true = unfold pick in refl
+    picked false = unfold pick in refl
+
+    by-target : (w : Text) → target-offers x r w ≡ []
+    by-target w = unfold target-offers in
+        (ap (λ l. pick (same w (x .text) || cored x w) (map (λ u. other x note-alt (u ++ edge-vowel x w)) l) []) plain ∙ picked (same w (x .text) || cored x w))
+
+    by-reading : (w : Text) → reading-offers b x r w ≡ []
+    by-reading w = unfold reading-offers maybe in
+        (ap (λ o. pick (b && same w (x .text)) (maybe o [] (λ u. other x note-alt2 u ∷ [])) []) bare ∙ picked (b && same w (x .text)))
+
+    by-end : (w : Text) → end-offers x r w ≡ []
+    by-end w = unfold end-offers pick in ap (λ o. pick (is (λ u. same u (x .text)) o) (other x note-alt3 w ∷ []) []) bare
+
+    all : (w : Text) → target-offers x r w ++ (reading-offers b x r w ++ end-offers x r w) ≡ []
+    all w = ap (λ l. l ++ (reading-offers b x r w ++ end-offers x r w)) (by-target w) ∙ ap (λ l. l ++ end-offers x r w) (by-reading w) ∙ by-end w
+
+    go : (o : Option Text) → r .target ≡ o → offers b x r ≡ []
+    go none t = unfold offers maybe in ap (λ o. maybe o [] (λ w. target-offers x r w ++ (reading-offers b x r w ++ end-offers x r w))) t
+    go (some w) t = unfold offers maybe in
+        (ap (λ o. maybe o [] (λ w. target-offers x r w ++ (reading-offers b x r w ++ end-offers x r w))) t ∙ all w)
 
 -- the rules that hold among those of some rows
 abbrev pub holding : Text → Bool → Bool → List ℕ → ℕ → ℕ → List Rule

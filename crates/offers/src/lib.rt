@@ -1,12 +1,10 @@
 // What rules offer as alternatives of an edge (paths.rs, `add_alternatives`), and whether a text was offered before.
 // Nothing is kept of what was found: whether an alternative is new is asked again of the rows before it.
-ghost use mathlib.Core.Bool.{_&&_, _||_};
+ghost use mathlib.Core.Bool.{_&&_};
 ghost use mathlib.Core.Path.{_≡_};
 ghost use Prim.Native.Nat.{_≤_, _<_};
 ghost use lib.ListN.{length, take, drop};
 ghost use Rattle.base.specs.Lists.{any, has, is, same};
-ghost use Rattle.base.specs.Alls.{All};
-ghost use Rattle.definition.specs.Shorts.{Low};
 ghost use Rattle.definition.specs.Limits.{most-alternative};
 ghost use Rattle.definition.specs.RuleRows.{rule-of};
 ghost use Rattle.definition.specs.Utf8.{decoded};
@@ -17,7 +15,7 @@ ghost use Rattle.utf8.specs.Encodings.{TextBytes};
 ghost use Rattle.lent_bytes.specs.Puts.{put-at};
 ghost use Rattle.edge.specs.Slots.{edge-by};
 ghost use Rattle.words.specs.Found.{Row, Rows};
-ghost use Rattle.offers.specs.Texts.{texts, offer-at, Spoken, Tells, most-others, most-offers, count-of, is-reading, holding};
+ghost use Rattle.offers.specs.Texts.{texts, offer-at, Spoken, Tells, most-others, most-offers, count-of, is-reading, offering, holding};
 use edge::Numbers;
 
 // A row offers this many texts at most: its alternatives, whose number is a byte, and both targets.
@@ -44,6 +42,16 @@ pub struct Offers {
     pub target: bool,
 }
 
+// May a row offer anything: has it an end-of-syllable target, or alternatives? Most have neither, and are not looked into.
+pub fn may_offer(rules: &[u8], row: usize) -> bool
+    ensures { λ r. ⌜ r ≡ offering (rule-of (drop row (now (rules .entry)))) ⌝ }
+{
+    if rule_row::flag(rules, row, rule_row::END_TARGET_BIT) {
+        return true;
+    }
+    0 < rule_row::others_count(rules, row)
+}
+
 // Is a target the core of an edge?
 fn is_core(e: Numbers, text: &[u8], w: &[u8]) -> bool
     requires { ⌜ Spoken e (now text) ⌝ }
@@ -53,17 +61,6 @@ fn is_core(e: Numbers, text: &[u8], w: &[u8]) -> bool
         return false;
     }
     lent_bytes::same(w, lent_bytes::part(text, 0, e.core as usize))
-}
-
-// Does a target give its alternatives: is it the edge's text, or its core?
-fn is_taken(e: Numbers, text: &[u8], w: &[u8]) -> bool
-    requires { ⌜ Spoken e (now text) × All Low (now w) ⌝ }
-    ensures { λ r. ⌜ r ≡ (same (now (w .entry)) (edge-by e (now (text .entry)) .text) || cored (edge-by e (now (text .entry))) (now (w .entry))) ⌝ }
-{
-    if lent_bytes::same(w, text) {
-        return true;
-    }
-    is_core(e, text, w)
 }
 
 // Is the row's end-of-syllable target the edge's text?
@@ -77,21 +74,18 @@ fn is_at_end(rules: &[u8], row: usize, text: &[u8]) -> bool
     false
 }
 
-// Are readings chosen, is the row's target `w` the edge's text, and has the row an end-of-syllable target?
-fn is_read(rules: &[u8], row: usize, readings: bool, text: &[u8], w: &[u8]) -> bool
-    requires { ⌜ TextBytes (now text) × All Low (now w) ⌝ }
-    ensures { λ r. ⌜ r ≡ ((readings && same (now (w .entry)) (decoded (now (text .entry)))) && has (rule-of (drop row (now (rules .entry))) .end-target)) ⌝ }
+// Are readings chosen, and has the row an end-of-syllable target?
+fn is_read(rules: &[u8], row: usize, readings: bool) -> bool
+    ensures { λ r. ⌜ r ≡ (readings && has (rule-of (drop row (now (rules .entry))) .end-target)) ⌝ }
 {
     if readings {
-        if lent_bytes::same(w, text) {
-            return rule_row::flag(rules, row, rule_row::END_TARGET_BIT);
-        }
-        return false;
+        return rule_row::flag(rules, row, rule_row::END_TARGET_BIT);
     }
     false
 }
 
-// What a row offers.
+// What a row offers: its alternatives where its target is the edge's text, or its core; its end-of-syllable target only where
+// the target is the text.
 pub fn offers_of(rules: &[u8], row: usize, readings: bool, e: Numbers, text: &[u8]) -> Offers
     requires { ⌜ Row (drop row (now rules)) × Spoken e (now text) ⌝ }
     ensures { λ r. ⌜ Tells readings (edge-by e (now (text .entry))) (rule-of (drop row (now (rules .entry)))) r × (r .others ≤ most-others) ⌝ }
@@ -100,19 +94,29 @@ pub fn offers_of(rules: &[u8], row: usize, readings: bool, e: Numbers, text: &[u
         let w = rule_row::target_text(rules, row);
         let target = is_at_end(rules, row, text);
         let cored = is_core(e, text, w);
-        let reading = is_read(rules, row, readings, text, w);
-        if is_taken(e, text, w) {
+        if lent_bytes::same(w, text) {
+            let others = rule_row::others_count(rules, row);
+            let reading = is_read(rules, row, readings);
             return Offers {
-                others: rule_row::others_count(rules, row),
+                others,
                 cored,
                 reading,
+                target,
+            };
+        }
+        if cored {
+            let others = rule_row::others_count(rules, row);
+            return Offers {
+                others,
+                cored,
+                reading: false,
                 target,
             };
         }
         return Offers {
             others: 0,
             cored,
-            reading,
+            reading: false,
             target,
         };
     }

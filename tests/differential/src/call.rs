@@ -14,6 +14,14 @@ pub type Lent = [usize; 3];
 pub struct Choices {
     pub capitals: u8,
     pub o_ang: u8,
+    pub readings: u8,
+}
+
+impl Choices {
+    /// in the order of the call's arguments
+    pub fn all(self) -> [u8; 3] {
+        [self.capitals, self.o_ang, self.readings]
+    }
 }
 
 #[derive(Clone, Copy)]

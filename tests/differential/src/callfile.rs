@@ -27,7 +27,8 @@ pub fn calls(bytes: &[u8]) -> Option<Vec<(Call<'_>, Answer<'_>)>> {
 
 fn next<'a>(r: &mut Reader<'a>) -> Option<(Call<'a>, Answer<'a>)> {
     let mode = r.number(1)? as u8;
-    let choices = Choices { capitals: r.number(1)? as u8, o_ang: r.number(1)? as u8 };
+    let mut one = || Some(r.number(1)? as u8);
+    let choices = Choices { capitals: one()?, o_ang: one()?, readings: one()? };
     let mut lent = [0; 3];
     for n in &mut lent {
         *n = r.number(4)? as usize;
@@ -44,7 +45,8 @@ fn next<'a>(r: &mut Reader<'a>) -> Option<(Call<'a>, Answer<'a>)> {
 }
 
 fn encoded(call: &Call, answer: &Answer) -> Vec<u8> {
-    let mut bytes = vec![call.mode, call.choices.capitals, call.choices.o_ang];
+    let mut bytes = vec![call.mode];
+    bytes.extend(call.choices.all());
     let four = |n: usize| (n as u32).to_be_bytes();
     bytes.extend(call.lent.iter().flat_map(|n| four(*n)));
     for part in call.parts {

@@ -8,16 +8,17 @@ use crate::random::Random;
 pub type Damaged = [Vec<u8>; PARTS.len()];
 
 pub fn damage(random: &mut Random, mode: &mut u8, choices: &mut Choices, parts: &mut Damaged) {
-    match random.below(100) {
+    match random.below(102) {
         0..3 => *mode = random.between(4, 255) as u8,
         3..5 => choices.capitals = random.between(2, 255) as u8,
         5..7 => choices.o_ang = random.between(2, 255) as u8,
-        7..33 => table(random, 0, &mut parts[0]),
-        33..44 => table(random, 1, &mut parts[1]),
-        44..53 => table(random, 2, &mut parts[2]),
-        53..73 => table(random, DECOMPOSITIONS, &mut parts[3]),
-        73..77 => code(random, &mut parts[4]),
-        77..92 => text(random, &mut parts[5]),
+        7..9 => choices.readings = random.between(2, 255) as u8,
+        9..35 => table(random, 0, &mut parts[0]),
+        35..46 => table(random, 1, &mut parts[1]),
+        46..55 => table(random, 2, &mut parts[2]),
+        55..75 => table(random, DECOMPOSITIONS, &mut parts[3]),
+        75..79 => code(random, &mut parts[4]),
+        79..94 => text(random, &mut parts[5]),
         // two at once: the one that is looked for first is named
         _ => {
             damage(random, mode, choices, parts);

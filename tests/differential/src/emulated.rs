@@ -31,7 +31,7 @@ impl Callee {
     /// One call; the slices become what it has left of them.
     pub fn call(&mut self, call: &Call, parts: &mut Given, rooms: &mut Rooms) -> Numbers {
         self.bytes.clear();
-        for number in [call.mode, call.choices.capitals, call.choices.o_ang] {
+        for number in std::iter::once(call.mode).chain(call.choices.all()) {
             self.bytes.extend((number as u32).to_le_bytes());
         }
         for slice in parts.iter().chain(&*rooms) {

@@ -1,6 +1,6 @@
 //! Cases from a seed, until the time is over.
 
-use crate::call::{Call, Choices, Parts};
+use crate::call::{Answer, Call, Choices, Parts};
 use crate::damage::{Damaged, damage};
 use crate::judge::{Judged, judge, tables as read};
 use crate::random::Random;
@@ -12,6 +12,8 @@ use std::time::{Duration, Instant};
 
 /// the first parts are tables
 const TABLES: usize = 4;
+/// the mode that shows the path and its alternatives
+const ALTERNATIVES: u8 = 2;
 /// damaged calls of a world: some 30 % of its cases
 const DAMAGED: usize = 10;
 
@@ -37,6 +39,10 @@ pub fn run(tester: &mut Tester, seconds: u64, seed: u64) {
     let speed = cases as f64 / begun.elapsed().as_secs_f64();
     println!("in {} cases the choice of capitals has changed letters", tester.capitalized);
     println!("in {} cases the walk behind O ang ended at a space before what it would have found", tester.walk_ended);
+    println!(
+        "{} cases choose readings: {} of them list some, and {} readings were listed already",
+        tester.chose_readings, tester.listed_readings, tester.kept_out
+    );
     println!("in {} cases a decomposition has an edge", tester.decomposed);
     println!("{cases} cases, {} differ (seed {seed}: {numbers}), {speed:.0}/s", tester.differ());
 }
@@ -46,14 +52,19 @@ fn parts<'a>(world: &'a World, (code, text): &'a (&'static str, String)) -> Part
 }
 
 fn some_choices(random: &mut Random) -> Choices {
-    Choices { capitals: random.below(2) as u8, o_ang: random.below(2) as u8 }
+    let [capitals, o_ang, readings] = [(); 3].map(|_| random.below(2) as u8);
+    Choices { capitals, o_ang, readings }
 }
 
-/// one lattice in each mode, and some more; what is strange is strange in all of them
+/// one lattice in each mode, and some more, which are alternatives where there are readings; what is strange is strange in all of them
 fn ask(tester: &mut Tester, name: &str, random: &mut Random, parts: Parts, tables: Option<&Tables>) {
     let choices = some_choices(random);
     let judged = judge(0, choices, parts, tables);
-    let modes = [0, 1, 2, 3, random.below(4) as u8, random.below(4) as u8];
+    let mut modes = vec![0, 1, 2, 3, random.below(4) as u8, random.below(4) as u8];
+    let (listed, _) = judged.readings();
+    if listed > 0 {
+        modes.extend([ALTERNATIVES; 2]);
+    }
     let asked = if judged.strange().is_some() { 1 } else { modes.len() };
     for mode in &modes[..asked] {
         test(tester, name, random, (*mode, choices), parts, &judged);
@@ -77,7 +88,22 @@ fn test(
     tester.capitalized += judged.capitalized() as u64;
     tester.walk_ended += judged.walk_ended() as u64;
     tester.decomposed += judged.decomposed() as u64;
-    tester.test(name, &call, &judged.wanted(mode, lent), judged.strange(), random.next());
+    let wanted = judged.wanted(mode, lent);
+    count_readings(tester, &call, &wanted, judged);
+    tester.test(name, &call, &wanted, judged.strange(), random.next());
+}
+
+/// readings are where alternatives are shown
+fn count_readings(tester: &mut Tester, call: &Call, wanted: &Answer, judged: &Judged) {
+    if call.choices.readings != 1 {
+        return;
+    }
+    tester.chose_readings += 1;
+    if call.mode == ALTERNATIVES && wanted.numbers.number == 0 {
+        let (listed, kept_out) = judged.readings();
+        tester.listed_readings += (listed > 0) as u64;
+        tester.kept_out += kept_out as u64;
+    }
 }
 
 fn ask_damaged(tester: &mut Tester, name: &str, random: &mut Random, world: &World, tables: Option<&Tables>) {

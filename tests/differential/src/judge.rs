@@ -22,7 +22,7 @@ pub fn tables([rules, classes, vowels, decompositions, ..]: Parts) -> Option<Tab
 pub fn judge(mode: u8, choices: Choices, parts: Parts, tables: Option<&Tables>) -> Judged {
     let refused = refusal(mode, choices, parts);
     let [.., code, text] = parts;
-    let chosen = allowed_choices([choices.capitals, choices.o_ang]);
+    let chosen = allowed_choices(choices.all());
     let allowed = || Some((tables?, chosen?, allowed_code(code)?, allowed_text(text)?));
     let accepted = if mode <= 3 { allowed() } else { None };
     match (refused, accepted) {
@@ -55,6 +55,14 @@ impl Judged {
     /// whether a walk behind O ang ended at a space before what it would have found
     pub fn walk_ended(&self) -> bool {
         matches!(self, Judged::Shown(shown) if shown.ended_walks > 0)
+    }
+
+    /// how many readings alternatives list, and how many were kept out, their text being listed already
+    pub fn readings(&self) -> (usize, usize) {
+        match self {
+            Judged::Shown(Shown { readings: (asked, listed), .. }) => (*listed, asked - listed),
+            _ => (0, 0),
+        }
     }
 
     /// whether a decomposition has an edge

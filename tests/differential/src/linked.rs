@@ -17,7 +17,8 @@ impl Callee {
         let [slots, room, out] = rooms.each_mut().map(Slice::lent_mut);
         let tables = Tables { rules, classes, vowels, decompositions };
         let rooms = Rooms { slots, room, out };
-        let choices = Choices { capitals: call.choices.capitals, o_ang: call.choices.o_ang };
+        let [capitals, o_ang, readings] = call.choices.all();
+        let choices = Choices { capitals, o_ang, readings };
         let answer = romanize(call.mode, choices, tables, code, text, rooms);
         Numbers { number: answer.number, place: answer.place, length: answer.length, edges: answer.edges }
     }

@@ -26,6 +26,7 @@ mod library;
 #[cfg(target_arch = "x86_64")]
 mod linked;
 mod random;
+mod readings;
 mod recorded;
 mod refusals;
 mod rooms;

@@ -1,6 +1,6 @@
 //! What a call is refused by before its lattice, and where: document 01's "Numbers a call returns" and "Table and output
-//! bytes", and for the choices and decompositions tickets 2, 3 and 5 (docs/DECISIONS.md), written from their words alone. The rule
-//! table's refusals are in rule_refusals.rs.
+//! bytes", and for the choices and decompositions tickets 2, 3, 5 and 8 (docs/DECISIONS.md), written from their words alone. The
+//! rule table's refusals are in rule_refusals.rs.
 
 use crate::call::{Choices, Parts};
 use crate::rule_refusals::rule_fault;
@@ -20,6 +20,9 @@ pub fn refusal(mode: u8, choices: Choices, [rules, classes, vowels, decompositio
     }
     if choices.o_ang > 1 {
         return Some((15, 0));
+    }
+    if choices.readings > 1 {
+        return Some((17, 0));
     }
     let faulty = |number| move |place: usize| (number, place as u64);
     rule_fault(rules)

@@ -1,6 +1,7 @@
 //! The rules of a world, made from pieces of its texts.
 
 use crate::alphabets::{CAPITALS, CODES, EN_DASH, LONG, PASSED, PRE, TARGETS, USUAL};
+use crate::readings::Texts;
 use crate::rows::{Rule, block};
 use crate::world::{Maker, Text};
 
@@ -24,8 +25,9 @@ impl Maker<'_> {
             made.push((&long, Rule { source: &long, target: Some(b"ka".repeat(32)), ..Rule::default() }.row()));
         }
         for source in &sources {
+            let few = if self.read { self.few_texts(source) } else { Vec::new() };
             for _ in 0..self.random.choice(&[1, 1, 1, 1, 2, 2, 3]) {
-                made.push((source, self.rule(source)));
+                made.push((source, self.rule(source, &few)));
             }
             if self.chance(0.1) {
                 // the same target by another rule, with alternatives of its own
@@ -104,7 +106,8 @@ impl Maker<'_> {
         sources
     }
 
-    fn rule(&mut self, source: &Text) -> Vec<u8> {
+    /// a rule, by texts of its own or of few
+    fn rule(&mut self, source: &Text, few: &[Vec<u8>]) -> Vec<u8> {
         let plain = !self.odd(0.45);
         let flags = match (plain, self.random.below(3)) {
             (true, _) | (_, 0) => 0,
@@ -112,10 +115,15 @@ impl Maker<'_> {
             _ => self.random.below(32) as u8,
         };
         let count = if plain { 0 } else { self.random.choice(&[0, 1, 1, 2, 255, 256, 65535]) };
+        let Texts { target, end, others } = if few.is_empty() { self.any_texts(source) } else { self.texts_of(few) };
+        Rule { source, flags, count, codes: self.rule_codes(), target, end, others }.row()
+    }
+
+    fn any_texts(&mut self, source: &Text) -> Texts {
         let target = if self.odd(0.08) { None } else { Some(self.target(source)) };
         let end = if self.odd(0.25) { Some(self.target(&[])) } else { None };
         let others = (0..self.random.choice(&[0, 0, 0, 1, 2, 3])).map(|_| self.target(&[])).collect();
-        Rule { source, flags, count, codes: self.rule_codes(), target, end, others }.row()
+        Texts { target, end, others }
     }
 
     fn rule_codes(&mut self) -> Vec<&'static str> {
@@ -130,7 +138,7 @@ impl Maker<'_> {
         codes
     }
 
-    fn target(&mut self, source: &[char]) -> Vec<u8> {
+    pub fn target(&mut self, source: &[char]) -> Vec<u8> {
         let passed = matches!(source, [c] if PASSED.contains(c)) || source.contains(&' ');
         if self.lined && passed && self.chance(0.6) {
             return Vec::new();

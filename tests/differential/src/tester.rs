@@ -1,6 +1,6 @@
 //! Calls the library, compares, and counts.
 
-use crate::call::{Answer, Call, Choices};
+use crate::call::{Answer, Call};
 use crate::callfile::keep;
 use crate::compare::{difference, told};
 use crate::library::Library;
@@ -21,6 +21,10 @@ pub struct Tester {
     pub capitalized: u64,
     /// cases in which a walk behind O ang ended at a space before what it would have found
     pub walk_ended: u64,
+    /// cases that choose readings, and those of them that list some; readings that were kept out
+    pub chose_readings: u64,
+    pub listed_readings: u64,
+    pub kept_out: u64,
     /// cases in which a decomposition has an edge
     pub decomposed: u64,
     /// cases by the number that was wanted
@@ -41,6 +45,9 @@ impl Tester {
             cases: 0,
             capitalized: 0,
             walk_ended: 0,
+            chose_readings: 0,
+            listed_readings: 0,
+            kept_out: 0,
             decomposed: 0,
             numbers,
             differ: 0,
@@ -70,8 +77,8 @@ impl Tester {
 
     fn report(&mut self, name: &str, call: &Call, wanted: &Answer, what: &str) {
         self.differ += 1;
-        let Call { mode, choices: Choices { capitals, o_ang }, .. } = call;
-        let asked = format!("mode {mode}, capitals {capitals}, O ang {o_ang}");
+        let (mode, [capitals, o_ang, readings]) = (call.mode, call.choices.all());
+        let asked = format!("mode {mode}, capitals {capitals}, O ang {o_ang}, readings {readings}");
         println!("difference {}: {name} case {}, {asked}: {what}", self.differ, self.cases);
         if self.keeps {
             println!("{}", keep(&self.folder, call, wanted).unwrap_or_else(|e| format!("not kept: {e}")));

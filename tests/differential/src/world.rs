@@ -42,6 +42,8 @@ pub struct Maker<'r> {
     pub lined: bool,
     /// whether there is lower case, and many targets have capitals
     pub cased: bool,
+    /// whether the rules of a source have few texts
+    pub read: bool,
     /// whether there are decompositions
     formed: bool,
     /// by their characters
@@ -61,9 +63,9 @@ impl<'r> Maker<'r> {
             }
         }
         let code = if random.chance(3.0 / 11.0) { "" } else { random.choice(&CODES) };
-        let formed = random.chance(0.6);
+        let (formed, read) = (random.chance(0.6), random.chance(0.3));
         let (kinds, phrases, forms, letters) = Default::default();
-        let mut maker = Maker { random, alphabets, kinds, phrases, code, lined, cased: false, formed, forms, letters };
+        let mut maker = Maker { random, alphabets, kinds, phrases, code, lined, cased: false, read, formed, forms, letters };
         maker.cased = maker.odd(0.5);
         for alphabet in maker.alphabets.clone() {
             let all = alphabet.kinds;

@@ -8,6 +8,7 @@ mod edge;
 mod lattice;
 mod listing;
 mod o_ang;
+mod readings;
 mod shim;
 mod tables;
 mod utils;
@@ -48,11 +49,13 @@ pub struct Choices {
     pub capitals: bool,
     /// the walk back behind O ang ends at a space
     pub o_ang: bool,
+    /// a rule's end-of-syllable target is listed among the alternatives
+    pub readings: bool,
 }
 
 impl Choices {
     /// as published
-    pub const NONE: Choices = Choices { capitals: false, o_ang: false };
+    pub const NONE: Choices = Choices { capitals: false, o_ang: false, readings: false };
 }
 
 pub struct Answer {
@@ -72,6 +75,8 @@ pub struct Shown {
     pub capitalized: usize,
     /// how many walks behind O ang have ended at a space before what they would have found
     pub ended_walks: usize,
+    /// how many "rom-alt2" were asked for, and how many of these are listed
+    pub readings: (usize, usize),
 }
 
 /// Tables that were read once.
@@ -97,7 +102,7 @@ impl Tables {
                 let (mut lattice, added) = filled_and_counted(dicts, code, text);
                 let (capitalized, ended_walks) = (shim::choice::changes(), shim::choice::ended_walks());
                 let outputs = [0, 1, 2, 3].map(|mode| output(&mut lattice, mode, text));
-                Shown { outputs, added, capitalized, ended_walks }
+                Shown { outputs, added, capitalized, ended_walks, readings: shim::choice::readings() }
             })
         };
         catch_unwind(AssertUnwindSafe(shown)).ok()
@@ -168,12 +173,13 @@ pub fn allowed_code(code: &[u8]) -> Option<&str> {
     std::str::from_utf8(code).ok().filter(|_| right)
 }
 
-/// Choices that no call refuses, of capitals and O ang.
-pub fn allowed_choices([capitals, o_ang]: [u8; 2]) -> Option<Choices> {
-    (capitals <= 1 && o_ang <= 1).then_some(Choices { capitals: capitals == 1, o_ang: o_ang == 1 })
+/// Choices that no call refuses, of capitals, O ang and readings.
+pub fn allowed_choices(asked: [u8; 3]) -> Option<Choices> {
+    let [capitals, o_ang, readings] = asked.map(|choice| choice == 1);
+    asked.iter().all(|choice| *choice <= 1).then_some(Choices { capitals, o_ang, readings })
 }
 
-pub fn answer(mode: u8, choices: [u8; 2], [rules, classes, vowels, decompositions, code, text]: [&[u8]; 6]) -> Answer {
+pub fn answer(mode: u8, choices: [u8; 3], [rules, classes, vowels, decompositions, code, text]: [&[u8]; 6]) -> Answer {
     let empty = |status| Answer { status, output: Vec::new(), added: Vec::new() };
     let read = Tables::read([rules, classes, vowels, decompositions]);
     let asked = (allowed_choices(choices), allowed_code(code), allowed_text(text));

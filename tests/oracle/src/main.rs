@@ -1,7 +1,7 @@
 //! The oracle: calls answered by the published Rust, whose left-out passes are switched off.
 //!
-//! Standard input holds cases one after another: a mode byte, a capitals byte and an O ang byte, then rules, classes,
-//! vowels, decompositions, language code and text, each a 4-byte big-endian length and its bytes.
+//! Standard input holds cases one after another: a mode byte, a byte for each choice (capitals, O ang, readings), then
+//! rules, classes, vowels, decompositions, language code and text, each a 4-byte big-endian length and its bytes.
 //! Standard output holds for each a status (0 done, 1 panicked, 2 refused for mode, choices, tables, code or text),
 //! the count of lattice edges (4), the output's length (4) and bytes, and then the lattice edges
 //! in adding order, each its start (2), the length of its text (2), and how many edges the lattice has that a decomposition's
@@ -29,12 +29,12 @@ fn main() {
     let mut out = std::io::BufWriter::new(std::io::stdout().lock());
     let mut r = Reader::new(&input);
     while !r.done() {
-        let [mode, capitals, o_ang] = [(); 3].map(|_| r.number(1).unwrap() as u8);
+        let [mode, choices @ ..] = [(); 4].map(|_| r.number(1).unwrap() as u8);
         let parts = [(); 6].map(|_| {
             let n = r.number(4).unwrap() as usize;
             r.take(n).unwrap()
         });
-        write(&mut out, &oracle::answer(mode, [capitals, o_ang], parts)).unwrap();
+        write(&mut out, &oracle::answer(mode, choices, parts)).unwrap();
     }
     out.flush().unwrap();
     oracle::report();

@@ -78,12 +78,14 @@ pub mod choice {
         static MADE: Cell<Choices> = const { Cell::new(Choices::NONE) };
         static CHANGES: Cell<usize> = const { Cell::new(0) };
         static ENDED_WALKS: Cell<usize> = const { Cell::new(0) };
+        static READINGS: Cell<(usize, usize)> = const { Cell::new((0, 0)) };
     }
 
     pub fn set(choices: Choices) {
         MADE.set(choices);
         CHANGES.set(0);
         ENDED_WALKS.set(0);
+        READINGS.set((0, 0));
     }
     pub fn made() -> Choices {
         MADE.get()
@@ -99,6 +101,18 @@ pub mod choice {
     }
     pub fn ended_walks() -> usize {
         ENDED_WALKS.get()
+    }
+    pub fn note_asked() {
+        let (asked, listed) = READINGS.get();
+        READINGS.set((asked + 1, listed));
+    }
+    pub fn note_listed() {
+        let (asked, listed) = READINGS.get();
+        READINGS.set((asked, listed + 1));
+    }
+    /// how many "rom-alt2" were asked for, and how many of these are listed
+    pub fn readings() -> (usize, usize) {
+        READINGS.get()
     }
 }
 
