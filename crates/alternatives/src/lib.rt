@@ -147,7 +147,7 @@ fn put_offers(
     let mut to = at;
     let mut k: usize = 0;
     while k < n {
-        let len = offers::put_offer(&mut bytes, rules, row, asked.readings, o, e, text, k);
+        let len = offers::put_offer(&mut bytes, rules, row, o, e, text, k);
         let w = &bytes[..len];
         let new = is_new(rules, code, asked, before, row, e, text, cells, k, w);
         to = put_new(out, to, new, e, note_of(o, k), w);

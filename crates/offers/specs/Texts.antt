@@ -52,6 +52,10 @@ pub record Tells (b : Bool) (x : Edge) (r : Rule) (o : Offers) : Type 0 where
   pub reading : o .reading ≡ (is (λ w. b && same w (x .text)) (r .target) && has (r .end-target))
   pub target : o .target ≡ (has (r .target) && is (λ u. same u (x .text)) (r .end-target))
 
+-- whether readings were chosen or not
+abbrev pub TellsEither : Edge → Rule → Offers → Type 0
+TellsEither x r o = (b : Bool) × Tells b x r o
+
 -- so many alternatives at most, since their number is a byte; with both targets, so many offers
 abbrev pub most-others : ℕ
 most-others = 255

@@ -1,6 +1,6 @@
 // What rules offer as alternatives of an edge (paths.rs, `add_alternatives`), and whether a text was offered before.
 // Nothing is kept of what was found: whether an alternative is new is asked again of the rows before it.
-ghost use mathlib.Core.Bool.{_&&_};
+ghost use mathlib.Core.Bool.{Bool, _&&_};
 ghost use mathlib.Core.Path.{_≡_};
 ghost use Prim.Native.Nat.{_≤_, _<_};
 ghost use lib.ListN.{length, take, drop};
@@ -15,7 +15,7 @@ ghost use Rattle.utf8.specs.Encodings.{TextBytes};
 ghost use Rattle.lent_bytes.specs.Puts.{put-at};
 ghost use Rattle.edge.specs.Slots.{edge-by};
 ghost use Rattle.words.specs.Found.{Row, Rows};
-ghost use Rattle.offers.specs.Texts.{texts, offer-at, Spoken, Tells, most-others, most-offers, count-of, is-reading, offering, holding};
+ghost use Rattle.offers.specs.Texts.{texts, offer-at, Spoken, Tells, TellsEither, most-others, most-offers, count-of, is-reading, offering, holding};
 use edge::Numbers;
 
 // A row offers this many texts at most: its alternatives, whose number is a byte, and both targets.
@@ -161,16 +161,16 @@ pub fn put_offer(
     bytes: &mut [u8],
     rules: &[u8],
     row: usize,
-    readings: bool,
     o: Offers,
     e: Numbers,
     text: &[u8],
     k: usize,
 ) -> usize
     requires { ⌜ (most-alternative ≤ length (now bytes)) × Row (drop row (now rules)) × Spoken e (now text)
-        × Tells readings (edge-by e (now text)) (rule-of (drop row (now rules))) o × (k < count-of o) ⌝ }
-    ensures { λ r. ⌜ (now (bytes .exit) ≡ put-at 0 (offer-at readings (edge-by e (now (text .entry))) (rule-of (drop row (now (rules .entry)))) k) (now (bytes .entry)))
-        × (r ≡ length (offer-at readings (edge-by e (now (text .entry))) (rule-of (drop row (now (rules .entry)))) k)) × (r ≤ most-alternative) ⌝ }
+        × TellsEither (edge-by e (now text)) (rule-of (drop row (now rules))) o × (k < count-of o) ⌝ }
+    ensures { λ r. ⌜ ((b : Bool) → Tells b (edge-by e (now (text .entry))) (rule-of (drop row (now (rules .entry)))) o
+        → (now (bytes .exit) ≡ put-at 0 (offer-at b (edge-by e (now (text .entry))) (rule-of (drop row (now (rules .entry)))) k) (now (bytes .entry)))
+        × (r ≡ length (offer-at b (edge-by e (now (text .entry))) (rule-of (drop row (now (rules .entry)))) k)) × (r ≤ most-alternative)) ⌝ }
 {
     if k < o.others {
         let w = rule_row::other_text(rules, row, k);
@@ -216,7 +216,7 @@ pub fn row_offers(
         if most <= k {
             return false;
         }
-        let len = put_offer(&mut bytes, rules, row, readings, o, e, text, k);
+        let len = put_offer(&mut bytes, rules, row, o, e, text, k);
         if lent_bytes::same(w, &bytes[..len]) {
             return true;
         }

@@ -16,7 +16,7 @@ use Rattle.definition.specs.Tables.{Rule}
 use Rattle.definition.specs.Edges.{Edge}
 use Rattle.definition.specs.RuleRows.{rule-of}
 use Rattle.definition.specs.Offers.{offers, news}
-use Rattle.lent_bytes.specs.Puts.{front-read, front-length}
+use Rattle.lent_bytes.specs.Puts.{put-at, front-read, front-length}
 use Rattle.edge.specs.Slots.{edge-by}
 use Rattle.listing.specs.Items.{put-items}
 use Rattle.marks.specs.Marked.{Marked}
@@ -79,17 +79,23 @@ Put = tie.After-put-offer Inv-loop μ-loop
 abbrev before : Put → At
 before p = p .before .before .before
 
+-- what it promises, with the choice
+put : (p : Put)
+    → (p .put-offer .last .0 ≡ put-at 0 (U (before p)) (before p .loop .bytes)) × (p .put-offer .result ≡ length (U (before p)))
+    × (p .put-offer .result ≤ most-alternative)
+put p = let l = before p in p .put-offer .ensures (Y l) (l .before .before .offers-of .ensures .0)
+
 long : (p : Put) → length (p .put-offer .last .0) ≡ most-alternative
 long p =
     let u = p .put-offer in
     let l = before p in
-    front-length (U l) (l .loop .bytes) (u .last .0) (u .ensures .0) (omega (arith, u .ensures .1, u .ensures .2, l .loop .inv .6)) ∙ l .loop .inv .6
+    front-length (U l) (l .loop .bytes) (u .last .0) (put p .0) (omega (arith, put p .1, put p .2, l .loop .inv .6)) ∙ l .loop .inv .6
 
 told : (p : Put) → take (p .put-offer .result) (p .put-offer .last .0) ≡ U (before p)
 told p =
     let u = p .put-offer in
     let l = before p in
-    front-read (U l) (l .loop .bytes) (u .last .0) (u .result) (u .ensures .0) (u .ensures .1)
+    front-read (U l) (l .loop .bytes) (u .last .0) (u .result) (put p .0) (put p .1)
 
 offers-of-requires : tie.Need-offers-of-requires Inv-loop μ-loop
 offers-of-requires c κs = search needs
@@ -120,16 +126,16 @@ put-offer-requires : tie.Need-put-offer-requires Inv-loop μ-loop
 put-offer-requires c κs =
     let l = c .before .before in
     let q = l .before .before .before .before .before .before .before .before in
-    (omega (arith, l .loop .inv .6), q .pre .1, q .pre .2, l .before .before .offers-of .ensures .0, omega (arith, c .before .loop-test, l .before .offers-count .ensures))
+    (omega (arith, l .loop .inv .6), q .pre .1, q .pre .2, (Y l, l .before .before .offers-of .ensures .0), omega (arith, c .before .loop-test, l .before .offers-count .ensures))
 
 array-share-prefix-bytes : tie.Need-array-share-prefix-bytes Inv-loop μ-loop
-array-share-prefix-bytes c = let p = c .before in omega (arith, long p, p .put-offer .ensures .2)
+array-share-prefix-bytes c = let p = c .before in omega (arith, long p, put p .2)
 
 slice-aggregate-w : tie.Need-slice-aggregate-w Inv-loop μ-loop
 slice-aggregate-w c =
     let p = c .before .before in
     let u = p .put-offer in
-    sym (length-take-le (u .result) (u .last .0) (omega (arith, long p, u .ensures .2)))
+    sym (length-take-le (u .result) (u .last .0) (omega (arith, long p, put p .2)))
 
 is-new-requires : tie.Need-is-new-requires Inv-loop μ-loop
 is-new-requires c κs =

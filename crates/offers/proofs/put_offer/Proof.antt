@@ -1,5 +1,5 @@
 -- `offers::put_offer`: an alternative, with the vowel put behind it or without; the end-of-syllable target; or the target.
-use mathlib.Core.Bool.{true}
+use mathlib.Core.Bool.{Bool, true}
 use mathlib.Core.List.{List, [], _++_}
 use mathlib.Core.Path.{_≡_, refl, sym, ap, _∙_}
 use Prim.Native.Nat.{ℕ, _+_, _-_, _≤_}
@@ -30,11 +30,11 @@ B q = now (q .args .text)
 abbrev Old : tie.Start → List ℕ
 Old q = now (q .args .bytes)
 
-abbrev T : tie.Start → Text
-T q = offer-at (q .args .readings) (edge-by (q .args .e) (B q)) (rule-of (S q)) (q .args .k)
+abbrev T : Bool → tie.Start → Text
+T b q = offer-at b (edge-by (q .args .e) (B q)) (rule-of (S q)) (q .args .k)
 
-text-fits : (q : tie.Start) → length (T q) ≤ most-alternative
-text-fits q = text-short (q .pre .2) (q .pre .1 .spoken) (q .args .readings) (q .args .k) .long
+text-fits : (b : Bool) (q : tie.Start) → length (T b q) ≤ most-alternative
+text-fits b q = text-short (q .pre .2) (q .pre .1 .spoken) b (q .args .k) .long
 
 -- where the function begins, and the alternative that was read
 abbrev start : tie.After-other-text → tie.Start
@@ -50,13 +50,13 @@ other-fits m = let q = start m in omega (arith, ap length (m .other-text .ensure
 core-there : (t : tie.Then2) → let q = start (t .before .before .before .before .before) in q .args .e .note ≡ note-core
 core-there t =
     let q = start (t .before .before .before .before .before) in
-    note-there (S q) (q .args .readings) (q .args .e) (B q) (q .args .o) (q .args .k) (q .pre .3) (q .pre .4) (q .pre .2) (t .if2 .taken)
+    note-there (S q) (q .pre .3 .0) (q .args .e) (B q) (q .args .o) (q .args .k) (q .pre .3 .1) (q .pre .4) (q .pre .2) (t .if2 .taken)
 
 other-text-requires : tie.Need-other-text-requires
 other-text-requires c κs =
     let q = c .before .before .before .before .before in
     let a = q .args in
-    record { placed = q .pre .1 .placed; there = other-there (S q) (a .readings) (a .e) (B q) (a .o) (a .k) (q .pre .3) (q .pre .4) (omega arith) }
+    record { placed = q .pre .1 .placed; there = other-there (S q) (q .pre .3 .0) (a .e) (B q) (a .o) (a .k) (q .pre .3 .1) (q .pre .4) (omega arith) }
 
 put-text-requires : tie.Need-put-text-requires
 put-text-requires c κs = let m = c .before in omega (arith, other-fits m, start m .pre .0)
@@ -94,7 +94,7 @@ same-length : tie.Need-same-length
 same-length c = search needs
 
 returns : tie.Need-returns
-returns c =
+returns c = λ b h.
     let t = c .before .before .before .before .before .before in
     let f = t .before .before .before in
     let m = f .before .before in
@@ -102,29 +102,29 @@ returns c =
     let a = q .args in
     let v = c .before .before .before .before .part in
     let first = put-front (W m) (W m) (Old q) (f .put-text .last .0) (f .put-text .ensures) refl in
-    let both : W m ++ now (v .result) ≡ T q =
+    let both : W m ++ now (v .result) ≡ T b q =
     ap (λ l. l ++ now (v .result)) (m .other-text .ensures) ∙ ap (λ l. getD (others (S q)) (a .k) [] ++ l) (v .ensures)
-    ∙ text-cored (S q) (a .readings) (a .e) (B q) (a .o) (a .k) (q .pre .3) (q .pre .4) (q .pre .2) (omega arith) (t .if2 .taken) in
+    ∙ text-cored (S q) b (a .e) (B q) (a .o) (a .k) h (q .pre .4) (q .pre .2) (omega arith) (t .if2 .taken) in
     let e = sym (length-append (W m) (now (v .result))) ∙ ap length both in (
       c .before .before .put-at .ensures
           ∙ put-next 0 (length (W m)) (W m) (now (v .result)) (Old q) (f .put-text .last .0) (omega arith) (omega arith) first
           ∙ ap (λ l. put-at 0 l (Old q)) both,
       e,
-      omega (arith, e, text-fits q),
+      omega (arith, e, text-fits b q),
     )
 
 same-length-2 : tie.Need-same-length-2
 same-length-2 c = search needs
 
 returns-2 : tie.Need-returns-2
-returns-2 c =
+returns-2 c = λ b h.
     let f = c .before .before .before in
     let m = f .before .before in
     let q = start m in
     let a = q .args in
-    let own : W m ≡ T q =
-    m .other-text .ensures ∙ text-plain (S q) (a .readings) (a .e) (B q) (a .o) (a .k) (q .pre .3) (q .pre .4) (omega arith) (c .if2 .left) in
-    (put-front (W m) (T q) (Old q) (f .put-text .last .0) (f .put-text .ensures) own, ap length own, omega (arith, ap length own, text-fits q))
+    let own : W m ≡ T b q =
+    m .other-text .ensures ∙ text-plain (S q) b (a .e) (B q) (a .o) (a .k) h (q .pre .4) (omega arith) (c .if2 .left) in
+    (put-front (W m) (T b q) (Old q) (f .put-text .last .0) (f .put-text .ensures) own, ap length own, omega (arith, ap length own, text-fits b q))
 
 -- Behind the alternatives: where both ways begin, and what is known there
 abbrev Asked : Type 0
@@ -140,7 +140,7 @@ end-flag : (m : Asked) → m .is-reading .result ≡ true → rule-flag (S (begi
 end-flag m z =
     let q = begin m in
     let a = q .args in
-    end-flag-there (S q) (a .readings) (a .e) (B q) (a .o) (a .k) (q .pre .3) (q .pre .4) (reading m z .1)
+    end-flag-there (S q) (q .pre .3 .0) (a .e) (B q) (a .o) (a .k) (q .pre .3 .1) (q .pre .4) (reading m z .1)
 
 is-reading-requires : tie.Need-is-reading-requires
 is-reading-requires c κs = search needs
@@ -159,44 +159,44 @@ same-length-3 : tie.Need-same-length-3
 same-length-3 c = search needs
 
 returns-3 : tie.Need-returns-3
-returns-3 c =
+returns-3 c = λ b h.
     let f = c .before .before in
     let w = f .before .before .end-target-text in
     let m = f .before .before .before .before in
     let q = begin m in
     let a = q .args in
     let t = reading m (f .before .before .before .if3 .taken) in
-    let own : now (w .result) ≡ T q =
-    w .ensures ∙ text-reading (S q) (a .readings) (a .e) (B q) (a .o) (a .k) (q .pre .3) (q .pre .4) (t .0) (t .1) in
-    (put-front (now (w .result)) (T q) (Old q) (f .put-text2 .last .0) (f .put-text2 .ensures) own, ap length own, omega (arith, ap length own, text-fits q))
+    let own : now (w .result) ≡ T b q =
+    w .ensures ∙ text-reading (S q) b (a .e) (B q) (a .o) (a .k) h (q .pre .4) (t .0) (t .1) in
+    (put-front (now (w .result)) (T b q) (Old q) (f .put-text2 .last .0) (f .put-text2 .ensures) own, ap length own, omega (arith, ap length own, text-fits b q))
 
 target-text-requires : tie.Need-target-text-requires
 target-text-requires c κs =
     let q = begin (c .before) in
     let a = q .args in
-    (q .pre .1 .placed, flag-there (S q) (a .readings) (a .e) (B q) (a .o) (a .k) (q .pre .3) (q .pre .4))
+    (q .pre .1 .placed, flag-there (S q) (q .pre .3 .0) (a .e) (B q) (a .o) (a .k) (q .pre .3 .1) (q .pre .4))
 
 put-text-requires-3 : tie.Need-put-text-requires-3
 put-text-requires-3 c κs =
     let q = begin (c .before .before .before) in
     let a = q .args in
-    let z = target-short (S q) (q .pre .1 .spoken) (flag-there (S q) (a .readings) (a .e) (B q) (a .o) (a .k) (q .pre .3) (q .pre .4)) .long in
+    let z = target-short (S q) (q .pre .1 .spoken) (flag-there (S q) (q .pre .3 .0) (a .e) (B q) (a .o) (a .k) (q .pre .3 .1) (q .pre .4)) .long in
     omega (arith, ap length (c .before .target-text .ensures), z, q .pre .0)
 
 same-length-4 : tie.Need-same-length-4
 same-length-4 c = search needs
 
 returns-4 : tie.Need-returns-4
-returns-4 c =
+returns-4 c = λ b h.
     let f = c .before .before in
     let w = f .before .before .target-text in
     let m = f .before .before .before .before in
     let q = begin m in
     let a = q .args in
-    let own : now (w .result) ≡ T q =
-    w .ensures ∙ text-target (S q) (a .readings) (a .e) (B q) (a .o) (a .k) (q .pre .3) (q .pre .4) (omega (arith, m .before .if1 .left))
+    let own : now (w .result) ≡ T b q =
+    w .ensures ∙ text-target (S q) b (a .e) (B q) (a .o) (a .k) h (q .pre .4) (omega (arith, m .before .if1 .left))
     (sym (m .is-reading .ensures) ∙ f .before .before .before .if3 .left) in
-    (put-front (now (w .result)) (T q) (Old q) (f .put-text3 .last .0) (f .put-text3 .ensures) own, ap length own, omega (arith, ap length own, text-fits q))
+    (put-front (now (w .result)) (T b q) (Old q) (f .put-text3 .last .0) (f .put-text3 .ensures) own, ap length own, omega (arith, ap length own, text-fits b q))
 
 pub put-offer-spec : {M : Type 1} → statement M
 put-offer-spec =

@@ -12,7 +12,7 @@ use Rattle.definition.specs.Limits.{most-alternative}
 use Rattle.definition.specs.Texts.{Text}
 use Rattle.definition.specs.RuleRows.{rule-of}
 use Rattle.definition.specs.Offers.{offers}
-use Rattle.lent_bytes.specs.Puts.{front-read, front-length}
+use Rattle.lent_bytes.specs.Puts.{put-at, front-read, front-length}
 use Rattle.edge.specs.Slots.{edge-by}
 use Rattle.offers.specs.Texts.{most-offers, texts, texts-count, texts-few}
 use Rattle.offers.proofs.Seeking.{left-of, left-over, left-none, left-turn}
@@ -56,16 +56,23 @@ before p = p .before .before .before .before
 abbrev T : Put → Text
 T p = getD (L (before p)) (before p .loop .k) []
 
+-- what it promises, with the choice
+put : (p : Put)
+    → (p .put-offer .last .0 ≡ put-at 0 (T p) (before p .loop .bytes)) × (p .put-offer .result ≡ length (T p)) × (p .put-offer .result ≤ most-alternative)
+put p =
+    let l = before p in
+    p .put-offer .ensures (l .before .before .before .before .before .before .args .readings) (l .before .before .offers-of .ensures .0)
+
 long : (p : Put) → length (p .put-offer .last .0) ≡ most-alternative
 long p =
     let u = p .put-offer in
     let l = before p .loop in
-    front-length (T p) (l .bytes) (u .last .0) (u .ensures .0) (omega (arith, u .ensures .1, u .ensures .2, l .inv .1)) ∙ l .inv .1
+    front-length (T p) (l .bytes) (u .last .0) (put p .0) (omega (arith, put p .1, put p .2, l .inv .1)) ∙ l .inv .1
 
 told : (p : Put) → take (p .put-offer .result) (p .put-offer .last .0) ≡ T p
 told p =
     let u = p .put-offer in
-    front-read (T p) (before p .loop .bytes) (u .last .0) (u .result) (u .ensures .0) (u .ensures .1)
+    front-read (T p) (before p .loop .bytes) (u .last .0) (u .result) (put p .0) (put p .1)
 
 offers-of-requires : tie.Need-offers-of-requires Inv-loop μ-loop
 offers-of-requires c κs = search needs
@@ -92,16 +99,16 @@ put-offer-requires : tie.Need-put-offer-requires Inv-loop μ-loop
 put-offer-requires c κs =
     let l = c .before .before .before in
     let k = l .before .before .before .before .before .before in
-    (omega (arith, l .loop .inv .1), k .pre .0, k .pre .1, l .before .before .offers-of .ensures .0, omega (arith, l .before .offers-count .ensures))
+    (omega (arith, l .loop .inv .1), k .pre .0, k .pre .1, (k .args .readings, l .before .before .offers-of .ensures .0), omega (arith, l .before .offers-count .ensures))
 
 array-share-prefix-bytes : tie.Need-array-share-prefix-bytes Inv-loop μ-loop
-array-share-prefix-bytes c = let p = c .before in omega (arith, long p, p .put-offer .ensures .2)
+array-share-prefix-bytes c = let p = c .before in omega (arith, long p, put p .2)
 
 slice-aggregate-same : tie.Need-slice-aggregate-same Inv-loop μ-loop
 slice-aggregate-same c =
     let p = c .before .before in
     let u = p .put-offer in
-    sym (length-take-le (u .result) (u .last .0) (omega (arith, long p, u .ensures .2)))
+    sym (length-take-le (u .result) (u .last .0) (omega (arith, long p, put p .2)))
 
 same-requires : tie.Need-same-requires Inv-loop μ-loop
 same-requires c κs = search needs
