@@ -49,6 +49,16 @@ class Runs(unittest.TestCase):
         self.assertRegex(done.stdout, r"^\d+ rules, \d+ classes, 2 vowels, \d+ decompositions: target/tables\n")
         self.assertEqual(done.stdout.split("\n", 1)[1], shown)
 
+    @HAVE_PACKAGES
+    def test_the_readings_of_the_readme(self):
+        """what mode 2 lists of a Thai word, and without the choice all but the first consonant's other reading"""
+        page = (ROOT / "README.md").read_text(encoding="utf-8")
+        command, shown = (re.sub("(?m)^    ", "", part) for part in re.search(r"\n    (printf .* readings)\n\n((?:    .*\n)+)", page).groups())
+        command = "tools/make_tables target/tables > /dev/null; " + command.replace("target/bin/romanize", "tests/x86_64 run target/bin/romanize")
+        for command, shown in ((command, shown), (command.removesuffix(" readings"), re.sub("(?m)^.* alt2 .*\n", "", shown))):
+            done = subprocess.run(["bash", "-ec", command], cwd=ROOT, capture_output=True, text=True, check=True)
+            self.assertEqual(done.stdout, shown)
+
     def test_the_choice_of_the_readme(self):
         """a line whose second word takes an "o" from the first one, unless the command chooses otherwise"""
         page = (ROOT / "README.md").read_text(encoding="utf-8")

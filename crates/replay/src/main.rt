@@ -157,9 +157,9 @@ fn run_one(input: &[u8], at: usize, slots: &mut [u8], room: &mut [u8], out: &mut
     requires { ⌜ at < 16777216 ⌝ }
     ensures { λ r. ⌜ at < r .next ⌝ }
 {
-    let s = number(input, at + 3);
-    let r = number(input, at + 7);
-    let o = number(input, at + 11);
+    let s = number(input, at + 4);
+    let r = number(input, at + 8);
+    let o = number(input, at + 12);
     let wrong = Ran {
         next: at + 1,
         right: false,
