@@ -1,9 +1,10 @@
 -- To look for a text among those that are left: of one row, and of some rows.
 use mathlib.Core.Bool.{Bool, true, false, _&&_, _||_}
-use mathlib.Core.List.{List, [], map-append}
+use mathlib.Core.List.{List, [], _∷_, _++_, map-append}
 use mathlib.Core.Path.{_≡_, refl, sym, ap, _∙_}
 use Prim.Native.Nat.{ℕ, suc, _+_, _-_, _≤_, _<_}
 use native.Mathlib.Omega.{arith}
+use lib.Dec.{eqb}
 use lib.ListN.{length, getD, take, drop, drop-of-length-le}
 use lib.Seq.{take-nil, drop-cons}
 use Rattle.base.specs.Lists.{put, keep, any, same}
@@ -68,3 +69,25 @@ module _ (w : Text) (b : Bool) (x : Edge) where
         ∙ ap (λ n. (holds-at code start end r && any (same w) (texts (offers b x r))) || among-all (holding code start end R (row + n) (left - 1))) q
         ∙ sym (ap (λ l. among-all (keep (holds-at code start end) l)) (one-in R row left h k)
         ∙ put-turn (holds-at code start end r) r (holding code start end R (row + rule-size (drop row R)) (left - 1)))
+
+-- To compare with two texts, one behind the other, is to compare with each
+pub joined-short : (w u v : List ℕ) → length w < length u → false ≡ same w (u ++ v)
+unfolding same
+joined-short w [] v h = absurd (omega arith)
+joined-short [] (y ∷ u) v h = refl
+joined-short (x ∷ w) (y ∷ u) v h = sym (and-false (eqb x y)) ∙ ap (λ (b : Bool). eqb x y && b) (joined-short w u v (omega arith))
+  where
+    and-false : (b : Bool) → (b && false) ≡ false
+    and-false true = refl
+    and-false false = refl
+
+pub joined-same : (w u v : List ℕ) → length u ≤ length w → (same (take (length u) w) u && same (drop (length u) w) v) ≡ same w (u ++ v)
+unfolding same
+joined-same w [] v h = refl
+joined-same [] (y ∷ u) v h = absurd (omega arith)
+joined-same (x ∷ w) (y ∷ u) v h =
+    and-assoc (eqb x y) (same (take (length u) w) u) (same (drop (length u) w) v) ∙ ap (λ (b : Bool). eqb x y && b) (joined-same w u v (omega arith))
+  where
+    and-assoc : (a b c : Bool) → ((a && b) && c) ≡ (a && (b && c))
+    and-assoc true b c = refl
+    and-assoc false b c = refl

@@ -1,6 +1,7 @@
 // What rules offer as alternatives of an edge (paths.rs, `add_alternatives`), and whether a text was offered before.
 // Nothing is kept of what was found: whether an alternative is new is asked again of the rows before it.
 ghost use mathlib.Core.Bool.{Bool, _&&_};
+ghost use mathlib.Core.List.{_++_};
 ghost use mathlib.Core.Path.{_≡_};
 ghost use Prim.Native.Nat.{_≤_, _<_};
 ghost use lib.ListN.{length, take, drop};
@@ -194,6 +195,50 @@ pub fn put_offer(
     w.len()
 }
 
+// Is a text another with a third behind it?
+fn is_joined(w: &[u8], u: &[u8], v: &[u8]) -> bool
+    ensures { λ r. ⌜ r ≡ same (now (w .entry)) (now (u .entry) ++ now (v .entry)) ⌝ }
+{
+    let n = u.len();
+    if w.len() < n {
+        return false;
+    }
+    if lent_bytes::same(lent_bytes::part(w, 0, n), u) {
+        return lent_bytes::same(lent_bytes::part(w, n, w.len() - n), v);
+    }
+    false
+}
+
+// Is a text number `k` of what a row offers? It is compared where it stands.
+fn is_offer(
+    rules: &[u8],
+    row: usize,
+    o: Offers,
+    e: Numbers,
+    text: &[u8],
+    k: usize,
+    w: &[u8],
+) -> bool
+    requires { ⌜ Row (drop row (now rules)) × Spoken e (now text)
+        × TellsEither (edge-by e (now text)) (rule-of (drop row (now rules))) o × (k < count-of o) ⌝ }
+    ensures { λ r. ⌜ ((b : Bool) → Tells b (edge-by e (now (text .entry))) (rule-of (drop row (now (rules .entry)))) o
+        → r ≡ same (now (w .entry)) (offer-at b (edge-by e (now (text .entry))) (rule-of (drop row (now (rules .entry)))) k)) ⌝ }
+{
+    if k < o.others {
+        let u = rule_row::other_text(rules, row, k);
+        if o.cored {
+            let core = e.core as usize;
+            let vowel = lent_bytes::part(text, core, text.len() - core);
+            return is_joined(w, u, vowel);
+        }
+        return lent_bytes::same(w, u);
+    }
+    if is_reading(o, k) {
+        return lent_bytes::same(w, rule_row::end_target_text(rules, row));
+    }
+    lent_bytes::same(w, rule_row::target_text(rules, row))
+}
+
 // Is a text among the first `most` that a row offers?
 pub fn row_offers(
     rules: &[u8],
@@ -210,14 +255,12 @@ pub fn row_offers(
 {
     let o = offers_of(rules, row, readings, e, text);
     let n = offers_count(o);
-    let mut bytes = [0u8; MOST_OFFER];
     let mut k: usize = 0;
     while k < n {
         if most <= k {
             return false;
         }
-        let len = put_offer(&mut bytes, rules, row, o, e, text, k);
-        if lent_bytes::same(w, &bytes[..len]) {
+        if is_offer(rules, row, o, e, text, k, w) {
             return true;
         }
         k += 1;
