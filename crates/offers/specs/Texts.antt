@@ -88,13 +88,17 @@ alt3-note o k h e = sym (rw (le-ltb k (o .others) h, e))
 pub at-reading : (o : Offers) (k : ℕ) → is-reading o k ≡ true → (k ≡ o .others) × (o .reading ≡ true)
 at-reading o k z = (eqb-true k (o .others) (and-right (o .reading) _ z), and-left (o .reading) _ z)
 
+-- each target counts once at most
+pub one-most : (c : Bool) → pick {A = ℕ} c 1 0 ≤ 1
+one-most c = pick-all (λ n. n ≤ 1) c {x = 1} {y = 0} (omega arith) (omega arith)
+
 -- behind both is the target
 pub at-target : (o : Offers) (k : ℕ) → o .others ≤ k → is-reading o k ≡ false → k < count-of o → k ≡ o .others + pick (o .reading) 1 0
 unfolding count-of
 at-target o k h z l = go (o .reading) refl
   where
     few : pick {A = ℕ} (o .target) 1 0 ≤ 1
-    few = pick-all (λ n. n ≤ 1) (o .target) {x = 1} {y = 0} (omega arith) (omega arith)
+    few = one-most (o .target)
 
     go : (c : Bool) → o .reading ≡ c → k ≡ o .others + pick (o .reading) 1 0
     go true e = unfold pick in
@@ -284,9 +288,6 @@ module _ {b : Bool} {x : Edge} {r : Rule} {o : Offers} (h : Tells b x r o) where
 
   pub texts-count : length (texts (offers b x r)) ≡ count-of o
   texts-count = length-map (offers b x r) (λ (c : Edge). c .text) ∙ sym count-is
-
-  one-most : (c : Bool) → pick {A = ℕ} c 1 0 ≤ 1
-  one-most c = pick-all (λ n. n ≤ 1) c {x = 1} {y = 0} (omega arith) (omega arith)
 
   pub texts-few : o .others ≤ most-others → length (texts (offers b x r)) ≤ most-offers
   unfolding count-of

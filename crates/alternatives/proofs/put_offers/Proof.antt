@@ -2,12 +2,11 @@
 use mathlib.Core.Bool.{Bool, true}
 use mathlib.Core.List.{List, _∷_, _++_, append-nil}
 use mathlib.Core.Path.{_≡_, refl, sym, ap, _∙_, subst}
-use Prim.Native.Nat.{ℕ, _+_, _-_, _*_, _≤_, _<_}
+use Prim.Native.Nat.{_+_, _-_, _*_, _≤_, _<_}
 use native.Mathlib.Omega.{arith}
 use lib.ListN.{length, take, drop}
 use lib.Seq.{length-take-le}
 use denote.Ref.{now}
-use Rattle.base.specs.Pick.{pick, pick-all}
 use Rattle.base.specs.Alls.{All}
 use Rattle.definition.specs.Limits.{most-alternative}
 use Rattle.definition.specs.Shorts.{Low, Short}
@@ -20,7 +19,7 @@ use Rattle.lent_bytes.specs.Puts.{put-at, front-read, front-length}
 use Rattle.edge.specs.Slots.{edge-by}
 use Rattle.listing.specs.Items.{put-items}
 use Rattle.marks.specs.Marked.{Marked}
-use Rattle.offers.specs.Texts.{texts, offer-at, most-offers, count-of, text-short}
+use Rattle.offers.specs.Texts.{texts, offer-at, most-offers, count-of, one-most, text-short}
 use Rattle.alternatives.specs.News.{offered, earlier, offer-bytes}
 use Rattle.alternatives.proofs.Turns.{offers-over, texts-over, texts-on, offers-on}
 use borrow.Author.Needs.{needs}
@@ -66,8 +65,7 @@ few : (l : At) → l .before .offers-count .result ≤ most-offers
 unfolding count-of
 few l =
     let o = l .before .before .offers-of in
-    let one : (b : Bool) → pick {A = ℕ} b 1 0 ≤ 1 = λ b. pick-all (λ n. n ≤ 1) b {x = 1} {y = 0} (omega arith) (omega arith) in
-    omega (arith, o .ensures .1, l .before .offers-count .ensures, one (o .result .reading), one (o .result .target))
+    omega (arith, o .ensures .1, l .before .offers-count .ensures, one-most (o .result .reading), one-most (o .result .target))
 
 short : (l : At) → Short most-alternative (U l)
 short l = let q = l .before .before .before .before .before .before .before .before in text-short (q .pre .2) (q .pre .1 .spoken) (Y l) (l .loop .k)
