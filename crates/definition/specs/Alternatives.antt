@@ -1,4 +1,4 @@
--- The alternatives: they only follow the path, and each has its edge's span and a text of 68 bytes at most.
+-- The alternatives: they only follow the path, and each has its edge's span and a text of 204 bytes at most.
 use mathlib.Core.Bool.{Bool, true, false, true≢false}
 use mathlib.Core.Path.{_≡_, refl, sym, ap, _∙_, subst}
 use mathlib.Core.List.{List, [], _∷_, _++_}

@@ -1,4 +1,4 @@
--- Every edge that a rule or a fallback gives goes forward, lies within the text, has a text of 198 bytes at most, and a
+-- Every edge that a rule or a fallback gives goes forward, lies within the text, has a text of 606 bytes at most, and a
 -- core as its text has it.
 use mathlib.Core.Bool.{Bool, true, false}
 use mathlib.Core.Path.{_≡_, refl}
@@ -35,7 +35,7 @@ pub record Bounded (D : Tables) : Type 0 where
   pub vowels : All (λ y. Short most-vowel (y .letters)) (D .vowels)
   pub virama : class (D .classes) the-space .virama ≡ false
 
--- An edge within a text of `n`: whatever its text, and with one of 198 bytes at most
+-- An edge within a text of `n`: whatever its text, and with one of 606 bytes at most
 abbrev pub Known : ℕ → Type 0
 Known k = (k ≤ note-orig) ⊎ (k ≡ note-decomp)
 

@@ -4,15 +4,15 @@ use mathlib.Core.List.{List, [], _∷_, _++_}
 use mathlib.Core.Option.{Option, none, some}
 use Prim.Native.Nat.{ℕ, _+_, _-_, _/_}
 use lib.Dec.{eqb, ltb}
-use lib.ListN.{length, replicate}
+use lib.ListN.{length, drop, replicate}
 use Rattle.base.specs.Pick.{pick}
 use Rattle.base.specs.Lists.{all, or-else, first-of, same}
-use Rattle.definition.specs.Limits.{most-mode, most-choice, code-letters, most-characters, slot-bytes}
+use Rattle.definition.specs.Limits.{most-mode, most-choice, code-letters, most-characters, most-listed, slot-bytes}
 use Rattle.definition.specs.Refusals.{Refusal, refuse, when, placed, refused-mode, refused-capitals, refused-o-ang, refused-readings, refused-classes, refused-vowels, refused-decompositions, refused-code}
-use Rattle.definition.specs.Refusals.{refused-utf8, refused-too-long, refused-left-out, refused-output}
+use Rattle.definition.specs.Refusals.{refused-utf8, refused-too-long, refused-left-out, refused-listing, refused-output}
 use Rattle.definition.specs.Texts.{Text, left-out}
 use Rattle.definition.specs.Tables.{Decomposition, Choices, Tables}
-use Rattle.definition.specs.Blocks.{small}
+use Rattle.definition.specs.Blocks.{head-bytes, small}
 use Rattle.definition.specs.RuleRows.{rules-of}
 use Rattle.definition.specs.RuleFaults.{rule-fault}
 use Rattle.definition.specs.ClassRows.{class-fault, classes-of}
@@ -105,11 +105,16 @@ refusal i = or-else
 unfoldable pub refused : Inputs → Refusal → Called
 refused i r = record { number = r .number; place = r .place; length = 0; edges = 0; output = replicate (i .out) 0 }
 
--- the output is too short, or the call is done: the bytes, and zeros after them
+-- Of what a mode shows: are a listing's rows more bytes than the length before them can tell? Mode 0 lists nothing
+unfoldable pub uncounted : ℕ → List ℕ → Bool
+uncounted mode w = not (eqb mode 0) && ltb most-listed (length (drop head-bytes w))
+
+-- the listing can't be told, the output is too short, or the call is done: the bytes, and zeros after them
 unfoldable pub written : Inputs → ℕ → List ℕ → Called
 written i n w =
-    pick (ltb (i .out) (length w)) (refused i (refuse refused-output (length w)))
-    (record { number = 0; place = 0; length = length w; edges = n; output = w ++ replicate (i .out - length w) 0 })
+    pick (uncounted (i .mode) w) (refused i (refuse refused-listing 0))
+    (pick (ltb (i .out) (length w)) (refused i (refuse refused-output (length w)))
+    (record { number = 0; place = 0; length = length w; edges = n; output = w ++ replicate (i .out - length w) 0 }))
 
 -- the slots and the room that the lattice's edges take
 unfoldable pub within-room : Inputs → Tables → Text → State → Option Refusal → Called

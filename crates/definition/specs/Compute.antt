@@ -28,7 +28,7 @@ use Rattle.definition.specs.Paths.{path-from, joined, akin, other, also-
 use Rattle.definition.specs.Decomposing.{row-of, stands-for, inner-lattice, inner-string, number, slashed, parted, decomp-text, decomp-edge, start, lattice, edges, edge-count, path, with-alternatives, alternatives, all-edges}
 use Rattle.definition.specs.Listing.{edge-row, edge-rows, block, listing, shown}
 use Rattle.definition.specs.Capacity.{bytes, misfit, placed-at, inner-edges, before-edge, overflow}
-use Rattle.definition.specs.Call.{tables-of, tables, decompositions, characters, code-right, first-left-out, before-text, text-refusal, refusal, refused, written, within-room, with-lattice, accepted, unless-refused, called}
+use Rattle.definition.specs.Call.{tables-of, tables, decompositions, characters, code-right, first-left-out, before-text, text-refusal, refusal, refused, uncounted, written, within-room, with-lattice, accepted, unless-refused, called}
 use Rattle.definition.specs.Call.{Inputs, Called}
 
 unfoldable pub compute : Inputs → Called
@@ -58,8 +58,8 @@ unfolding pick keep any all head empty holds front after best-of best first-of m
     sorted path-of with-alternatives-of all-edges-of row-of stands-for inner-lattice inner-string number slashed
     parted decomp-text decomp-edge start lattice edges edge-count path with-alternatives alternatives all-edges
     edge-row edge-rows block listing shown bytes misfit placed-at inner-edges before-edge overflow tables-of tables
-    decompositions characters code-right first-left-out before-text text-refusal refusal refused written within-room
-    with-lattice accepted unless-refused called
+    decompositions characters code-right first-left-out before-text text-refusal refusal refused uncounted written
+    within-room with-lattice accepted unless-refused called
 compute i = called i
 
 pub compute-is : (i : Inputs) → compute i ≡ called i

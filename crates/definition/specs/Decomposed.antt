@@ -1,5 +1,5 @@
 -- Characters that stand for others: each brings an edge over itself, and saves a fallback. So 17 edges for each character
--- still hold; and where nothing overflows, every edge's text has 198 bytes at most.
+-- still hold; and where nothing overflows, every edge's text has 606 bytes at most.
 use mathlib.Core.Bool.{Bool, true, false}
 use mathlib.Core.Path.{_≡_, refl, ap, _∙_}
 use mathlib.Core.List.{List, [], _∷_, _++_}

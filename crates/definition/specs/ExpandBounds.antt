@@ -1,5 +1,5 @@
--- What the expansion makes of a romanization: it goes forward, within the text, in 198 bytes at most.
--- The bytes grow step by step: 1 doubled, 64 of a pre-vowel, 1 of a grave, 64 of a small ya in the place of 1,
+-- What the expansion makes of a romanization: it goes forward, within the text, in 606 bytes at most.
+-- The bytes grow step by step: 1 doubled, 200 of a pre-vowel, 1 of a grave, 200 of a small ya in the place of 1,
 -- 1 of a long mark.
 use mathlib.Core.Bool.{Bool, true, false, _&&_}
 use mathlib.Core.Path.{_≡_, refl}
@@ -52,7 +52,7 @@ pub record Held (n k : ℕ) (w : Work) : Type 0 where
 held-wide : {n : ℕ} (j : ℕ) {k : ℕ} {w : Work} → j ≤ k → Held n j w → Held n k w
 held-wide j l h = record { forward = h .forward; inside = h .inside; short = short-wide j l (h .short) }
 
--- What of a rule is spoken: its texts have 64 bytes at most
+-- What of a rule is spoken: its texts have 200 bytes at most
 pub record Spoken (r : Rule) : Type 0 where
   pub target : Opt (Short most-target) (r .target)
   pub end-target : Opt (Short most-target) (r .end-target)

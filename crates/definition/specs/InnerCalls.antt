@@ -24,7 +24,7 @@ use Rattle.definition.specs.DecompositionRows.{has-row}
 use Rattle.definition.specs.Decomposing.{row-of, stands-for, uncoded, inner-lattice, inner-string}
 use Rattle.definition.specs.Listing.{shown}
 use Rattle.definition.specs.Capacity.{misfit}
-use Rattle.definition.specs.Call.{Inputs, Called, tables-of, tables, decompositions, characters, code-right, refusal, refused, written, within-room, unless-refused, called}
+use Rattle.definition.specs.Call.{Inputs, Called, tables-of, tables, decompositions, characters, code-right, refusal, refused, uncounted, written, within-room, unless-refused, called}
 use Rattle.definition.specs.Accepted.{Accepted, accepted-of, refusal-of}
 use Rattle.definition.specs.DecompositionLaws.{row-has, decompositions-all}
 use Rattle.definition.specs.Growth.{fall-grown}
@@ -145,7 +145,7 @@ module _ (i : Inputs) (ok : refusal i ≡ none) (w : Text) (f : Final (decomposi
       string = encoded (inner-string D w)
 
       done : ReadAlone D w (within-room own (uncoded D) w (inner-lattice D w) none)
-      done = unfold within-room written shown alone pick in (rw (le-ltb out (length string) l) (record {
+      done = unfold within-room uncounted written shown alone pick in (rw (le-ltb out (length string) l) (record {
         number = refl;
         place = refl;
         written = refl;

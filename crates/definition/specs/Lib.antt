@@ -63,7 +63,7 @@ pub mod Absent
 pub mod Unruled
 -- edges are only appended, and 17 for each character at most; what the room refuses
 pub mod Growth
--- each edge goes forward within the text, in 198 bytes, with the core that its text has
+-- each edge goes forward within the text, in 606 bytes, with the core that its text has
 pub mod Shorts
 pub mod Posts
 pub mod Covers
@@ -83,10 +83,10 @@ pub mod Near
 pub mod Promises
 -- the path covers the text
 pub mod Cover
--- alternatives only follow the path, in 68 bytes; code 13 is absent where readings are not chosen
+-- alternatives only follow the path, in 204 bytes; code 13 is absent where readings are not chosen
 pub mod Alternatives
 pub mod Alt2
--- how many edges a listing has, and how many bytes: four hold their number
+-- how many edges a listing has, and how many bytes
 pub mod Counts
 pub mod AllEdges
 pub mod Sizes
@@ -102,6 +102,10 @@ pub mod Rewritten
 pub mod Parts
 pub mod Returned
 pub mod Endings
+-- 19, for a listing that is too large
+pub mod TooLarge
+-- a table that a former limit accepts
+pub mod Former
 -- document 02's third request: a table that gives no edges changes nothing
 pub mod FormsOff
 -- a row's characters give inside a text what they give alone

@@ -13,7 +13,7 @@ code-letters = 3
 
 -- characters of a text
 abbrev pub most-characters : ℕ
-most-characters = 512
+most-characters = 4096
 
 -- rows of a rule table, a class table and a decomposition table
 abbrev pub most-rows : ℕ
@@ -35,7 +35,7 @@ most-into = 18
 
 -- bytes of a target text
 abbrev pub most-target : ℕ
-most-target = 64
+most-target = 200
 
 -- letters of an inherent vowel, and the highest script
 abbrev pub most-vowel : ℕ
@@ -47,6 +47,10 @@ most-script = 127
 -- ASCII characters, all bytes of a target text among them
 abbrev pub ascii-characters : ℕ
 ascii-characters = 128
+
+-- bytes of a listing's rows: the length before them has four bytes
+abbrev pub most-listed : ℕ
+most-listed = 4294967295
 
 -- bytes of a slot
 abbrev pub slot-bytes : ℕ
@@ -64,7 +68,3 @@ most-bytes = most-alternative + 1 + most-target + 1 + (most-target - 1) + 1
 -- edges for each character: one for each length of a source, and a fallback
 abbrev pub most-edges : ℕ
 most-edges = most-source + 1
-
--- what four bytes hold is below this, and so are the bytes of any listing's rows (Sizes)
-abbrev pub listing-limit : ℕ
-listing-limit = 4294967296

@@ -1,5 +1,5 @@
--- What document 01 says of every accepted call: its text has 512 characters at most, its lattice 17 edges for each,
--- and each edge goes forward, lies within the text, and has a text of 198 bytes at most.
+-- What document 01 says of every accepted call: its text has 4,096 characters at most, its lattice 17 edges for each,
+-- and each edge goes forward, lies within the text, and has a text of 606 bytes at most.
 use mathlib.Core.Bool.{Bool, true, false, not, _&&_, _||_}
 use mathlib.Core.Path.{_≡_}
 use mathlib.Core.List.{List}

@@ -1,6 +1,6 @@
 -- The numbers that a call returns besides 0, each named here and nowhere else. Call says in which order they are tested.
 use mathlib.Core.Bool.{Bool}
-use mathlib.Core.List.{List, [], _∷_}
+use mathlib.Core.List.{List, [], _∷_, _++_}
 use mathlib.Core.Option.{Option, none, some}
 use Prim.Native.Nat.{ℕ}
 use Rattle.base.specs.Pick.{pick}
@@ -69,6 +69,10 @@ refused-left-out = 8
 abbrev pub refused-edge-text : ℕ
 refused-edge-text = 14
 
+-- a listing whose rows are more bytes than the length before them can tell
+abbrev pub refused-listing : ℕ
+refused-listing = 19
+
 -- what was lent: slots, text room, output
 abbrev pub refused-slots : ℕ
 refused-slots = 9
@@ -79,13 +83,16 @@ refused-room = 10
 abbrev pub refused-output : ℕ
 refused-output = 11
 
--- all of them
-abbrev pub numbers : List ℕ
-numbers =
+-- those that come before anything is shown, and all of them
+abbrev pub early-numbers : List ℕ
+early-numbers =
     refused-mode ∷ refused-capitals ∷ refused-o-ang ∷ refused-readings
     ∷ refused-length ∷ refused-range ∷ refused-letter ∷ refused-byte ∷ refused-order ∷ refused-rows
     ∷ refused-classes ∷ refused-vowels ∷ refused-decompositions ∷ refused-code
-    ∷ refused-utf8 ∷ refused-too-long ∷ refused-left-out ∷ refused-slots ∷ refused-room ∷ refused-edge-text ∷ refused-output ∷ []
+    ∷ refused-utf8 ∷ refused-too-long ∷ refused-left-out ∷ refused-slots ∷ refused-room ∷ refused-edge-text ∷ []
+
+abbrev pub numbers : List ℕ
+numbers = early-numbers ++ (refused-listing ∷ refused-output ∷ [])
 
 -- A refusal is one of these numbers, and its place
 pub record Refusal : Type 0 where

@@ -8,7 +8,7 @@ use lib.Dec.{ltb}
 use lib.ListN.{length, drop, replicate, length-append, length-replicate}
 use lib.Seq.{drop-append-seam}
 use borrow.Author.Tests.{ltb-false}
-use Rattle.base.specs.Pick.{pick-ind}
+use Rattle.base.specs.Pick.{pick-ind, pick-all}
 use Rattle.definition.specs.Limits.{slot-bytes}
 use Rattle.definition.specs.Texts.{Text}
 use Rattle.definition.specs.Tables.{Tables}
@@ -17,7 +17,7 @@ use Rattle.definition.specs.Decomposing.{lattice}
 use Rattle.definition.specs.Listing.{shown}
 use Rattle.definition.specs.Refusals.{Refusal}
 use Rattle.definition.specs.Capacity.{overflow}
-use Rattle.definition.specs.Call.{Inputs, Called, tables, decompositions, characters, refusal, refused, written, within-room, with-lattice, accepted, unless-refused, called}
+use Rattle.definition.specs.Call.{Inputs, Called, tables, decompositions, characters, refusal, refused, uncounted, written, within-room, with-lattice, accepted, unless-refused, called}
 
 pub record Returned (i : Inputs) (r : Called) : Type 0 where
   pub whole : length (r .output) ≡ i .out
@@ -34,12 +34,13 @@ refused-returned i r = record {
 
 written-returned : (i : Inputs) (n : ℕ) (w : List ℕ) → Returned i (written i n w)
 unfolding written
-written-returned i n w = pick-ind (Returned i) (ltb (i .out) (length w)) _ _ (λ e. refused-returned i _)
+written-returned i n w = pick-all (Returned i) (uncounted (i .mode) w) (refused-returned i _)
+    (pick-ind (Returned i) (ltb (i .out) (length w)) _ _ (λ e. refused-returned i _)
     (λ e. let l = ltb-false (i .out) (length w) e in record {
       whole = omega (arith, length-append w (replicate (i .out - length w) 0), length-replicate {A = ℕ} (i .out - length w) 0);
       fits = l;
       zeros = drop-append-seam w (replicate (i .out - length w) 0);
-    })
+    }))
 
 pub returned : (i : Inputs) → Returned i (called i)
 unfolding called unless-refused accepted with-lattice within-room

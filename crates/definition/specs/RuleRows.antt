@@ -17,7 +17,7 @@ use Rattle.definition.specs.Utf8.{scalar}
 use Rattle.definition.specs.Tables.{Rule}
 use Rattle.definition.specs.Blocks.{head-bytes, small}
 
--- Target texts: a length byte 0 to 64 and that many bytes 0x20 to 0x7E
+-- Target texts: a length byte 0 to 200 and that many bytes 0x20 to 0x7E
 unfoldable pub printable : ℕ → Bool
 printable c = leb 0x20 c && leb c 0x7E
 

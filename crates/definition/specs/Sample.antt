@@ -338,7 +338,7 @@ refusals =
     ∷ refused-at 4 0 (tabled sample-rules sample-classes [])
     ∷ refused-at 5 0 (roomed 0 (chars "hi") kata 24 3 3)
     ∷ refused-at 6 3 (roomed 0 [] (encoded (chars "क") ++ 0x80 ∷ []) 24 3 3)
-    ∷ refused-at 7 512 (roomed 0 [] (replicate 513 0x61) 24 3 3)
+    ∷ refused-at 7 4096 (roomed 0 [] (replicate 4097 0x61) 24 3 3)
     ∷ refused-at 8 1 (roomed 0 [] (encoded (chars "कༀ")) 24 3 3)
     ∷ refused-at 9 1 (roomed 0 [] kata 23 3 3)
     ∷ refused-at 9 0 (roomed 0 [] (encoded (chars "っか")) 12 10 10)
@@ -355,7 +355,7 @@ unfolding compute
 sample-refusals = refl
 
 -- What is wrong with a rule table, each kind with its field's place: in this order the header; a rest of one byte, a row past the
--- block's end, a row without flags, half a restriction count; bit 7, no source, nine codes, a target of 65 bytes, nine alternatives;
+-- block's end, a row without flags, half a restriction count; bit 7, no source, nine codes, a target of 201 bytes, nine alternatives;
 -- a surrogate, a capital in a code; a character and a code that are cut, whatever their bytes are; a byte of a target, one that is
 -- missing; a byte left over; a source that does not rise, and one whose row has a byte left over too
 abbrev ruled : List ℕ → Inputs
@@ -371,7 +371,7 @@ rule-faults =
     ∷ refused-at 21 7 (ruled (0 ∷ 9 ∷ 0x80 ∷ 0 ∷ 0 ∷ 1 ∷ 0 ∷ 0 ∷ 0x62 ∷ 0 ∷ 0 ∷ []))
     ∷ refused-at 21 10 (ruled (0 ∷ 6 ∷ 0 ∷ 0 ∷ 0 ∷ 0 ∷ 0 ∷ 0 ∷ []))
     ∷ refused-at 21 14 (ruled (0 ∷ 9 ∷ 0 ∷ 0 ∷ 0 ∷ 1 ∷ 0 ∷ 0 ∷ 0x62 ∷ 9 ∷ 0 ∷ []))
-    ∷ refused-at 21 15 (ruled (0 ∷ 9 ∷ 0x20 ∷ 0 ∷ 0 ∷ 1 ∷ 0 ∷ 0 ∷ 0x62 ∷ 0 ∷ 0x41 ∷ []))
+    ∷ refused-at 21 15 (ruled (0 ∷ 9 ∷ 0x20 ∷ 0 ∷ 0 ∷ 1 ∷ 0 ∷ 0 ∷ 0x62 ∷ 0 ∷ 0xC9 ∷ []))
     ∷ refused-at 21 15 (ruled (0 ∷ 9 ∷ 0 ∷ 0 ∷ 0 ∷ 1 ∷ 0 ∷ 0 ∷ 0x62 ∷ 0 ∷ 9 ∷ []))
     ∷ refused-at 22 11 (ruled (0 ∷ 9 ∷ 0 ∷ 0 ∷ 0 ∷ 1 ∷ 0 ∷ 0xD8 ∷ 0 ∷ 0 ∷ 0 ∷ []))
     ∷ refused-at 22 15 (ruled (0 ∷ 12 ∷ 0 ∷ 0 ∷ 0 ∷ 1 ∷ 0 ∷ 0 ∷ 0x62 ∷ 1 ∷ 0x61 ∷ 0x62 ∷ 0x41 ∷ 0 ∷ []))

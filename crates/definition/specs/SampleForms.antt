@@ -214,12 +214,12 @@ pub sample-form-room : all refused-so form-room ≡ true
 unfolding compute
 sample-form-room = refl
 
--- A string of 199 bytes, and one of 198: three targets of 64 bytes, and one of 7 or 6
+-- A string of 607 bytes, and one of 606: three targets of 200 bytes, and one of 7 or 6
 abbrev rule-long : String → ℕ → List ℕ
 rule-long w n = sized (32 ∷ 0 ∷ 0 ∷ 1 ∷ (threes (chars w) ++ (0 ∷ n ∷ (replicate n 0x61 ++ 0 ∷ []))))
 
 abbrev long-rules : List ℕ
-long-rules = block (joint (rule-long "x" 64 ∷ rule-long "y" 7 ∷ rule-long "z" 6 ∷ rule "か" "ka" ∷ []))
+long-rules = block (joint (rule-long "x" 200 ∷ rule-long "y" 7 ∷ rule-long "z" 6 ∷ rule "か" "ka" ∷ []))
 
 abbrev long-forms : List ℕ
 long-forms = block (joint (form "ⓐ" "xxxy" ∷ form "ⓑ" "xxxz" ∷ []))
@@ -227,21 +227,21 @@ long-forms = block (joint (form "ⓐ" "xxxy" ∷ form "ⓑ" "xxxz" ∷ []))
 abbrev long : List ℕ → ℕ → ℕ → ℕ → String → Inputs
 long classes slots room out text = asked 0 long-rules classes long-forms slots room out "" text
 
--- 14 names the character. It comes behind 9 and 10 of the string's edges, before 10 of the edge itself (a number's space makes 199), and
+-- 14 names the character. It comes behind 9 and 10 of the string's edges, before 10 of the edge itself (a number's space makes 607), and
 -- before 11. Its own 9 can't come: the string's edges had a slot
 abbrev long-faults : List Refused
 long-faults =
-    refused-at 14 0 (long with-numbers 48 199 199 "ⓐ")
-    ∷ refused-at 0 0 (long with-numbers 48 198 198 "ⓑ")
-    ∷ refused-at 14 1 (long with-numbers 60 201 201 "かⓐ")
-    ∷ refused-at 9 0 (long with-numbers 0 199 199 "ⓐ")
-    ∷ refused-at 9 0 (long with-numbers 47 199 199 "ⓐ")
-    ∷ refused-at 10 0 (long with-numbers 48 198 199 "ⓐ")
-    ∷ refused-at 14 0 (long with-numbers 48 199 0 "ⓐ")
-    ∷ refused-at 0 0 (long with-numbers 60 199 199 "2ⓑ")
-    ∷ refused-at 14 1 (long (classes-with "2" "ⓑ") 60 300 300 "2ⓑ")
-    ∷ refused-at 14 1 (long (classes-with "2" "ⓑ") 48 198 300 "2ⓑ")
-    ∷ refused-at 0 0 (long (classes-with "2" "ⓑ") 48 198 198 "ⓑ")
+    refused-at 14 0 (long with-numbers 48 607 607 "ⓐ")
+    ∷ refused-at 0 0 (long with-numbers 48 606 606 "ⓑ")
+    ∷ refused-at 14 1 (long with-numbers 60 609 609 "かⓐ")
+    ∷ refused-at 9 0 (long with-numbers 0 607 607 "ⓐ")
+    ∷ refused-at 9 0 (long with-numbers 47 607 607 "ⓐ")
+    ∷ refused-at 10 0 (long with-numbers 48 606 607 "ⓐ")
+    ∷ refused-at 14 0 (long with-numbers 48 607 0 "ⓐ")
+    ∷ refused-at 0 0 (long with-numbers 60 607 607 "2ⓑ")
+    ∷ refused-at 14 1 (long (classes-with "2" "ⓑ") 60 700 700 "2ⓑ")
+    ∷ refused-at 14 1 (long (classes-with "2" "ⓑ") 48 606 700 "2ⓑ")
+    ∷ refused-at 0 0 (long (classes-with "2" "ⓑ") 48 606 606 "ⓑ")
     ∷ []
 
 pub sample-long-forms : all refused-so long-faults ≡ true

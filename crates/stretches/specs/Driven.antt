@@ -19,7 +19,7 @@ use Rattle.definition.specs.Promises.{Held}
 use Rattle.definition.specs.Roundtrip.{encoded-append}
 use Rattle.definition.specs.Rewritten.{encoded-decoded}
 use Rattle.definition.specs.Parts.{with-text}
-use Rattle.definition.specs.Endings.{romanization, Romanized, romanized, unrefused}
+use Rattle.definition.specs.Endings.{romanization, Romanized, string-counted, romanized, unrefused}
 use Rattle.stretches.specs.Demand.{Taken, First-if, within}
 use Rattle.stretches.specs.Driver.{spaced, line-of, string, WordCall, Line, Spaceless, Firsts, wrote, Reads, Promise}
 use Rattle.stretches.specs.Cuts.{Cuts, cuts}
@@ -116,7 +116,7 @@ module _ (i j : Inputs) (c : WordCall i j) where
   word-done e h b r l =
       let f = h .fits in
       let o = c .out in
-      let d = unrefused j (word-accepted b r) (word-held (h .held) r) (omega (arith, ap length (word-string e))) in
+      let d = unrefused j (word-accepted b r) (word-held (h .held) r) (string-counted (j .mode) (romanization j) (c .mode ∙ e)) (omega (arith, ap length (word-string e))) in
       (d, wrote-is j (romanized j d) ∙ word-string e)
 
 -- A line's call and its words' calls
