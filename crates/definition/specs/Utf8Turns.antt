@@ -114,3 +114,19 @@ decoded-next (b ∷ s) c n l e =
     let d = length-drop n (b ∷ s) in
     ap (λ r. elim r as (λ x. Text) [ char c n ↦ c ∷ decode-by (length s) (drop n (b ∷ s)) | bad ↦ [] ]) e
     ∙ ap (λ l. c ∷ l) (decode-enough (length s) (length (drop n (b ∷ s))) (drop n (b ∷ s)) (omega arith) (omega arith))
+
+-- a text has no more characters than bytes
+decode-few : (f : ℕ) (s : List ℕ) → length (decode-by f s) ≤ f
+unfolding decode-by
+decode-few zero s = omega arith
+decode-few (suc f) [] = omega arith
+decode-few (suc f) (b ∷ s) = go (read (b ∷ s)) (λ n. decode-few f (drop n (b ∷ s)))
+  where
+    go : (r : Read) → ((n : ℕ) → length (decode-by f (drop n (b ∷ s))) ≤ f)
+        → length {A = ℕ} (elim r as (λ x. Text) [ char c n ↦ c ∷ decode-by f (drop n (b ∷ s)) | bad ↦ [] ]) ≤ suc f
+    go (char c n) h = let k = h n in omega arith
+    go bad h = omega arith
+
+pub decoded-few : (s : List ℕ) → length (decoded s) ≤ length s
+unfolding decoded
+decoded-few s = decode-few (length s) s

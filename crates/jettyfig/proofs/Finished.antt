@@ -50,29 +50,29 @@ module _ {rules prepared vowels bytes code S R P : List ℕ} {filled : Filled} {
   first = each (start D ds t) (length t) 0 ([], replicate (length t) 0)
 
   told : Told w ready
-  told = subst (Told w) (sym x) (f .told)
+  told = subst (Told w) (sym x) (f .done .told)
 
   lined : Lined w line
-  lined = subst (Lined w) (sym y) (f .lined)
+  lined = subst (Lined w) (sym y) (f .done .lined)
 
   -- the second pass is lent its edges
   pub first-lent : Over (with-edges w (first .0)) ready line S R P filled
-  first-lent = over-now told lined S R P filled first (f .grew .came .0)
+  first-lent = over-now told lined S R P filled first (f .done .grew .came .0)
 
   -- and goes on from them to the lattice
   pub both-passes : {S′ R′ P′ : List ℕ} (r : Answer) → SecondPass rules ready code line filled (S, R, P) (S′, R′, P′) r
       → Reached (kinds w) (size w) S R S′ R′ P′ (filled .used + size-in line * most-bytes) (lattice D ds t) r
   both-passes r second =
-      reached-as (lattice D ds t) (ap (λ (m : Mem). each (fall D t) (length t) 0 (first .0, m)) (f .grew .came .0 .remembered) ∙ lattice-is D ds t) r
+      reached-as (lattice D ds t) (ap (λ (m : Mem). each (fall D t) (length t) 0 (first .0, m)) (f .done .grew .came .0 .remembered) ∙ lattice-is D ds t) r
       (second vowels (with-edges w (first .0)) first-lent)
 
   module _ (table : Prepared rules ready) where
     -- behind edges that fit, fallbacks ask slots and room alone
     asks-room : overflow D ds t (length S / slot-bytes) (length R) (lattice D ds t .0) ≡ misfit (length S / slot-bytes) (length R) (lattice D ds t .0)
     asks-room =
-        let ok : Bounded D = tables-bounded (w .choices) rules (w .classes) vowels code (table .table .accepted) (lined .fine) (f .fine) in
+        let ok : Bounded D = tables-bounded (w .choices) rules (w .classes) vowels code (table .table .accepted) (lined .fine) (f .done .fine) in
         subst (λ (s : State). overflow D ds t (length S / slot-bytes) (length R) (s .0) ≡ misfit (length S / slot-bytes) (length R) (s .0)) (lattice-is D ds t)
-        (second-asks D ds t (length S / slot-bytes) (length R) first ok (f .grew .came .2) (reached-fits (grew-fits (f .grew))))
+        (second-asks D ds t (length S / slot-bytes) (length R) first ok (f .done .grew .came .2) (reached-fits (grew-fits (f .done .grew))))
 
     module _ (mode : ℕ) (text : List ℕ) where
       -- a fallback that did not fit is what the call refuses
@@ -94,7 +94,7 @@ module _ {rules prepared vowels bytes code S R P : List ℕ} {filled : Filled} {
 
         pub second-whole : mode ≤ 3 → (starts : List ℕ) → Stands S′ starts c → length starts ≡ size-in line + 1
             → Whole rules ready line S′ R′ P′ starts (record { mode = mode; count = c; used = u })
-        second-whole = built-whole rules vowels code ds told lined table (f .fine) reached held mode
+        second-whole = built-whole rules vowels code ds told lined table (f .done .fine) reached held mode
 
         pub second-shown : (out : ℕ) (r : Called)
             → Writes (given mode (w .choices) rules (w .classes) vowels bytes code text (length S) (length R) out) rules ready code line S′ R′ P′
@@ -102,8 +102,8 @@ module _ {rules prepared vowels bytes code S R P : List ℕ} {filled : Filled} {
             → r ≡ accepted (given mode (w .choices) rules (w .classes) vowels bytes code text (length S) (length R) out) D t
         second-shown out r writes =
             let l = lattice D ds t .0 in
-            built-written rules vowels code ds told lined table (f .fine) reached held mode out bytes text refl r
-            (writes vowels (with-edges w l) (told-with told l) (built-lent rules vowels code ds told lined table (f .fine) reached held) (reached .came .0 .edges))
+            built-written rules vowels code ds told lined table (f .done .fine) reached held mode out bytes text refl r
+            (writes vowels (with-edges w l) (told-with told l) (built-lent rules vowels code ds told lined table (f .done .fine) reached held) (reached .came .0 .edges))
 
 -- What the second pass needs
 module _ {rules prepared code text S R P starts : List ℕ} {filled : Filled} (h : FinishReady rules prepared code text S R P starts filled)
@@ -113,8 +113,8 @@ module _ {rules prepared code text S R P starts : List ℕ} {filled : Filled} (h
 
   pub fall-ready : FallReady rules ready text line S R P starts filled
   fall-ready =
-      let l = h .first .lined in
-      let used = h .first .grew .came .1 in (
+      let l = h .first .done .lined in
+      let used = h .first .done .grew .came .1 in (
         table-ready,
         subst (λ (l : List ℕ). Own text (chars-in l)) (sym y) (h .own),
         subst (λ (l : List ℕ). filled .used + size-in l * most-bytes < addressable) (sym y) (omega (arith, used, l .few, line-size l)),

@@ -20,13 +20,13 @@ use Rattle.edge_places.specs.Shows.{memory, memory-none}
 use Rattle.words.specs.Given.{World, kinds, size, size-in, ready-in, line-in, Told, Lined, line-size}
 use Rattle.passes.specs.Reached.{with-edges}
 use Rattle.decomp.specs.declared.Grew.{Grew}
-use Rattle.decomp.specs.declared.Grew.the-variants.{Fits}
+use Rattle.decomp.specs.declared.Grew.the-variants.{Fits, NoSlot, NoRoom, TooLong}
 use Rattle.decomp.specs.Grown.{GrewTo}
 use Rattle.decomp.specs.First.{first-over}
 use Rattle.decomp_pass.specs.Passes.{Passes}
 use Rattle.decomp_pass.specs.Both.{lattice-is, first-refused}
 use Rattle.jettyfig.specs.Verdicts.{given, returned}
-use Rattle.jettyfig.specs.Steps.{FirstDone}
+use Rattle.jettyfig.specs.Steps.{FirstPassed}
 use Rattle.jettyfig.specs.Calls.{refusing, as-refused, built-refused}
 
 module _ (rules vowels bytes code S R : List ℕ) (w : World) where
@@ -68,29 +68,31 @@ module _ (rules vowels bytes code S R : List ℕ) (w : World) where
         (ap (memory (size w)) zeros ∙ memory-none (size w) (size-in (line-in prepared) + 1) (omega (arith, line-size lined)))
         (passes (with-edges w []) same (first-over told lined S R P zeros) refl tt))
 
-    -- Where all fitted, it is done; slots and room are as long as they were
-    module _ (fine : FineVowels vowels) {S′ R′ P′ : List ℕ} {c u : ℕ} (g : GrewTo D ds t (kinds w) (size w) S R S′ R′ P′ most first (Fits c u)) where
-      pub first-done : FirstDone rules prepared vowels bytes code S′ R′ P′ (record { count = c; used = u; since = c }) w
-      first-done = record {
+    -- It has answered; slots and room are as long as they were
+    module _ (fine : FineVowels vowels) {S′ R′ P′ : List ℕ} (r : Grew) (g : GrewTo D ds t (kinds w) (size w) S R S′ R′ P′ most first r) where
+      same-lost : overflow D ds t (length S′ / slot-bytes) (length R′) (first .0) ≡ overflow D ds t (length S / slot-bytes) (length R) (first .0)
+      same-lost =
+          ap (λ (k : ℕ). overflow D ds t (k / slot-bytes) (length R′) (first .0)) (g .slots)
+          ∙ ap (λ (k : ℕ). overflow D ds t (length S / slot-bytes) k (first .0)) (g .room)
+
+      pub first-passed : FirstPassed rules prepared vowels bytes code S′ R′ P′ r w
+      first-passed = record {
         told = told;
         lined = lined;
         fine = fine;
-        grew = record {
-          slots = refl;
-          room = refl;
-          came = (
-            g .came .0,
-            g .came .1,
-            ap (λ (k : ℕ). overflow D ds t (k / slot-bytes) (length R′) (first .0)) (g .slots)
-                ∙ ap (λ (k : ℕ). overflow D ds t (length S / slot-bytes) k (first .0)) (g .room) ∙ g .came .2,
-          );
-        };
+        grew = go r g;
       }
+        where
+          go : (r : Grew) → GrewTo D ds t (kinds w) (size w) S R S′ R′ P′ most first r → GrewTo D ds t (kinds w) (size w) S′ R′ S′ R′ P′ most first r
+          go (Fits c u) h = record { slots = refl; room = refl; came = (h .came .0, h .came .1, same-lost ∙ h .came .2) }
+          go (NoSlot p) h = record { slots = refl; room = refl; came = same-lost ∙ h .came }
+          go (NoRoom p) h = record { slots = refl; room = refl; came = same-lost ∙ h .came }
+          go (TooLong p) h = record { slots = refl; room = refl; came = same-lost ∙ h .came }
 
-      -- and what is then finished is what the call returns
-      pub first-finished : (mode out : ℕ) (text : List ℕ) (r : Called)
+      -- and what is then concluded is what the call returns
+      pub first-concluded : (mode out : ℕ) (text : List ℕ) (r : Called)
           → r ≡ accepted (given mode (w .choices) rules (w .classes) vowels bytes code text (length S′) (length R′) out) D t
           → r ≡ accepted (given mode (w .choices) rules (w .classes) vowels bytes code text (length S) (length R) out) D t
-      first-finished mode out text r e =
+      first-concluded mode out text r e =
           e ∙ ap (λ (k : ℕ). accepted (given mode (w .choices) rules (w .classes) vowels bytes code text k (length R′) out) D t) (g .slots)
           ∙ ap (λ (k : ℕ). accepted (given mode (w .choices) rules (w .classes) vowels bytes code text (length S) k out) D t) (g .room)

@@ -8,8 +8,8 @@ use lib.Seq.{take-at, drop-at, take-take, drop-drop, take-append-le, drop-append
 use lib.Seq.{getD-take, getD-drop, getD-append-add, getD-set-same, getD-set-other, drop-set-lt}
 use borrow.Rule.Slice.PartMut.{putMid, midOf}
 use Rattle.base.specs.Loans.{lent-end, back-end}
-use Rattle.base.specs.ListLaws.{drop-take}
-use Rattle.definition.specs.Limits.{ascii-characters, most-characters}
+use Rattle.base.specs.ListLaws.{drop-take, take-replicate}
+use Rattle.definition.specs.Limits.{ascii-characters}
 use Rattle.definition.specs.Texts.{Text}
 use Rattle.utf8.specs.Lines.{spaced}
 use Rattle.table_classes.specs.Told.{kinds-of, alphas-of}
@@ -19,7 +19,8 @@ use Rattle.table_decompositions.specs.Index.{index-of}
 use Rattle.words.specs.Given.{letters-in, choices-in, mode-in, form-entries, forms-from, forms-in, index-from, all-ready, ready-in, line-in}
 use Rattle.jettyfig.specs.declared.Asked.{Asked}
 use Rattle.jettyfig.specs.Verdicts.{choose, chosen}
-use Rattle.jettyfig.specs.Steps.{with-kinds, Blank, MadeReady}
+use Rattle.jettyfig.specs.Calls.{drop-zeros}
+use Rattle.jettyfig.specs.Steps.{with-kinds, LineRoom, asking, RespondReady, Blank, MadeReady}
 
 -- all choices
 chosen-by : {a b c d m n : ℕ} → a ≡ b → c ≡ d → m ≡ n → choose a c m ≡ choose b d n
@@ -189,10 +190,10 @@ module _ (prepared : List ℕ) (long : all-ready ≤ length prepared) where
   pub ready-long : index-from ≤ length (ready-in prepared)
   ready-long = omega (arith, length-take-le all-ready prepared long)
 
--- The choices and the mode are written over zeros, and then the index of the decomposition table has come back behind them
-module _ (zeros : List ℕ) (a : Asked) (z : zeros ≡ replicate (all-ready + 2 * (most-characters + 3)) 0) where
+-- What is asked stands in what is prepared, and nothing behind it has changed
+module _ (a : Asked) (old : List ℕ) (long : all-ready ≤ length old) where
   abbrev first : List ℕ
-  first = set zeros ascii-characters (a .capitals)
+  first = set old ascii-characters (a .capitals)
 
   abbrev second : List ℕ
   second = set first (ascii-characters + 1) (a .«o_ang»)
@@ -200,105 +201,122 @@ module _ (zeros : List ℕ) (a : Asked) (z : zeros ≡ replicate (all-ready + 2 
   abbrev third : List ℕ
   third = set second (ascii-characters + 2) (a .readings)
 
-  abbrev pub written : List ℕ
-  written = set third (ascii-characters + 3) (a .mode)
+  first-long : length first ≡ length old
+  first-long = length-set old ascii-characters (a .capitals)
 
-  zeros-long : length zeros ≡ all-ready + 2 * (most-characters + 3)
-  zeros-long = ap length z ∙ length-replicate {A = ℕ} (all-ready + 2 * (most-characters + 3)) 0
-
-  first-long : length first ≡ all-ready + 2 * (most-characters + 3)
-  first-long = length-set zeros ascii-characters (a .capitals) ∙ zeros-long
-
-  second-long : length second ≡ all-ready + 2 * (most-characters + 3)
+  second-long : length second ≡ length old
   second-long = length-set first (ascii-characters + 1) (a .«o_ang») ∙ first-long
 
-  third-long : length third ≡ all-ready + 2 * (most-characters + 3)
+  third-long : length third ≡ length old
   third-long = length-set second (ascii-characters + 2) (a .readings) ∙ second-long
 
-  pub written-long : length written ≡ all-ready + 2 * (most-characters + 3)
-  written-long = length-set third (ascii-characters + 3) (a .mode) ∙ third-long
+  pub asking-long : length (asking a old) ≡ length old
+  asking-long = length-set third (ascii-characters + 3) (a .mode) ∙ third-long
 
-  written-mode : mode-in written ≡ a .mode
-  written-mode = getD-set-same third (ascii-characters + 3) (a .mode) 0 (omega (arith, third-long))
+  pub asking-mode : mode-in (asking a old) ≡ a .mode
+  asking-mode = getD-set-same third (ascii-characters + 3) (a .mode) 0 (omega (arith, third-long))
 
   -- a number stays as it is when one behind it is written
-  past-mode : (i : ℕ) → i < ascii-characters + 3 → getD written i 0 ≡ getD third i 0
+  past-mode : (i : ℕ) → i < ascii-characters + 3 → getD (asking a old) i 0 ≡ getD third i 0
   past-mode i h = getD-set-other third (ascii-characters + 3) i (a .mode) 0 (λ e. omega arith)
 
   past-readings : (i : ℕ) → i < ascii-characters + 2 → getD third i 0 ≡ getD second i 0
   past-readings i h = getD-set-other second (ascii-characters + 2) i (a .readings) 0 (λ e. omega arith)
 
-  written-choices : choices-in written ≡ chosen a
-  written-choices = chosen-by
+  pub asking-choices : choices-in (asking a old) ≡ chosen a
+  asking-choices = chosen-by
       (past-mode ascii-characters (omega arith) ∙ past-readings ascii-characters (omega arith)
       ∙ getD-set-other first (ascii-characters + 1) ascii-characters (a .«o_ang») 0 (λ e. omega arith)
-      ∙ getD-set-same zeros ascii-characters (a .capitals) 0 (omega (arith, zeros-long)))
+      ∙ getD-set-same old ascii-characters (a .capitals) 0 (omega (arith, long)))
       (past-mode (ascii-characters + 1) (omega arith) ∙ past-readings (ascii-characters + 1) (omega arith)
       ∙ getD-set-same first (ascii-characters + 1) (a .«o_ang») 0 (omega (arith, first-long)))
       (past-mode (ascii-characters + 2) (omega arith) ∙ getD-set-same second (ascii-characters + 2) (a .readings) 0 (omega (arith, second-long)))
 
-  -- behind them there are zeros still
-  from-forms : drop forms-from written ≡ replicate (form-entries + (all-places + 2 * (most-characters + 3))) 0
-  from-forms =
+  asking-behind : drop forms-from (asking a old) ≡ drop forms-from old
+  asking-behind =
       drop-set-lt forms-from third (ascii-characters + 3) (a .mode) (omega arith)
       ∙ drop-set-lt forms-from second (ascii-characters + 2) (a .readings) (omega arith)
       ∙ drop-set-lt forms-from first (ascii-characters + 1) (a .«o_ang») (omega arith)
-      ∙ drop-set-lt forms-from zeros ascii-characters (a .capitals) (omega arith) ∙ ap (drop forms-from) z
+      ∙ drop-set-lt forms-from old ascii-characters (a .capitals) (omega arith)
 
-  pub forms-lent : midOf forms-from form-entries written ≡ replicate form-entries 0
-  forms-lent = ap (take form-entries) from-forms
+-- over zeros with room for a text, the tables can be checked
+module _ (a : Asked) (text : List ℕ) (room : ℕ) (h : LineRoom text room) where
+  abbrev zeros : List ℕ
+  zeros = replicate (all-ready + room) 0
+
+  pub zeros-long : length zeros ≡ all-ready + room
+  zeros-long = length-replicate {A = ℕ} (all-ready + room) 0
+
+  pub enough : all-ready ≤ length zeros
+  enough = omega (arith, zeros-long)
+
+  pub fresh : RespondReady text (asking a zeros)
+  fresh = record {
+    long = omega (arith, asking-long a zeros enough, enough);
+    zeros = ap (take (form-entries + all-places)) (asking-behind a zeros enough ∙ drop-zeros forms-from (all-ready + room))
+        ∙ take-replicate 0 (form-entries + all-places) (all-ready + room - forms-from) (omega arith);
+    room = subst (LineRoom text) {x = room} {y = length (asking a zeros) - all-ready} (omega (arith, asking-long a zeros enough, zeros-long)) h;
+  }
+
+-- The index of the decomposition table is lent from what is prepared, and has come back
+module _ {text : List ℕ} (old : List ℕ) (h : RespondReady text old) where
+  pub forms-lent : midOf forms-from form-entries old ≡ replicate form-entries 0
+  forms-lent = sym (take-take form-entries (form-entries + all-places) (drop forms-from old) (omega arith)) ∙ ap (take form-entries) (h .zeros)
 
   module _ (index : List ℕ) (l : length index ≡ form-entries) where
     abbrev pub asked : List ℕ
-    asked = putMid forms-from form-entries written index
+    asked = putMid forms-from form-entries old index
 
     abbrev rest : List ℕ
-    rest = drop form-entries (drop forms-from written)
+    rest = drop form-entries (drop forms-from old)
 
-    within-written : forms-from ≤ length written
-    within-written = omega (arith, written-long)
+    within-old : forms-from ≤ length old
+    within-old = omega (arith, h .long)
 
-    pub asked-long : length asked ≡ all-ready + 2 * (most-characters + 3)
+    pub asked-long : length asked ≡ length old
     asked-long =
         omega (
           arith,
-          length-append (take forms-from written) (index ++ rest),
+          h .long,
+          length-append (take forms-from old) (index ++ rest),
           length-append index rest,
           l,
-          length-take-le forms-from written within-written,
-          ap (λ (x : List ℕ). length (drop form-entries x)) from-forms,
+          length-take-le forms-from old within-old,
+          length-drop form-entries (drop forms-from old),
+          length-drop forms-from old,
         )
 
-    asked-at : (i : ℕ) → i < forms-from → getD asked i 0 ≡ getD written i 0
-    asked-at i h = stays-at written forms-from within-written (index ++ rest) i h
+    asked-at : (i : ℕ) → i < forms-from → getD asked i 0 ≡ getD old i 0
+    asked-at i k = stays-at old forms-from within-old (index ++ rest) i k
 
-    pub asked-mode : mode-in asked ≡ a .mode
-    asked-mode = asked-at (ascii-characters + 3) (omega arith) ∙ written-mode
+    pub asked-mode : mode-in asked ≡ mode-in old
+    asked-mode = asked-at (ascii-characters + 3) (omega arith)
 
-    pub asked-choices : choices-in asked ≡ chosen a
+    pub asked-choices : choices-in asked ≡ choices-in old
     asked-choices =
         chosen-by (asked-at ascii-characters (omega arith)) (asked-at (ascii-characters + 1) (omega arith)) (asked-at (ascii-characters + 2) (omega arith))
-        ∙ written-choices
 
     asked-forms : drop forms-from asked ≡ index ++ rest
-    asked-forms = stays-behind written forms-from within-written (index ++ rest)
+    asked-forms = stays-behind old forms-from within-old (index ++ rest)
 
     pub asked-blank : (decompositions : List ℕ) → index ≡ index-of decompositions → Blank decompositions asked
     asked-blank decompositions e = record {
-      long = omega (arith, asked-long);
-      zeros = ap (take all-places) (sym (drop-drop form-entries forms-from asked) ∙ ap (drop form-entries) asked-forms ∙ drop-at index rest form-entries l
-          ∙ ap (drop form-entries) from-forms);
+      long = omega (arith, asked-long, h .long);
+      zeros = ap (take all-places) (sym (drop-drop form-entries forms-from asked) ∙ ap (drop form-entries) asked-forms ∙ drop-at index rest form-entries l)
+          ∙ sym (drop-take form-entries all-places (drop forms-from old)) ∙ ap (drop form-entries) (h .zeros);
       forms = ap (take form-entries) asked-forms ∙ take-at index rest form-entries l ∙ e;
     }
 
+    pub asked-room : LineRoom text (length asked - all-ready)
+    asked-room = subst (λ (n : ℕ). LineRoom text (n - all-ready)) (sym asked-long) (h .room)
+
 -- A line begins with a text between spaces, and as much again is lent with it for the classes
-module _ (line : List ℕ) (t : Text) (n : ℕ) (full : length line ≡ 2 * (most-characters + 3)) (few : n ≤ most-characters)
-    (s : take (n + 3) line ≡ spaced t) where
+module _ (line : List ℕ) (t : Text) (n : ℕ) (full : 2 * (n + 3) ≤ length line) (s : take (n + 3) line ≡ spaced t) where
   abbrev lent : List ℕ
   lent = take (2 * (n + 3)) line
 
   pub lent-length : length lent ≡ 2 * (n + 3)
-  lent-length = length-take-le (2 * (n + 3)) line (omega (arith, full, few))
+  lent-length = length-take-le (2 * (n + 3)) line full
 
   abbrev half : List ℕ
   half = take (length lent / 2) lent

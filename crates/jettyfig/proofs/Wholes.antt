@@ -1,10 +1,10 @@
 -- A lattice that was built: all that showing it needs, and what is then written is what the call returns.
-use Prim.Native.Nat.{ℕ, _+_, _/_, _≤_}
+use Prim.Native.Nat.{ℕ, _+_, _/_, _≤_, _<_}
 use mathlib.Core.List.{List, _++_}
 use mathlib.Core.Option.{none}
 use mathlib.Core.Path.{_≡_, sym, ap, _∙_, subst}
 use native.Mathlib.Omega.{arith}
-use lib.ListN.{length, take, replicate, length-replicate, length-append}
+use lib.ListN.{length, take, replicate, length-append}
 use lib.Seq.{take-at}
 use Rattle.base.specs.Alls.{All}
 use Rattle.base.specs.ListLaws.{take-replicate}
@@ -31,12 +31,8 @@ use Rattle.jettyfig.specs.Verdicts.{given}
 use Rattle.jettyfig.specs.Calls.{built-all, reached-count, reached-sound}
 
 -- zeros cut to the text, and what came back in their place
-pub cut-zeros : (zeros : List ℕ) (n k : ℕ) → zeros ≡ replicate (most-characters + 1) 0 → n ≤ most-characters → k ≡ n + 1 → take k zeros ≡ replicate (n + 1) 0
-cut-zeros zeros n k e h q =
-    ap (λ (m : ℕ). take m zeros) q ∙ ap (take (n + 1)) e ∙ take-replicate 0 (n + 1) (most-characters + 1) (omega arith)
-
-pub zeros-long : (zeros : List ℕ) → zeros ≡ replicate (most-characters + 1) 0 → length zeros ≡ most-characters + 1
-zeros-long zeros e = ap length e ∙ length-replicate {A = ℕ} (most-characters + 1) 0
+pub cut-zeros : (size n k : ℕ) → n < size → k ≡ n + 1 → take k (replicate {A = ℕ} size 0) ≡ replicate (n + 1) 0
+cut-zeros size n k h q = ap (λ (m : ℕ). take m (replicate {A = ℕ} size 0)) q ∙ take-replicate 0 (n + 1) size (omega arith)
 
 -- what was lent has come back, and is lent again
 module _ (back rest : List ℕ) (k : ℕ) (e : length back ≡ k) where

@@ -1,24 +1,27 @@
 -- What is left of a call, step by step: shown, built, read, checked.
 use Prim.Native.Nat.{ℕ, zero, suc, _+_, _-_, _/_, _≤_, _<_}
+use mathlib.Core.Bool.{Bool, true, false}
 use mathlib.Core.List.{List, _++_}
 use mathlib.Core.Option.{Option, none, some}
-use mathlib.Core.Path.{_≡_, sym, ap, _∙_, subst}
+use mathlib.Core.Path.{_≡_, refl, sym, ap, _∙_, subst}
 use native.Mathlib.Omega.{arith}
-use lib.ListN.{length, drop, replicate}
-use borrow.Author.Tests.{lt-ltb, le-ltb}
+use lib.Dec.{ltb}
+use lib.ListN.{length, drop, replicate, length-drop}
+use borrow.Author.Tests.{ne-eqb, lt-ltb, le-ltb, ltb-true, ltb-false}
 use Rattle.base.specs.Pick.{pick}
 use Rattle.base.specs.Lists.{or-else}
 use Rattle.base.specs.Alls.{All}
-use Rattle.definition.specs.Limits.{slot-bytes}
+use Rattle.definition.specs.Limits.{slot-bytes, most-listed}
+use Rattle.definition.specs.Blocks.{head-bytes}
 use Rattle.definition.specs.Texts.{Text}
 use Rattle.definition.specs.Tables.{Class, Decomposition, Tables}
 use Rattle.definition.specs.Edges.{State}
 use Rattle.definition.specs.Decomposing.{lattice}
 use Rattle.definition.specs.Bounds.{Sound}
 use Rattle.definition.specs.Listing.{shown}
-use Rattle.definition.specs.Refusals.{Refusal, refuse, refused-output}
+use Rattle.definition.specs.Refusals.{Refusal, refuse, refused-listing, refused-output}
 use Rattle.definition.specs.Capacity.{overflow}
-use Rattle.definition.specs.Call.{Inputs, Called, tables, decompositions, characters, before-text, refusal, refused, written, within-room, with-lattice, accepted, unless-refused, called}
+use Rattle.definition.specs.Call.{Inputs, Called, tables, decompositions, characters, before-text, refusal, refused, uncounted, written, within-room, with-lattice, accepted, unless-refused, called}
 use Rattle.definition.specs.Call.{text-refusal}
 use Rattle.lent_bytes.specs.Puts.{put-at}
 use Rattle.edge.specs.declared.Added.the-variants.{Fits}
@@ -43,7 +46,7 @@ module _ (i : Inputs) (out : List ℕ) (h : out ≡ replicate (i .out) 0) where
   as-refused n p = ap (returned (refusing n p)) h
 
 -- zeros from a place on
-drop-zeros : (k n : ℕ) → drop k (replicate {A = ℕ} n 0) ≡ replicate (n - k) 0
+pub drop-zeros : (k n : ℕ) → drop k (replicate {A = ℕ} n 0) ≡ replicate (n - k) 0
 drop-zeros zero n = ap (λ (m : ℕ). replicate {A = ℕ} m 0) {x = n} {y = n - 0} (omega arith)
 drop-zeros (suc k) zero = ap (λ (m : ℕ). replicate {A = ℕ} m 0) {x = 0} {y = 0 - suc k} (omega arith)
 drop-zeros (suc k) (suc n) = drop-zeros k n ∙ ap (λ (m : ℕ). replicate {A = ℕ} m 0) {x = n - k} {y = suc n - suc k} (omega arith)
@@ -57,14 +60,18 @@ module _ (w out out′ : List ℕ) (r : ℕ) (s : Shows w out out′ r) (h : out
       ∙ ap (λ (z : List ℕ). w ++ drop (0 + length w) z) h
       ∙ ap (_++_ w) (drop-zeros (0 + length w) (length out) ∙ ap (λ (m : ℕ). replicate {A = ℕ} m 0) {x = length out - (0 + length w)} {y = i .out - length w} (omega (arith, l)))
 
-  pub shown-fits : (n : ℕ) → r ≤ length out′ → returned (done r n) out′ ≡ written i n w
+  pub shown-large : (n : ℕ) (z : List ℕ) → z ≡ replicate (length out′) 0 → uncounted (i .mode) w ≡ true → returned (refusing refused-listing 0) z ≡ written i n w
+  unfolding written pick refused
+  shown-large n z e u = rw u (ap (returned (refusing refused-listing 0)) (e ∙ ap (λ (m : ℕ). replicate {A = ℕ} m 0) (s .kept ∙ sym l)))
+
+  pub shown-fits : (n : ℕ) → uncounted (i .mode) w ≡ false → r ≤ length out′ → returned (done r n) out′ ≡ written i n w
   unfolding written pick
-  shown-fits n k = rw (le-ltb (i .out) (length w) (omega (arith, k, l, s .needed, s .kept)))
+  shown-fits n u k = rw (u, le-ltb (i .out) (length w) (omega (arith, k, l, s .needed, s .kept)))
       (ap (λ (m : ℕ). returned (done m n) out′) (s .needed) ∙ ap (returned (done (length w) n)) (over-zeros (omega (arith, k, s .needed, s .kept))))
 
-  pub shown-misses : (n : ℕ) (z : List ℕ) → z ≡ replicate (length out′) 0 → length out′ < r → returned (refusing refused-output r) z ≡ written i n w
+  pub shown-misses : (n : ℕ) (z : List ℕ) → z ≡ replicate (length out′) 0 → uncounted (i .mode) w ≡ false → length out′ < r → returned (refusing refused-output r) z ≡ written i n w
   unfolding written pick refused
-  shown-misses n z e k = rw (lt-ltb (i .out) (length w) (omega (arith, k, l, s .needed, s .kept)))
+  shown-misses n z e u k = rw (u, lt-ltb (i .out) (length w) (omega (arith, k, l, s .needed, s .kept)))
       (ap (λ (m : ℕ). returned (refusing refused-output m) z) (s .needed)
       ∙ ap (returned (refusing refused-output (length w))) (e ∙ ap (λ (m : ℕ). replicate {A = ℕ} m 0) (s .kept ∙ sym l)))
 
@@ -119,3 +126,12 @@ answer-of c = record { number = c .number; place = c .place; length = c .length;
 
 pub coincide : (i : Inputs) (a b : Answer) (x y : List ℕ) → returned a x ≡ called i → returned b y ≡ called i → (a ≡ b) × (x ≡ y)
 coincide i a b x y p q = (ap answer-of (p ∙ sym q), ap (λ (c : Called). c .output) (p ∙ sym q))
+
+-- A listing of `n` bytes, by what its rows and its header have at most
+pub counted-by : (m : ℕ) (w : List ℕ) (n : ℕ) → n ≡ length w → (m ≡ 0 → ⊥) → ltb (head-bytes + most-listed) n ≡ uncounted m w
+unfolding uncounted
+counted-by m w n e h = rw (ne-eqb m 0 h) (go (ltb (head-bytes + most-listed) n) refl)
+  where
+    go : (b : Bool) → ltb (head-bytes + most-listed) n ≡ b → b ≡ ltb most-listed (length (drop head-bytes w))
+    go true q = let l = ltb-true (head-bytes + most-listed) n q in sym (lt-ltb most-listed (length (drop head-bytes w)) (omega (arith, e, length-drop head-bytes w)))
+    go false q = let l = ltb-false (head-bytes + most-listed) n q in sym (le-ltb most-listed (length (drop head-bytes w)) (omega (arith, e, length-drop head-bytes w)))

@@ -1,10 +1,10 @@
 -- What the steps of a call are lent, and what they promise: of every world that the line and what was made ready stand for.
-use Prim.Native.Nat.{ℕ, _+_, _*_, _≤_}
+use Prim.Native.Nat.{ℕ, _+_, _-_, _*_, _≤_}
 use mathlib.Core.List.{List, [], _++_}
 use mathlib.Core.Option.{none}
 use mathlib.Core.Path.{_≡_}
-use lib.ListN.{length, take, drop, replicate}
-use Rattle.definition.specs.Limits.{most-mode, most-characters, most-edges, most-bytes}
+use lib.ListN.{length, take, drop, set, replicate}
+use Rattle.definition.specs.Limits.{most-mode, most-characters, most-edges, most-bytes, ascii-characters}
 use Rattle.definition.specs.Texts.{Text}
 use Rattle.definition.specs.Tables.{Choices}
 use Rattle.definition.specs.Building.{each}
@@ -14,7 +14,7 @@ use Rattle.definition.specs.Listing.{shown}
 use Rattle.definition.specs.Utf8.{decoded}
 use Rattle.definition.specs.Call.{Inputs, Called, tables-of, written, accepted, unless-refused}
 use Rattle.definition.specs.Call.{before-text, text-refusal, refusal}
-use Rattle.utf8.specs.Lines.{spaced}
+use Rattle.utf8.specs.Lines.{line-spaces, spaced}
 use Rattle.table_classes.specs.Told.{kinds-of, alphas-of}
 use Rattle.table_vowels.specs.Told.{FineVowels}
 use Rattle.table_decompositions.specs.Index.{index-of}
@@ -23,19 +23,42 @@ use Rattle.edge.specs.declared.Filled.{Filled}
 use Rattle.edge.specs.declared.Added.the-variants as Added
 use Rattle.edge.specs.Slots.{edges-of}
 use Rattle.edge_places.specs.Shows.{memory}
-use Rattle.words.specs.Given.{World, kinds, size, size-in, letters-in, choices-in, mode-in, forms-in, index-from, all-ready, ready-in, line-in}
+use Rattle.words.specs.Given.{World, kinds, size, size-in, letters-in, choices-in, mode-in, form-entries, forms-from, forms-in, index-from, all-ready, ready-in, line-in}
 use Rattle.words.specs.Given.{Prepared, Told, Lined, Lent}
 use Rattle.passes.specs.Starts.{Began}
 use Rattle.second_pass.specs.Fallback.{Own, chars-in}
+use Rattle.decomp.specs.declared.Grew.{Grew}
 use Rattle.decomp.specs.declared.Grew.the-variants.{Fits}
 use Rattle.decomp.specs.Rows.{Formable}
 use Rattle.decomp.specs.Grown.{GrewTo}
+use Rattle.decomp_pass.specs.Passes.{Begins}
 use Rattle.output.specs.declared.Built.{Built}
+use Rattle.jettyfig.specs.declared.Asked.{Asked}
 use Rattle.jettyfig.specs.Verdicts.{given}
+
+-- characters of a short text, at most
+abbrev pub few-characters : ℕ
+few-characters = 512
 
 -- a text between spaces, and behind it the classes
 unfoldable pub with-kinds : List ℕ → Text → List ℕ
 with-kinds classes t = spaced t ++ kinds-of classes (spaced t)
+
+-- so many numbers are enough for that, unless the characters are too many; for the spaces in any case
+abbrev pub LineRoom : List ℕ → ℕ → Type 0
+LineRoom text n = (2 * line-spaces ≤ n) × (length (decoded text) ≤ most-characters → 2 * (length (decoded text) + line-spaces) ≤ n)
+
+-- What was asked, written into what is prepared
+abbrev pub asking : Asked → List ℕ → List ℕ
+asking a l =
+    set (set (set (set l ascii-characters (a .capitals)) (ascii-characters + 1) (a .«o_ang»)) (ascii-characters + 2) (a .readings)) (ascii-characters + 3)
+    (a .mode)
+
+-- What is prepared before the tables are checked: nothing behind what was asked, and room for the text
+pub record RespondReady (text prepared : List ℕ) : Type 0 where
+  pub long : all-ready ≤ length prepared
+  pub zeros : take (form-entries + all-places) (drop forms-from prepared) ≡ replicate (form-entries + all-places) 0
+  pub room : LineRoom text (length prepared - all-ready)
 
 -- What is prepared while the text is read: the mode, the choices and the index of the decomposition table stand in it, and
 -- there is room for the index of the rule table with what is kept of characters
@@ -44,11 +67,11 @@ pub record Blank (decompositions prepared : List ℕ) : Type 0 where
   pub zeros : take all-places (drop index-from prepared) ≡ replicate all-places 0
   pub forms : forms-in prepared ≡ index-of decompositions
 
--- the tables and the code have passed, and the line has room for a text of the most characters
-pub record ReadReady (rules classes vowels decompositions code prepared : List ℕ) : Type 0 where
+-- the tables and the code have passed, and the line has room for the text
+pub record ReadReady (rules classes vowels decompositions code text prepared : List ℕ) : Type 0 where
   pub passed : before-text (mode-in prepared) (choices-in prepared) rules classes vowels decompositions code ≡ none
   pub blank : Blank decompositions prepared
-  pub whole : length prepared ≡ all-ready + 2 * (most-characters + 3)
+  pub room : LineRoom text (length prepared - all-ready)
 
 -- and the text, whose line stands there
 pub record PrepareReady (rules classes vowels decompositions code text prepared : List ℕ) : Type 0 where
@@ -66,16 +89,20 @@ pub record MadeReady (rules classes before after : List ℕ) : Type 0 where
   pub line : line-in after ≡ line-in before
   pub long : length after ≡ length before
 
--- The first pass is done in a world over what was lent, with some vowel and decomposition table: the state that it leads to
--- from no edges is kept, and nothing has overflowed
-pub record FirstDone (rules prepared vowels decompositions code slots room places : List ℕ) (filled : Filled) (w : World) : Type 0 where
+-- The first pass has answered in a world over what was lent, with some vowel and decomposition table: the state that it leads to
+-- from no edges is kept, and nothing has overflowed; or there is its refusal
+pub record FirstPassed (rules prepared vowels decompositions code slots room places : List ℕ) (r : Grew) (w : World) : Type 0 where
   pub told : Told w (ready-in prepared)
   pub lined : Lined w (line-in prepared)
   pub fine : FineVowels vowels
   pub grew : GrewTo (tables-of (w .choices) rules (w .classes) vowels code) (decompositions-of decompositions) (w .text) (kinds w) (size w)
       slots room slots room places (size-in (line-in prepared) * (most-edges * most-bytes))
       (each (start (tables-of (w .choices) rules (w .classes) vowels code) (decompositions-of decompositions) (w .text)) (size w) 0 ([], replicate (size w) 0))
-      (Fits (filled .count) (filled .used))
+      r
+
+-- with all edges that it has
+pub record FirstDone (rules prepared vowels decompositions code slots room places : List ℕ) (filled : Filled) (w : World) : Type 0 where
+  pub done : FirstPassed rules prepared vowels decompositions code slots room places (Fits (filled .count) (filled .used)) w
 
 -- All is ready for the second pass: the tables are as they were checked, the text's bytes are its own, starts tell how many
 -- edges each found, and there is such a world
@@ -89,6 +116,18 @@ pub record FinishReady (rules prepared code text slots room places starts : List
   pub decompositions : List ℕ
   pub world : World
   pub first : FirstDone rules prepared vowels decompositions code slots room places filled world
+
+-- The same with whatever the first pass has answered
+pub record ConcludeReady (rules prepared code text slots room places starts : List ℕ) (r : Grew) : Type 0 where
+  pub long : all-ready ≤ length prepared
+  pub table : Prepared rules (ready-in prepared)
+  pub own : Own text (chars-in (line-in prepared))
+  pub mode : mode-in (ready-in prepared) ≤ most-mode
+  pub began : Begins slots room (size-in (line-in prepared)) starts r
+  pub vowels : List ℕ
+  pub decompositions : List ℕ
+  pub world : World
+  pub first : FirstPassed rules prepared vowels decompositions code slots room places r world
 
 -- All is ready: the tables are as they were checked, the text's bytes are its own, and there is a world
 pub record RomanizeReady (rules prepared classes vowels decompositions text : List ℕ) : Type 0 where
@@ -111,6 +150,12 @@ Writes i rules ready code line slots room places built r =
 abbrev pub Finishes : List ℕ → List ℕ → List ℕ → List ℕ → List ℕ → List ℕ → List ℕ → Filled → ℕ → Called → Type 0
 Finishes rules prepared code text slots room places filled out r =
     (vowels decompositions : List ℕ) (w : World) → FirstDone rules prepared vowels decompositions code slots room places filled w
+    → r ≡ accepted (given (mode-in (ready-in prepared)) (w .choices) rules (w .classes) vowels decompositions code text (length slots) (length room) out)
+    (tables-of (w .choices) rules (w .classes) vowels code) (w .text)
+
+abbrev pub Concludes : List ℕ → List ℕ → List ℕ → List ℕ → List ℕ → List ℕ → List ℕ → Grew → ℕ → Called → Type 0
+Concludes rules prepared code text slots room places grew out r =
+    (vowels decompositions : List ℕ) (w : World) → FirstPassed rules prepared vowels decompositions code slots room places grew w
     → r ≡ accepted (given (mode-in (ready-in prepared)) (w .choices) rules (w .classes) vowels decompositions code text (length slots) (length room) out)
     (tables-of (w .choices) rules (w .classes) vowels code) (w .text)
 

@@ -10,14 +10,16 @@ ghost use Rattle.definition.specs.Refusals.{placed};
 ghost use Rattle.definition.specs.Utf8.{decoded};
 ghost use Rattle.definition.specs.ClassRows.{class-fault};
 ghost use Rattle.definition.specs.RuleFaults.{rule-fault};
-ghost use Rattle.definition.specs.Call.{Inputs, before-text, text-refusal, called};
+ghost use Rattle.definition.specs.Call.{Inputs, before-text, text-refusal, uncounted, called};
 ghost use Rattle.table_blocks.specs.Faults.{table-means};
 ghost use Rattle.rule_table_check.specs.Told.{rules-means};
 ghost use Rattle.utf8.specs.Read.{text-means};
-ghost use Rattle.words.specs.Given.{form-entries, choices-in, mode-in};
+ghost use Rattle.utf8.specs.Lines.{line-spaces};
+ghost use Rattle.words.specs.Given.{size-in, form-entries, choices-in, mode-in, all-ready, line-in};
 ghost use Rattle.output.specs.Whole.{Whole};
 ghost use Rattle.jettyfig.specs.Verdicts.{verdict-means, Indexed, choose, chosen, given, returned, by-asked, by-code};
-ghost use Rattle.jettyfig.specs.Steps.{with-kinds, Blank, ReadReady, PrepareReady, MadeReady, FinishReady, RomanizeReady, Writes, Finishes, Romanizes, Prepares, Reads};
+ghost use Rattle.jettyfig.specs.Steps.{few-characters, with-kinds, LineRoom, Blank, asking, RespondReady, ReadReady, PrepareReady, MadeReady, FinishReady, ConcludeReady, RomanizeReady};
+ghost use Rattle.jettyfig.specs.Steps.{Writes, Finishes, Concludes, Romanizes, Prepares, Reads};
 use decomp::Grew;
 use edge::Added;
 use edge::Filled;
@@ -26,19 +28,32 @@ use rule_table_check::RulesRead;
 use table_blocks::TableRead;
 use utf8::TextRead;
 
-// What is prepared for a text of the most characters: what is made ready, and behind it the text between spaces and the
-// classes of its characters; and an entry for each position, its end too.
-const PREPARED: usize = words::READY + 2 * utf8::MOST_LINE;
+// What is kept for a text stands in arrays, and an array is written whole: so there are two sizes of each, and a short text has the
+// smaller ones. A text of so many bytes is short.
+const SHORT: usize = 512;
 
-const MOST_PLACES: usize = utf8::MOST_CHARACTERS + 1;
+// What is prepared: what is made ready, and behind it the text between spaces and the classes of its characters.
+const SHORT_PREPARED: usize = words::READY + 2 * (SHORT + utf8::LINE_SPACES);
+
+const LONG_PREPARED: usize = words::READY + 2 * (utf8::MOST_CHARACTERS + utf8::LINE_SPACES);
+
+// An entry for each position, the text's end too.
+const SHORT_PLACES: usize = SHORT + 1;
+
+const LONG_PLACES: usize = utf8::MOST_CHARACTERS + 1;
+
+// Bytes of a listing's header, and of its rows at most.
+const HEAD_BYTES: usize = 5;
+
+const MOST_LISTED: usize = 4294967295;
 
 // Of so many characters it is told whether they are letters.
 const ASCII: usize = 128;
 
 // The highest mode, the highest number of a choice, and the letters of a language code.
-const MOST_MODE: u8 = 3;
+const MOST_MODE: u32 = 3;
 
-const MOST_CHOICE: u8 = 1;
+const MOST_CHOICE: u32 = 1;
 
 const CODE_LETTERS: usize = 3;
 
@@ -71,6 +86,8 @@ const REFUSED_ROOM: u64 = 10;
 
 const REFUSED_EDGE_TEXT: u64 = 14;
 
+const REFUSED_LISTING: u64 = 19;
+
 const REFUSED_OUTPUT: u64 = 11;
 
 // What a call returns: 0, the output's length and the number of edges; or a refusal's number and its place.
@@ -84,10 +101,10 @@ pub struct Answer {
 
 // What a call is asked besides tables and text: its mode, and its choices.
 pub struct Asked {
-    pub mode: u8,
-    pub capitals: u8,
-    pub o_ang: u8,
-    pub readings: u8,
+    pub mode: u32,
+    pub capitals: u32,
+    pub o_ang: u32,
+    pub readings: u32,
 }
 
 // What was found of the tables and the code: nothing, or a refusal.
@@ -207,7 +224,17 @@ fn check(
     check_code(code)
 }
 
-// What the mode shows, or a refusal of an output that is too short for it.
+// Is a listing of so many bytes too large for the length before its rows? Mode 0 lists nothing.
+fn is_uncounted(mode: u8, needed: usize) -> bool
+    ensures { λ r. ⌜ ((w : List ℕ) → needed ≡ length w → r ≡ uncounted mode w) ⌝ }
+{
+    if mode == 0 {
+        return false;
+    }
+    HEAD_BYTES + MOST_LISTED < needed
+}
+
+// What the mode shows, or a refusal of a listing that is too large or an output that is too short for it.
 fn show(
     rules: &[u8],
     ready: &[u32],
@@ -222,7 +249,7 @@ fn show(
 ) -> Answer
     requires { ⌜ Whole (now rules) (now ready) (now line) (now slots) (now room) (now places) (now starts) built
         × (now out ≡ replicate (length (now out)) 0) ⌝ }
-    ensures { λ r. ⌜ ((i : Inputs) → i .out ≡ length (now (out .entry)) → Writes i (now (rules .entry)) (now (ready .entry)) (now (code .entry))
+    ensures { λ r. ⌜ ((i : Inputs) → i .out ≡ length (now (out .entry)) → i .mode ≡ built .mode → Writes i (now (rules .entry)) (now (ready .entry)) (now (code .entry))
         (now (line .entry)) (now (slots .entry)) (now (room .entry)) (now (places .entry)) built (returned r (now (out .exit)))) ⌝ }
 {
     let needed = output::put_shown(
@@ -237,6 +264,10 @@ fn show(
         built,
         out,
     );
+    if is_uncounted(built.mode, needed) {
+        lent_bytes::clear(out);
+        return refuse(REFUSED_LISTING, 0);
+    }
     if out.len() < needed {
         lent_bytes::clear(out);
         return refuse(REFUSED_OUTPUT, needed as u64);
@@ -247,13 +278,6 @@ fn show(
         length: needed as u64,
         edges: built.count as u64,
     }
-}
-
-// An entry for each position, nothing noted yet.
-fn no_entries() -> [u32; MOST_PLACES]
-    ensures { λ r. ⌜ r ≡ replicate (most-characters + 1) 0 ⌝ }
-{
-    [0u32; MOST_PLACES]
 }
 
 // What is shown of the lattice once its first pass has found room: the fallbacks come behind its edges, or the refusal of slots
@@ -310,9 +334,100 @@ fn finish<'a>(
     }
 }
 
-// What is shown of the lattice, or the refusal of slots or text room that are too short, or of an edge's text that is too
-// long. What is kept by position and by start while it is built begins as zeros.
-fn romanize<'a>(
+// What is shown of the lattice by what its first pass answered, or the refusal of slots or text room that were too short for it,
+// or of an edge's text that is too long.
+fn conclude<'a>(
+    rules: &'a [u8],
+    prepared: &[u32],
+    code: &[u8],
+    text: &'a [u8],
+    slots: &mut [u8],
+    room: &mut [u8],
+    places: &mut [u32],
+    starts: &mut [u32],
+    grew: Grew,
+    out: &mut [u8],
+) -> Answer
+    requires { ⌜ ConcludeReady (now rules) (now prepared) (now code) (now text) (now slots) (now room) (now places) (now starts) grew
+        × (now out ≡ replicate (length (now out)) 0) ⌝ }
+    ensures { λ r. ⌜ Concludes (now (rules .entry)) (now (prepared .entry)) (now (code .entry)) (now (text .entry)) (now (slots .entry)) (now (room .entry))
+        (now (places .entry)) grew (length (now (out .entry))) (returned r (now (out .exit))) ⌝ }
+{
+    match grew {
+        Grew::Fits { count, used } => finish(
+            rules,
+            prepared,
+            code,
+            text,
+            slots,
+            room,
+            places,
+            starts,
+            Filled {
+                count,
+                used,
+                since: count,
+            },
+            out,
+        ),
+        Grew::NoSlot(p) => refuse(REFUSED_SLOTS, p as u64),
+        Grew::NoRoom(p) => refuse(REFUSED_ROOM, p as u64),
+        Grew::TooLong(p) => refuse(REFUSED_EDGE_TEXT, p as u64),
+    }
+}
+
+// What is shown of the lattice of a text of few characters, or its refusal. What is kept by position and by start while it is built begins
+// as zeros.
+fn romanize_short<'a>(
+    rules: &'a [u8],
+    prepared: &[u32],
+    classes: &[u8],
+    vowels: &[u8],
+    decompositions: &[u8],
+    code: &[u8],
+    text: &'a [u8],
+    slots: &mut [u8],
+    room: &mut [u8],
+    out: &mut [u8],
+) -> Answer
+    requires { ⌜ RomanizeReady (now rules) (now prepared) (now classes) (now vowels) (now decompositions) (now text)
+        × (now out ≡ replicate (length (now out)) 0)
+        × (size-in (line-in (now prepared)) ≤ few-characters) ⌝ }
+    ensures { λ r. ⌜ Romanizes (now (rules .entry)) (now (prepared .entry)) (now (classes .entry)) (now (vowels .entry)) (now (decompositions .entry))
+        (now (code .entry)) (now (text .entry)) (length (now (slots .entry))) (length (now (room .entry))) (length (now (out .entry))) (returned r (now (out .exit))) ⌝ }
+{
+    let end = words::text_len(words::line_in(prepared)) + 1;
+    let mut places = [0u32; SHORT_PLACES];
+    let mut starts = [0u32; SHORT_PLACES];
+    let grew = decomp_pass::add_romanization(
+        rules,
+        prepared,
+        classes,
+        vowels,
+        decompositions,
+        code,
+        slots,
+        room,
+        &mut places[..end],
+        &mut starts[..end],
+    );
+    conclude(
+        rules,
+        prepared,
+        code,
+        text,
+        slots,
+        room,
+        &mut places[..end],
+        &mut starts[..end],
+        grew,
+        out,
+    )
+}
+
+// What is shown of the lattice of a text of any number of characters, or its refusal. What is kept by position and by start while it is built begins
+// as zeros.
+fn romanize_long<'a>(
     rules: &'a [u8],
     prepared: &[u32],
     classes: &[u8],
@@ -330,9 +445,9 @@ fn romanize<'a>(
         (now (code .entry)) (now (text .entry)) (length (now (slots .entry))) (length (now (room .entry))) (length (now (out .entry))) (returned r (now (out .exit))) ⌝ }
 {
     let end = words::text_len(words::line_in(prepared)) + 1;
-    let mut places = no_entries();
-    let mut starts = no_entries();
-    match decomp_pass::add_romanization(
+    let mut places = [0u32; LONG_PLACES];
+    let mut starts = [0u32; LONG_PLACES];
+    let grew = decomp_pass::add_romanization(
         rules,
         prepared,
         classes,
@@ -343,27 +458,65 @@ fn romanize<'a>(
         room,
         &mut places[..end],
         &mut starts[..end],
-    ) {
-        Grew::Fits { count, used } => finish(
+    );
+    conclude(
+        rules,
+        prepared,
+        code,
+        text,
+        slots,
+        room,
+        &mut places[..end],
+        &mut starts[..end],
+        grew,
+        out,
+    )
+}
+
+// What is shown of the lattice, or its refusal, in arrays that the text needs.
+fn romanize<'a>(
+    rules: &'a [u8],
+    prepared: &[u32],
+    classes: &[u8],
+    vowels: &[u8],
+    decompositions: &[u8],
+    code: &[u8],
+    text: &'a [u8],
+    slots: &mut [u8],
+    room: &mut [u8],
+    out: &mut [u8],
+) -> Answer
+    requires { ⌜ RomanizeReady (now rules) (now prepared) (now classes) (now vowels) (now decompositions) (now text)
+        × (now out ≡ replicate (length (now out)) 0) ⌝ }
+    ensures { λ r. ⌜ Romanizes (now (rules .entry)) (now (prepared .entry)) (now (classes .entry)) (now (vowels .entry)) (now (decompositions .entry))
+        (now (code .entry)) (now (text .entry)) (length (now (slots .entry))) (length (now (room .entry))) (length (now (out .entry))) (returned r (now (out .exit))) ⌝ }
+{
+    if words::text_len(words::line_in(prepared)) <= SHORT {
+        return romanize_short(
             rules,
             prepared,
+            classes,
+            vowels,
+            decompositions,
             code,
             text,
             slots,
             room,
-            &mut places[..end],
-            &mut starts[..end],
-            Filled {
-                count,
-                used,
-                since: count,
-            },
             out,
-        ),
-        Grew::NoSlot(p) => refuse(REFUSED_SLOTS, p as u64),
-        Grew::NoRoom(p) => refuse(REFUSED_ROOM, p as u64),
-        Grew::TooLong(p) => refuse(REFUSED_EDGE_TEXT, p as u64),
+        );
     }
+    romanize_long(
+        rules,
+        prepared,
+        classes,
+        vowels,
+        decompositions,
+        code,
+        text,
+        slots,
+        room,
+        out,
+    )
 }
 
 // What the engine asks besides the tables' rows: the ASCII letters, and the index of the rule table with what it has of the
@@ -413,15 +566,15 @@ fn prepare<'a>(
 
 // The text between spaces, and behind it the class of each of its characters.
 fn lay_out(classes: &[u8], text: &[u8], line: &mut [u32]) -> TextRead
-    requires { ⌜ (class-fault (now classes) ≡ none) × (length (now line) ≡ 2 * (most-characters + 3)) ⌝ }
+    requires { ⌜ (class-fault (now classes) ≡ none) × LineRoom (now text) (length (now line)) ⌝ }
     ensures refusal { λ r. ⌜ text-means r ≡ text-refusal (now (text .entry)) ⌝ }
     ensures line { λ r. ⌜ ((n : ℕ) → r ≡ TextRead.Characters n → (n ≡ length (decoded (now (text .entry)))) × (n ≤ most-characters)
-        × (take (2 * (n + 3)) (now (line .exit)) ≡ with-kinds (now (classes .entry)) (decoded (now (text .entry))))) ⌝ }
+        × (take (2 * (n + line-spaces)) (now (line .exit)) ≡ with-kinds (now (classes .entry)) (decoded (now (text .entry))))) ⌝ }
 {
     let read = utf8::read_line(text, line);
     match read {
         TextRead::Characters(n) => {
-            table_classes::classify(classes, &mut line[..2 * (n + 3)]);
+            table_classes::classify(classes, &mut line[..2 * (n + utf8::LINE_SPACES)]);
             read
         }
         TextRead::NotUtf8(_) => read,
@@ -443,7 +596,7 @@ fn read<'a>(
     room: &mut [u8],
     out: &mut [u8],
 ) -> Answer
-    requires { ⌜ ReadReady (now rules) (now classes) (now vowels) (now decompositions) (now code) (now prepared) × (now out ≡ replicate (length (now out)) 0) ⌝ }
+    requires { ⌜ ReadReady (now rules) (now classes) (now vowels) (now decompositions) (now code) (now text) (now prepared) × (now out ≡ replicate (length (now out)) 0) ⌝ }
     ensures { λ r. ⌜ Reads (mode-in (now (prepared .entry))) (choices-in (now (prepared .entry))) (now (rules .entry)) (now (classes .entry)) (now (vowels .entry))
         (now (decompositions .entry)) (now (code .entry)) (now (text .entry))
         (length (now (slots .entry))) (length (now (room .entry))) (length (now (out .entry))) (returned r (now (out .exit))) ⌝ }
@@ -456,7 +609,7 @@ fn read<'a>(
             decompositions,
             code,
             text,
-            &mut prepared[..words::READY + 2 * (n + 3)],
+            &mut prepared[..words::READY + 2 * (n + utf8::LINE_SPACES)],
             slots,
             room,
             out,
@@ -467,8 +620,140 @@ fn read<'a>(
     }
 }
 
-// The whole call, but for clearing the rooms. What is asked is written into what is prepared before the tables are checked, so
-// that no check has to keep it at hand.
+// What is asked is written into what is prepared, so that no check has to keep it at hand.
+fn put_asked(prepared: &mut [u32], asked: Asked)
+    requires { ⌜ all-ready ≤ length (now prepared) ⌝ }
+    ensures { λ _. ⌜ now (prepared .exit) ≡ asking asked (now (prepared .entry)) ⌝ }
+{
+    prepared[words::CAPITALS] = asked.capitals;
+    prepared[words::O_ANG] = asked.o_ang;
+    prepared[words::READINGS] = asked.readings;
+    prepared[words::MODE] = asked.mode;
+}
+
+// What was asked, from what is prepared.
+fn asked_in(prepared: &[u32]) -> Asked
+    ensures { λ r. ⌜ (r .mode ≡ mode-in (now (prepared .entry))) × (chosen r ≡ choices-in (now (prepared .entry))) ⌝ }
+{
+    let choices = words::choices_in(prepared);
+    Asked {
+        mode: words::mode_in(prepared),
+        capitals: choices.capitals,
+        o_ang: choices.o_ang,
+        readings: choices.readings,
+    }
+}
+
+// The whole call over an output of zeros, in what is prepared for its text, but for clearing the rooms.
+fn respond_in<'a>(
+    rules: &'a [u8],
+    classes: &[u8],
+    vowels: &[u8],
+    decompositions: &[u8],
+    code: &[u8],
+    text: &'a [u8],
+    prepared: &mut [u32],
+    slots: &mut [u8],
+    room: &mut [u8],
+    out: &mut [u8],
+) -> Answer
+    requires { ⌜ RespondReady (now text) (now prepared) × (now out ≡ replicate (length (now out)) 0) ⌝ }
+    ensures { λ r. ⌜ returned r (now (out .exit)) ≡ called (given (mode-in (now (prepared .entry))) (choices-in (now (prepared .entry))) (now (rules .entry))
+        (now (classes .entry)) (now (vowels .entry)) (now (decompositions .entry)) (now (code .entry)) (now (text .entry))
+        (length (now (slots .entry))) (length (now (room .entry))) (length (now (out .entry)))) ⌝ }
+{
+    match check(
+        asked_in(prepared),
+        rules,
+        classes,
+        vowels,
+        decompositions,
+        code,
+        &mut prepared[words::FORMS..words::INDEX],
+    ) {
+        Verdict::Refused(number, place) => refuse(number, place),
+        Verdict::Accepted => read(
+            rules,
+            classes,
+            vowels,
+            decompositions,
+            code,
+            text,
+            prepared,
+            slots,
+            room,
+            out,
+        ),
+    }
+}
+
+// The same for a text of few bytes, in the smaller array.
+fn respond_short<'a>(
+    asked: Asked,
+    rules: &'a [u8],
+    classes: &[u8],
+    vowels: &[u8],
+    decompositions: &[u8],
+    code: &[u8],
+    text: &'a [u8],
+    slots: &mut [u8],
+    room: &mut [u8],
+    out: &mut [u8],
+) -> Answer
+    requires { ⌜ (length (now text) ≤ few-characters) × (now out ≡ replicate (length (now out)) 0) ⌝ }
+    ensures { λ r. ⌜ returned r (now (out .exit)) ≡ called (given (asked .mode) (chosen asked) (now (rules .entry)) (now (classes .entry)) (now (vowels .entry))
+        (now (decompositions .entry)) (now (code .entry)) (now (text .entry)) (length (now (slots .entry))) (length (now (room .entry))) (length (now (out .entry)))) ⌝ }
+{
+    let mut prepared = [0u32; SHORT_PREPARED];
+    put_asked(&mut prepared, asked);
+    respond_in(
+        rules,
+        classes,
+        vowels,
+        decompositions,
+        code,
+        text,
+        &mut prepared,
+        slots,
+        room,
+        out,
+    )
+}
+
+// The same for any text.
+fn respond_long<'a>(
+    asked: Asked,
+    rules: &'a [u8],
+    classes: &[u8],
+    vowels: &[u8],
+    decompositions: &[u8],
+    code: &[u8],
+    text: &'a [u8],
+    slots: &mut [u8],
+    room: &mut [u8],
+    out: &mut [u8],
+) -> Answer
+    requires { ⌜ now out ≡ replicate (length (now out)) 0 ⌝ }
+    ensures { λ r. ⌜ returned r (now (out .exit)) ≡ called (given (asked .mode) (chosen asked) (now (rules .entry)) (now (classes .entry)) (now (vowels .entry))
+        (now (decompositions .entry)) (now (code .entry)) (now (text .entry)) (length (now (slots .entry))) (length (now (room .entry))) (length (now (out .entry)))) ⌝ }
+{
+    let mut prepared = [0u32; LONG_PREPARED];
+    put_asked(&mut prepared, asked);
+    respond_in(
+        rules,
+        classes,
+        vowels,
+        decompositions,
+        code,
+        text,
+        &mut prepared,
+        slots,
+        room,
+        out,
+    )
+}
+
+// The whole call, but for clearing the rooms, in arrays that the text needs.
 fn respond<'a>(
     asked: Asked,
     rules: &'a [u8],
@@ -485,34 +770,32 @@ fn respond<'a>(
         (now (decompositions .entry)) (now (code .entry)) (now (text .entry)) (length (now (slots .entry))) (length (now (room .entry))) (length (now (out .entry)))) ⌝ }
 {
     lent_bytes::clear(out);
-    let mut prepared = [0u32; PREPARED];
-    prepared[words::CAPITALS] = asked.capitals as u32;
-    prepared[words::O_ANG] = asked.o_ang as u32;
-    prepared[words::READINGS] = asked.readings as u32;
-    prepared[words::MODE] = asked.mode as u32;
-    match check(
-        asked,
-        rules,
-        classes,
-        vowels,
-        decompositions,
-        code,
-        &mut prepared[words::FORMS..words::INDEX],
-    ) {
-        Verdict::Refused(number, place) => refuse(number, place),
-        Verdict::Accepted => read(
+    if text.len() <= SHORT {
+        return respond_short(
+            asked,
             rules,
             classes,
             vowels,
             decompositions,
             code,
             text,
-            &mut prepared,
             slots,
             room,
             out,
-        ),
+        );
     }
+    respond_long(
+        asked,
+        rules,
+        classes,
+        vowels,
+        decompositions,
+        code,
+        text,
+        slots,
+        room,
+        out,
+    )
 }
 
 // The call. Answer and output are the definition's `called`; slots and text room are zeros afterwards, whatever happened.
@@ -538,10 +821,10 @@ pub extern "C" fn jettyfig_romanize<'a>(
     ensures room { λ _. ⌜ now (room .exit) ≡ replicate (length (now (room .entry))) 0 ⌝ }
 {
     let asked = Asked {
-        mode,
-        capitals,
-        o_ang,
-        readings,
+        mode: mode as u32,
+        capitals: capitals as u32,
+        o_ang: o_ang as u32,
+        readings: readings as u32,
     };
     let answered = respond(
         asked,

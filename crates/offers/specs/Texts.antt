@@ -317,7 +317,7 @@ module _ {b : Bool} {x : Edge} {r : Rule} {o : Offers} (h : Tells b x r o) where
           by note-alt2 (p .0) (p .2) (alt2-note o k (omega arith) e)
       go (no z) false e = by note-alt3 (there .0) (by-target (there .1) k d (at-target o k (omega arith) e l) l) (alt3-note o k (omega arith) e)
 
--- Each has 68 bytes at most
+-- Each has 204 bytes at most
 abbrev pub Brief : Edge → Type 0
 Brief c = Short most-alternative (c .text)
 

@@ -23,7 +23,7 @@ use edge::Numbers;
 const MOST_OFFERS: usize = 257;
 
 // Bytes of an offered text, at most.
-pub const MOST_OFFER: usize = 68;
+pub const MOST_OFFER: usize = 204;
 
 // What was asked of an edge's span: is it at a start of word, at an end of word, and which row of the rule table is its
 // first? And are end-of-syllable readings chosen?

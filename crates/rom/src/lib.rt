@@ -33,7 +33,7 @@ pub const O_ANG_SIDE: u32 = 0x2efbeee;
 pub const PLUS_BEFORE: u32 = 0x23040;
 
 // Bytes of an edge's text, at most.
-pub const MOST_BYTES: usize = 198;
+pub const MOST_BYTES: usize = 606;
 
 // The text is the first `len` bytes; zeros stand behind it.
 pub struct Rom {

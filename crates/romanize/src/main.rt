@@ -40,8 +40,16 @@ pub struct Chosen {
     pub right: bool,
 }
 
-// The rooms are returned by functions so that `main` knows their lengths alone, and no proof goes through their bytes. Slots
-// and text room are as large as any text can need, and the output holds all edges of any text.
+// What this program holds, on its stack alone: as many slots as any text can need, which are 17 of 12 bytes for each of 4,096
+// characters and of the 18 that a decomposition may have; but not as much text room, which would be 42 million bytes, nor the
+// output of every text.
+const SLOTS: usize = 839256;
+
+const TEXT_ROOM: usize = 1783980;
+
+const OUTPUT: usize = 1793029;
+
+// The rooms are returned by functions so that `main` knows their lengths alone, and no proof goes through their bytes.
 fn rules_room() -> [u8; 1048577] {
     [0u8; 1048577]
 }
@@ -62,16 +70,16 @@ fn text_room() -> [u8; 65536] {
     [0u8; 65536]
 }
 
-fn slots_room() -> [u8; 108120] {
-    [0u8; 108120]
+fn slots_room() -> [u8; SLOTS] {
+    [0u8; SLOTS]
 }
 
-fn edges_room() -> [u8; 1783980] {
-    [0u8; 1783980]
+fn edges_room() -> [u8; TEXT_ROOM] {
+    [0u8; TEXT_ROOM]
 }
 
-fn out_room() -> [u8; 1793029] {
-    [0u8; 1793029]
+fn out_room() -> [u8; OUTPUT] {
+    [0u8; OUTPUT]
 }
 
 fn usage() {
@@ -334,7 +342,7 @@ fn say_text(number: u64) {
     if number == 7 {
         io::write_all(
             STDERR_FILENO,
-            b"the text is longer than 512 characters; so many are taken: ",
+            b"the text is longer than 4,096 characters; so many are taken: ",
         );
         return;
     }
@@ -344,20 +352,30 @@ fn say_text(number: u64) {
     );
 }
 
+// How much of something this program has.
+fn say_held(bytes: usize) {
+    io::write_all(STDERR_FILENO, b" (this program has ");
+    io::print_decimal(STDERR_FILENO, bytes as u64);
+    io::write_all(STDERR_FILENO, b" bytes); ");
+}
+
 // What a refusal for want of room means, and what its place is.
 fn say_room(number: u64) {
     if number == 9 {
-        io::write_all(STDERR_FILENO, b"an edge finds no slot; its start: ");
+        io::write_all(STDERR_FILENO, b"an edge finds no slot");
+        say_held(SLOTS);
+        io::write_all(STDERR_FILENO, b"its start: ");
         return;
     }
     if number == 10 {
-        io::write_all(
-            STDERR_FILENO,
-            b"an edge finds too little text room; its start: ",
-        );
+        io::write_all(STDERR_FILENO, b"an edge finds too little text room");
+        say_held(TEXT_ROOM);
+        io::write_all(STDERR_FILENO, b"its start: ");
         return;
     }
-    io::write_all(STDERR_FILENO, b"the output is too short; bytes needed: ");
+    io::write_all(STDERR_FILENO, b"the output is too short");
+    say_held(OUTPUT);
+    io::write_all(STDERR_FILENO, b"bytes needed: ");
 }
 
 // What a refusal of a choice means, and what its place is.
@@ -393,7 +411,7 @@ fn say_decomposition(number: u64) {
     }
     io::write_all(
         STDERR_FILENO,
-        b"a decomposition's text is longer than 198 bytes; its position in characters: ",
+        b"a decomposition's text is longer than 606 bytes; its position in characters: ",
     );
 }
 
@@ -409,6 +427,11 @@ fn say_meaning(number: u64, place: u64) {
         say_decomposition(number);
     } else if number == 14 {
         say_decomposition(number);
+    } else if number == 19 {
+        io::write_all(
+            STDERR_FILENO,
+            b"the listing's rows are more than 4,294,967,295 bytes; place ",
+        );
     } else {
         say_choice(number);
     }

@@ -18,7 +18,7 @@ pub const MOST_CODES: u32 = 8;
 
 pub const MOST_ALTERNATIVES: u32 = 8;
 
-pub const MOST_TARGET: u32 = 64;
+pub const MOST_TARGET: u32 = 200;
 
 // The bit of its flags that stays 0.
 const ZERO_BIT: u32 = 7;

@@ -12,6 +12,7 @@ use Rattle.base.specs.Big.{be3}
 use Rattle.base.specs.Bits.{flagged}
 use Rattle.base.specs.Lists.{all}
 use Rattle.base.specs.Rows.{counted}
+use Rattle.definition.specs.Limits.{most-target}
 use Rattle.definition.specs.Texts.{Text}
 use Rattle.definition.specs.Utf8.{scalar}
 use Rattle.definition.specs.RuleRows.{codes-count-from, codes-from, codes-right-from, end-target-from, end-target-right-from, fits-from, others-from, target-from, target-right-from}
@@ -30,7 +31,7 @@ pub record Plain (low : ℕ) (s : List ℕ) (row past : ℕ) : Type 0 where
   pub one : source-count s ≡ 1
   pub codes : getD s 9 0 ≡ 0
   pub flags : getD s 2 0 / 32 ≡ 1
-  pub most : getD s 10 0 ≤ 64
+  pub most : getD s 10 0 ≤ most-target
   pub others : getD s (11 + getD s 10 0) 0 ≡ 0
   pub least : low ≤ be3 s 6
   pub char : scalar (be3 s 6) ≡ true
@@ -95,7 +96,7 @@ module _ (low : ℕ) (s : List ℕ) (row past : ℕ) (p : Plain low s row past) 
   targeted : target-right s ≡ true
   unfolding target-right-from text-right text-of
   targeted =
-      rw (on, target-place, sym (byte-there s 10), drop-drop 1 10 s, le-leb (getD s 10 0) 64 (p .most)) (p .bytes)
+      rw (on, target-place, sym (byte-there s 10), drop-drop 1 10 s, le-leb (getD s 10 0) most-target (p .most)) (p .bytes)
 
   ended : end-target-right s ≡ true
   unfolding end-target-right-from
@@ -116,7 +117,7 @@ not-plain e = absurd (omega arith)
 -- a row is plain where the tests say so, each of what was read
 module _ (b : List ℕ) (row low n c : ℕ) where
   pub told : n ≡ getD (drop row b) 10 0 → 12 + n ≤ length b - row → rule-size (drop row b) ≡ 12 + n
-      → source-count (drop row b) ≡ 1 → getD (drop row b) 9 0 ≡ 0 → getD (drop row b) 2 0 / 32 ≡ 1 → n ≤ 64
+      → source-count (drop row b) ≡ 1 → getD (drop row b) 9 0 ≡ 0 → getD (drop row b) 2 0 / 32 ≡ 1 → n ≤ most-target
       → getD (drop row b) (11 + n) 0 ≡ 0 → low ≤ c → c ≡ be3 (drop row b) 6 → c < 0xD800
       → (from to : ℕ) → from ≡ row + 11 → to ≡ from + n
       → true ≡ all printable (take (to - from) (drop from b)) → Plain low (drop row b) row (to + 1)

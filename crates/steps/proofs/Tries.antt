@@ -34,7 +34,7 @@ use Rattle.steps.specs.declared.Tried.{Tried}
 use Rattle.steps.specs.Works.{work-in, Tries, first-of, framed-by, before-by}
 use Rattle.steps.proofs.Letters.{first-passes, no-consonant}
 
--- a target has 64 bytes at most
+-- a target has 200 bytes at most
 pub said-short : (rules : List ℕ) (x : Chosen) → Said rules x → length (or-nothing (chosen-means rules x)) ≤ most-target
 unfolding rule-of text-where pick
 said-short rules (Target row) h =

@@ -38,7 +38,7 @@ module _ (s : List ℕ) where
     too-long h = rw (right, ← counted, lt-ltb most-characters n h)
 
     -- the characters that were put in front are those that were asked
-    module _ (l w : List ℕ) (long : length l ≡ most-characters) (own : w ≡ puts 0 (decoded s) l)
+    module _ (l w : List ℕ) (long : n ≤ length l) (own : w ≡ puts 0 (decoded s) l)
         (h : n ≤ most-characters) (f : Found) (asked : found-means f ≡ first-left-out 0 (take n w)) where
       found : first-left-out 0 (decoded s) ≡ found-means f
       found =

@@ -9,6 +9,9 @@ use borrow.Rule.Slice.PartMut.{putMid, midOf, same-len-mid}
 use Rattle.definition.specs.Texts.{Text, the-space}
 use Rattle.utf8.specs.Puts.{puts, puts-length, puts-front}
 
+abbrev pub line-spaces : ℕ
+line-spaces = 3
+
 unfoldable pub spaced : Text → List ℕ
 spaced t = the-space ∷ (t ++ the-space ∷ the-space ∷ [])
 

@@ -13,6 +13,7 @@ use Rattle.base.specs.Lists.{or-else, first-of}
 use Rattle.definition.specs.Limits.{most-characters}
 use Rattle.definition.specs.Utf8.{Read, char, bad, bad-sequence, decoded}
 use Rattle.definition.specs.Refusals.{Refusal, refuse, when, placed, refused-utf8, refused-too-long, refused-left-out}
+use Rattle.definition.specs.Utf8Turns.{decoded-few}
 use Rattle.definition.specs.Call.{text-refusal}
 use Rattle.utf8.specs.declared.CharRead.{CharRead}
 use Rattle.utf8.specs.declared.CharRead.the-variants.{Char, Bad}
@@ -60,6 +61,17 @@ pub answered-good : (s : List ℕ) (n : ℕ) → answered s ≡ Characters n
     → (bad-sequence s ≡ none) × (n ≡ length (decoded s))
 unfolding answered
 answered-good s n e = good-answer (bad-sequence s) (length (decoded s)) n e
+
+-- So many places are enough for a text's characters, unless these are too many
+abbrev pub Roomy : List ℕ → ℕ → Type 0
+Roomy s places = length (decoded s) ≤ most-characters → length (decoded s) ≤ places
+
+-- as many as the most characters are, and as many as the text has bytes
+pub roomy-most : (s : List ℕ) (places : ℕ) → most-characters ≤ places → Roomy s places
+roomy-most s places l h = omega arith
+
+pub roomy-bytes : (s : List ℕ) (places : ℕ) → length s ≤ places → Roomy s places
+roomy-bytes s places l h = omega (arith, decoded-few s)
 
 -- the refusal of a text
 unfoldable pub text-means : TextRead → Option Refusal

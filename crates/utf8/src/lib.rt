@@ -1,20 +1,19 @@
 // UTF-8 by RFC 3629: a text's bytes as characters, and a character's bytes.
 ghost use mathlib.Core.Path.{_≡_};
-ghost use Prim.Native.Nat.{ℕ, _+_, _<_, _≤_};
+ghost use Prim.Native.Nat.{ℕ, _+_, _-_, _<_, _≤_};
 ghost use lib.ListN.{length, take, drop, set};
-ghost use Rattle.definition.specs.Limits.{most-characters};
 ghost use Rattle.definition.specs.Utf8.{six, read, decoded, encode, sequence, checked};
 ghost use Rattle.definition.specs.Texts.{left-out};
 ghost use Rattle.definition.specs.Call.{first-left-out, text-refusal};
-ghost use Rattle.utf8.specs.Read.{char-means, found-means, answered, text-means};
+ghost use Rattle.utf8.specs.Read.{char-means, found-means, answered, text-means, Roomy};
 ghost use Rattle.utf8.specs.Puts.{puts};
-ghost use Rattle.utf8.specs.Lines.{spaced};
+ghost use Rattle.utf8.specs.Lines.{line-spaces, spaced};
 
 // Characters of a text, at most.
-pub const MOST_CHARACTERS: usize = 512;
+pub const MOST_CHARACTERS: usize = 4096;
 
-// A text between spaces, at most: one before it and two after it.
-pub const MOST_LINE: usize = MOST_CHARACTERS + 3;
+// The spaces that a text stands between: one before it and two after it.
+pub const LINE_SPACES: usize = 3;
 
 // What the first sequence of some bytes is.
 pub enum CharRead {
@@ -240,9 +239,9 @@ pub fn first_left_out(chars: &[u32]) -> Found
     Found::Nothing
 }
 
-// What a call needs of its text: the characters, or its refusal.
+// What a call needs of its text: the characters, or its refusal. There is room for all characters of a text that is not too long.
 pub fn read_text(text: &[u8], chars: &mut [u32]) -> TextRead
-    requires { ⌜ length (now chars) ≡ most-characters ⌝ }
+    requires { ⌜ Roomy (now text) (length (now chars)) ⌝ }
     ensures refusal { λ r. ⌜ text-means r ≡ text-refusal (now (text .entry)) ⌝ }
     ensures count { λ r. ⌜ ((n : ℕ) → r ≡ TextRead.Characters n → n ≡ length (decoded (now (text .entry)))) ⌝ }
     ensures room { λ _. ⌜ now (chars .exit) ≡ puts 0 (decoded (now (text .entry))) (now (chars .entry)) ⌝ }
@@ -270,12 +269,13 @@ pub fn read_text(text: &[u8], chars: &mut [u32]) -> TextRead
 // What a call needs of its text, with the text between spaces: one before it and two after it, so that a reader need not ask for its ends. Of
 // a text that is refused nothing is said of the line.
 pub fn read_line(text: &[u8], line: &mut [u32]) -> TextRead
-    requires { ⌜ most-characters + 3 ≤ length (now line) ⌝ }
+    requires { ⌜ (line-spaces ≤ length (now line)) × Roomy (now text) (length (now line) - line-spaces) ⌝ }
     ensures refusal { λ r. ⌜ text-means r ≡ text-refusal (now (text .entry)) ⌝ }
     ensures count { λ r. ⌜ ((n : ℕ) → r ≡ TextRead.Characters n → n ≡ length (decoded (now (text .entry)))) ⌝ }
-    ensures line { λ r. ⌜ ((n : ℕ) → r ≡ TextRead.Characters n → take (n + 3) (now (line .exit)) ≡ spaced (decoded (now (text .entry)))) ⌝ }
+    ensures line { λ r. ⌜ ((n : ℕ) → r ≡ TextRead.Characters n → take (n + line-spaces) (now (line .exit)) ≡ spaced (decoded (now (text .entry)))) ⌝ }
 {
-    let read = read_text(text, &mut line[1..1 + MOST_CHARACTERS]);
+    let end = line.len() - 2;
+    let read = read_text(text, &mut line[1..end]);
     match read {
         TextRead::Characters(n) => {
             line[0] = 0x20;

@@ -1,4 +1,4 @@
--- `expand::put_small`: a target has 64 bytes at most, and one letter goes.
+-- `expand::put_small`: a target has 200 bytes at most, and one letter goes.
 use mathlib.Core.List.{_++_}
 use mathlib.Core.Path.{refl, ap, _∙_}
 use Prim.Native.Nat.{_≤_, _<_}

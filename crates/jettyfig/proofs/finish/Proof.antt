@@ -127,7 +127,7 @@ returns c =
     λ vowels bytes w f.
     let i = given (m .mode-in .result) (w .choices) (now (a .rules)) (w .classes) vowels bytes (now (a .code)) (now (a .text))
     (length (now (a .slots))) (length (now (a .room))) (length (now (a .out))) in
-    second-shown f x y (table-ready h x y) (m .mode-in .result) (now (a .text)) (second b _ (g .1)) (length (now (a .out))) _ (s .show .ensures i refl)
+    second-shown f x y (table-ready h x y) (m .mode-in .result) (now (a .text)) (second b _ (g .1)) (length (now (a .out))) _ (s .show .ensures i refl refl)
     ∙ ap (λ (n : ℕ). accepted (given n (w .choices) (now (a .rules)) (w .classes) vowels bytes (now (a .code)) (now (a .text))
     (length (now (a .slots))) (length (now (a .room))) (length (now (a .out)))) (tables-of (w .choices) (now (a .rules)) (w .classes) vowels (now (a .code))) (w .text)) (is-mode m)
 

@@ -32,11 +32,15 @@ module _ (c : tie.After-known-told) where
       let r = c .before .before .before .before .before .read-line in
       omega (arith, counted, few-read text (r .result) n (c .before .read .given .1) (r .ensures .0))
 
-  full : length line ≡ 2 * (most-characters + 3)
-  full = c .before .before .before .before .before .read-line .kept .1 .0 ∙ c .before .before .before .before .before .before .before .before .before .before .pre .1
+  full : 2 * (n + 3) ≤ length line
+  full =
+      let s = c .before .before .before .before .before .before .before .before .before .before in
+      omega (arith, counted, c .before .before .before .before .before .read-line .kept .1 .0, s .pre .1 .1 (omega (arith, counted, few)))
 
 read-line-requires : tie.Need-read-line-requires
-read-line-requires c κs = search needs
+read-line-requires c κs =
+    let r = c .before .before .before .before .pre .1 in
+    (omega (arith, r .0), λ h. omega (arith, r .1 h))
 
 enum-known-read : tie.Need-enum-known-read
 enum-known-read c = search needs
@@ -54,7 +58,7 @@ slice-relend-prefix-classify c = omega (arith, few c, full c)
 lent : (c : tie.After-known-told) → length (take (2 * (n c + 3)) (line c)) ≡ 2 * (n c + 3)
 lent c =
     let r = c .before .before .before .before .before .read-line in
-    lent-length (line c) (decoded (text c)) (n c) (full c) (few c) (r .ensures .1 .1 (n c) (c .before .read .given .1))
+    lent-length (line c) (decoded (text c)) (n c) (full c) (r .ensures .1 .1 (n c) (c .before .read .given .1))
 
 slice-aggregate-classify : tie.Need-slice-aggregate-classify
 slice-aggregate-classify c = sym (lent (c .before))
@@ -88,7 +92,7 @@ returns c =
             sym j ∙ counted k,
             subst (λ (i : ℕ). i ≤ most-characters) j (few k),
             ap (λ (i : ℕ). take (2 * (i + 3)) (x .last .1 .0 ++ drop (2 * (n k + 3)) (line k))) (sym j)
-                ∙ laid-out (line k) (decoded (text k)) (n k) (full k) (few k) (r .ensures .1 .1 (n k) e) classes (x .last .1 .0) (x .ensures),
+                ∙ laid-out (line k) (decoded (text k)) (n k) (full k) (r .ensures .1 .1 (n k) e) classes (x .last .1 .0) (x .ensures),
           ),
     )
 

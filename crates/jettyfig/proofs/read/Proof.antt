@@ -1,7 +1,7 @@
 -- `jettyfig::read`: the text's refusal, or what is prepared of it.
 use Prim.Native.Nat.{ℕ, _+_, _*_, _≤_}
 use mathlib.Core.List.{List}
-use mathlib.Core.Path.{sym, ap, _∙_}
+use mathlib.Core.Path.{sym, ap, _∙_, subst}
 use native.Mathlib.Omega.{arith}
 use lib.ListN.{length, length-drop}
 use lib.Seq.{length-take-le}
@@ -15,6 +15,7 @@ use Rattle.definition.specs.Call.{Inputs, Called, tables, tables-of, characters
 use Rattle.utf8.specs.Read.{text-means}
 use Rattle.words.specs.Given.{mode-in, choices-in, all-ready}
 use Rattle.jettyfig.specs.Verdicts.{given, returned, passed, nothing-refused}
+use Rattle.jettyfig.specs.Steps.{LineRoom}
 use Rattle.jettyfig.specs.Calls.{as-refused, read-refused, read-right}
 use Rattle.jettyfig.proofs.Parts.{cut, whole, whole-long, cut-mode, cut-choices, cut-line, cut-blank}
 use borrow.Author.Needs.{needs}
@@ -52,7 +53,7 @@ lay-out-requires c κs =
     let P = now (a .prepared) in
     let r = s .pre .0 in (
       passed (mode-in P) (choices-in P) (now (a .rules)) (now (a .classes)) (now (a .vowels)) (now (a .decompositions)) (now (a .code)) (r .passed) .classes,
-      omega (arith, ap length (lent-end P all-ready), length-drop all-ready P, r .whole),
+      subst (LineRoom (now (a .text))) (sym (ap length (lent-end P all-ready) ∙ length-drop all-ready P)) (r .room),
     )
 
 enum-known-n : tie.Need-enum-known-n
@@ -73,10 +74,19 @@ module _ (c : tie.After-known-told) where
   few = laid c .lay-out .ensures .1 n (c .before .n .given .1) .1
 
   long : all-ready ≤ length old
-  long = omega (arith, start (laid c) .pre .0 .whole)
+  long = start (laid c) .pre .0 .blank .long
 
   room : 2 * (n + 3) ≤ length line
-  room = omega (arith, few, laid c .lay-out .kept .1 .1 .0, ap length (lent-end old all-ready), length-drop all-ready old, start (laid c) .pre .0 .whole)
+  room =
+      let k = laid c .lay-out .ensures .1 n (c .before .n .given .1) .0 in
+      omega (
+        arith,
+        k,
+        laid c .lay-out .kept .1 .1 .0,
+        ap length (lent-end old all-ready),
+        length-drop all-ready old,
+        start (laid c) .pre .0 .room .1 (omega (arith, k, few)),
+      )
 
 add-prepare : tie.Need-add-prepare
 add-prepare c = omega (arith, few c)

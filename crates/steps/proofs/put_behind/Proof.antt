@@ -1,4 +1,4 @@
--- `steps::put_behind`: a target has 64 bytes at most.
+-- `steps::put_behind`: a target has 200 bytes at most.
 use mathlib.Core.Bool.{true≢false}
 use mathlib.Core.List.{_++_}
 use mathlib.Core.Path.{refl, sym, ap, _∙_}

@@ -1,9 +1,10 @@
 -- `utf8::read_line`: the middle of the line is lent, and comes back with the text; then the spaces are put.
-use Prim.Native.Nat.{ℕ, _+_, _≤_}
+use Prim.Native.Nat.{ℕ, _+_, _-_, _≤_}
 use mathlib.Core.List.{List}
 use mathlib.Core.Path.{_≡_, sym, ap, _∙_}
 use native.Mathlib.Omega.{arith}
-use lib.ListN.{length, take, set, length-set}
+use lib.ListN.{length, take, drop, set, length-set, length-drop}
+use lib.Seq.{length-take-le}
 use borrow.Rule.Slice.PartMut.{putMid}
 use denote.Ref.{now}
 use Rattle.definition.specs.Limits.{most-characters}
@@ -29,18 +30,23 @@ module _ (c : tie.After-known-told) where
   -- the line with what has come back
   abbrev came : List ℕ
   came =
-      putMid 1 most-characters (now (c .before .before .before .before .before .before .before .before .before .args .line))
+      putMid 1 (length (now (c .before .before .before .before .before .before .before .before .before .args .line)) - 2 - 1) (now (c .before .before .before .before .before .before .before .before .before .args .line))
       (c .before .before .before .before .before .read-text .last .1 .0)
 
-  as-long : most-characters + 3 ≤ length came
+  -- has room for the text and the spaces
+  enough : n + 3 ≤ length (now (c .before .before .before .before .before .before .before .before .before .args .line))
+  enough =
+      let a = c .before .before .before .before .before .before .before .before .before in
+      omega (arith, few .0, a .pre .0, a .pre .1 (omega (arith, few)))
+
+  as-long : n + 3 ≤ length came
   as-long =
       let a = c .before .before .before .before .before .before .before .before .before in
       let r = c .before .before .before .before .before .read-text in
-      let p = a .pre in
-      omega (arith, p, lent-length (decoded (now (a .args .text))) (now (a .args .line)) (r .last .1 .0) most-characters (r .ensures .1 .1))
+      omega (arith, enough, lent-length (decoded (now (a .args .text))) (now (a .args .line)) (r .last .1 .0) (length (now (a .args .line)) - 2 - 1) (r .ensures .1 .1))
 
-add-read-text : tie.Need-add-read-text
-add-read-text c = search needs
+sub-end : tie.Need-sub-end
+sub-end c = search needs
 
 sub-read-text : tie.Need-sub-read-text
 sub-read-text c = search needs
@@ -52,7 +58,10 @@ part-read-text-end : tie.Need-part-read-text-end
 part-read-text-end c = search needs
 
 read-text-requires : tie.Need-read-text-requires
-read-text-requires c κs = search needs
+read-text-requires c κs h =
+    let a = c .before .before .before in
+    let l = now (a .args .line) in
+    omega (arith, a .pre .0, a .pre .1 h, length-take-le (length l - 2 - 1) (drop 1 l) (omega (arith, length-drop 1 l)))
 
 enum-known-read : tie.Need-enum-known-read
 enum-known-read c = search needs
@@ -103,8 +112,8 @@ returns c =
         λ m q.
             let k : n c ≡ m = cc in
             ap (λ (i : ℕ). take (i + 3) (set (set (set (came c) 0 32) (n c + 1) 32) (n c + 2) 32)) (sym k)
-            ∙ spaced-is (decoded (now (a .args .text))) (now (a .args .line)) (r .last .1 .0) (n c) most-characters
-            (few c .0) (few c .1) (a .pre) (r .ensures .1 .1),
+            ∙ spaced-is (decoded (now (a .args .text))) (now (a .args .line)) (r .last .1 .0) (n c) (length (now (a .args .line)) - 2 - 1)
+            (few c .0) (omega (arith, enough c)) (omega (arith, enough c)) (r .ensures .1 .1),
       ),
     )
 
@@ -139,7 +148,7 @@ pub read-line-spec : {M : Type 1} → statement M
 read-line-spec =
     tie.close
     (tie.spec
-    add-read-text
+    sub-end
     sub-read-text
     part-read-text-start
     part-read-text-end

@@ -4,6 +4,7 @@ use mathlib.Core.Path.{_≡_, refl, sym, _∙_}
 use mathlib.Core.List.{List}
 use Prim.Native.Nat.{ℕ, _≤_}
 use native.Mathlib.Omega.{arith}
+use lib.ListN.{length}
 use lib.Seq.{length-take-le}
 use denote.Ref.{now}
 use borrow.Author.Needs.{needs}
@@ -16,11 +17,8 @@ use Rattle.utf8.proofs.Answers.{not-utf8, counted, too-long, left, take
 use Rattle.utf8.proofs.read_text.Statement.{statement}
 use Rattle.utf8.proofs.read_text.Tie as tie
 
--- where `first_left_out` was asked: the text has `n` characters, which stand in `w`, and before that `l` was lent
-module _ (f : tie.After-first-left-out) where
-  abbrev asked : tie.Else1
-  asked = f .before .before
-
+-- where the text is not too long: it has `n` characters, which stand in `w`, and before that `l` was lent
+module _ (asked : tie.Else1) where
   abbrev answer : tie.After-decode
   answer = asked .before .before .before .before .before .before
 
@@ -47,6 +45,9 @@ module _ (f : tie.After-first-left-out) where
 
   few : n ≤ most-characters
   few = omega arith
+
+  long : n ≤ length l
+  long = let k = counted s n whole in omega (arith, k, start .pre (omega (arith, k, few)))
 
 decode-requires : tie.Need-decode-requires
 decode-requires c κs = search needs
@@ -78,12 +79,11 @@ returns-2 c =
     )
 
 slice-reshare-prefix-first-left-out : tie.Need-slice-reshare-prefix-first-left-out
-slice-reshare-prefix-first-left-out c = search needs
+slice-reshare-prefix-first-left-out c = omega (arith, long c, answer c .decode .kept .1 .0)
 
 slice-aggregate-first-left-out : tie.Need-slice-aggregate-first-left-out
 slice-aggregate-first-left-out c =
-    let d = c .before .before .before .before .before .before .before .decode in
-    sym (length-take-le (c .before .before .before .n .given .0 .0) (d .last .1 .0) (omega arith))
+    sym (length-take-le (n (c .before)) (w (c .before)) (omega (arith, long (c .before), answer (c .before) .decode .kept .1 .0)))
 
 first-left-out-requires : tie.Need-first-left-out-requires
 first-left-out-requires c κs = search needs
@@ -97,8 +97,9 @@ same-length-3 c = search needs
 returns-3 : tie.Need-returns-3
 unfolding text-means
 returns-3 c =
-    let f = c .before .before .before in (
-      left (s f) (n f) (whole f) (l f) (w f) (start f .pre) (own f) (few f) _ (f .first-left-out .ensures) _
+    let g = c .before .before .before in
+    let f = g .before .before in (
+      left (s f) (n f) (whole f) (l f) (w f) (long f) (own f) (few f) _ (g .first-left-out .ensures) _
           (c .before .i .given .1),
       (no-count _ _ refl _, own f),
     )
@@ -111,8 +112,9 @@ same-length-4 c = search needs
 
 returns-4 : tie.Need-returns-4
 returns-4 c =
-    let f = c .before .before in (
-      taken (s f) (n f) (whole f) (l f) (w f) (start f .pre) (own f) (few f) _ (f .first-left-out .ensures)
+    let g = c .before .before in
+    let f = g .before .before in (
+      taken (s f) (n f) (whole f) (l f) (w f) (long f) (own f) (few f) _ (g .first-left-out .ensures)
           (c .enum-told .given .1),
       (own-count _ _ (counted _ _ (whole f)), own f),
     )
