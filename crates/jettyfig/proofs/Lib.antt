@@ -3,3 +3,4 @@ pub mod Prepared
 pub mod Wholes
 pub mod Finished
 pub mod Firsts
+pub mod Setting

@@ -20,7 +20,7 @@ use Rattle.words.specs.Given.{letters-in, choices-in, mode-in, form-entries, fo
 use Rattle.jettyfig.specs.declared.Asked.{Asked}
 use Rattle.jettyfig.specs.Verdicts.{choose, chosen}
 use Rattle.jettyfig.specs.Calls.{drop-zeros}
-use Rattle.jettyfig.specs.Steps.{with-kinds, LineRoom, asking, RespondReady, Blank, MadeReady}
+use Rattle.jettyfig.specs.Steps.{with-kinds, LineRoom, asking, Fresh, Blank, MadeReady}
 
 -- all choices
 chosen-by : {a b c d m n : ℕ} → a ≡ b → c ≡ d → m ≡ n → choose a c m ≡ choose b d n
@@ -161,11 +161,14 @@ module _ (old line : List ℕ) (long : all-ready ≤ length old) (k : ℕ) (h : 
   pub cut-line : line-in cut ≡ take k line
   cut-line = ap line-in cut-is ∙ stays-behind old all-ready long (take k line)
 
+  pub cut-forms : forms-in cut ≡ forms-in old
+  cut-forms = ap forms-in cut-is ∙ stays-part old all-ready long (take k line) forms-from form-entries (omega arith)
+
   pub cut-blank : (decompositions : List ℕ) → Blank decompositions old → Blank decompositions cut
   cut-blank decompositions b = record {
     long = omega (arith, length-take-le (all-ready + k) whole whole-long);
     zeros = ap (λ (l : List ℕ). take all-places (drop index-from l)) cut-is ∙ stays-part old all-ready long (take k line) index-from all-places (omega arith) ∙ b .zeros;
-    forms = ap forms-in cut-is ∙ stays-part old all-ready long (take k line) forms-from form-entries (omega arith) ∙ b .forms;
+    forms = cut-forms ∙ b .forms;
   }
 
 -- What is made ready is cut off: its parts are there
@@ -250,7 +253,7 @@ module _ (a : Asked) (text : List ℕ) (room : ℕ) (h : LineRoom text room) whe
   pub enough : all-ready ≤ length zeros
   enough = omega (arith, zeros-long)
 
-  pub fresh : RespondReady text (asking a zeros)
+  pub fresh : Fresh text (asking a zeros)
   fresh = record {
     long = omega (arith, asking-long a zeros enough, enough);
     zeros = ap (take (form-entries + all-places)) (asking-behind a zeros enough ∙ drop-zeros forms-from (all-ready + room))
@@ -259,7 +262,7 @@ module _ (a : Asked) (text : List ℕ) (room : ℕ) (h : LineRoom text room) whe
   }
 
 -- The index of the decomposition table is lent from what is prepared, and has come back
-module _ {text : List ℕ} (old : List ℕ) (h : RespondReady text old) where
+module _ {text : List ℕ} (old : List ℕ) (h : Fresh text old) where
   pub forms-lent : midOf forms-from form-entries old ≡ replicate form-entries 0
   forms-lent = sym (take-take form-entries (form-entries + all-places) (drop forms-from old) (omega arith)) ∙ ap (take form-entries) (h .zeros)
 

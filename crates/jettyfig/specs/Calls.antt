@@ -99,26 +99,27 @@ module _ {ks : List Class} {n : ℕ} {S R S′ R′ P′ : List ℕ} {most : ℕ
   pub reached-sound : (k : ℕ) → All (Sound k) (st .0) → All (Sound k) (edges-of R′ c S′)
   reached-sound k h = subst (All (Sound k)) (sym (b .came .0 .edges)) h
 
--- What is read, and what is checked before
+-- What is refused before any edge is built: of mode, choices, tables and code, or else of the text
 module _ (i : Inputs) where
   abbrev first : Option Refusal
   first = before-text (i .mode) (i .choices) (i .rules) (i .classes) (i .vowels) (i .decompositions) (i .code)
 
-  pub read-refused : (x : Refusal) → text-refusal (i .text) ≡ some x → refused i x ≡ unless-refused i (text-refusal (i .text))
-  unfolding unless-refused
-  read-refused x e = sym (ap (unless-refused i) e)
+  pub first-refused : (x : Refusal) → first ≡ some x → refusal i ≡ some x
+  unfolding refusal
+  first-refused x e = ap (λ o. or-else o (text-refusal (i .text))) e
 
-  pub read-right : text-refusal (i .text) ≡ none → accepted i (tables i) (characters i) ≡ unless-refused i (text-refusal (i .text))
-  unfolding unless-refused
-  read-right e = sym (ap (unless-refused i) e)
+  pub then-text : first ≡ none → refusal i ≡ text-refusal (i .text)
+  unfolding refusal
+  then-text e = ap (λ o. or-else o (text-refusal (i .text))) e
 
-  pub check-refused : (x : Refusal) → first ≡ some x → refused i x ≡ called i
-  unfolding called unless-refused refusal
-  check-refused x e = sym (ap (unless-refused i) (ap (λ o. or-else o (text-refusal (i .text))) e))
+  -- and so the call
+  pub call-refused : (x : Refusal) → refusal i ≡ some x → refused i x ≡ called i
+  unfolding called unless-refused
+  call-refused x e = sym (ap (unless-refused i) e)
 
-  pub check-right : first ≡ none → unless-refused i (text-refusal (i .text)) ≡ called i
-  unfolding called refusal
-  check-right e = sym (ap (unless-refused i) (ap (λ o. or-else o (text-refusal (i .text))) e))
+  pub call-accepted : refusal i ≡ none → accepted i (tables i) (characters i) ≡ called i
+  unfolding called unless-refused
+  call-accepted e = sym (ap (unless-refused i) e)
 
 -- Any two results that the call's contract admits coincide
 abbrev answer-of : Called → Answer

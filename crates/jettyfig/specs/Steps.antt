@@ -1,19 +1,20 @@
 -- What the steps of a call are lent, and what they promise: of every world that the line and what was made ready stand for.
 use Prim.Native.Nat.{ℕ, _+_, _-_, _*_, _≤_}
 use mathlib.Core.List.{List, [], _++_}
-use mathlib.Core.Option.{none}
+use mathlib.Core.Option.{none, some}
 use mathlib.Core.Path.{_≡_}
 use lib.ListN.{length, take, drop, set, replicate}
 use Rattle.definition.specs.Limits.{most-mode, most-characters, most-edges, most-bytes, ascii-characters}
 use Rattle.definition.specs.Texts.{Text}
-use Rattle.definition.specs.Tables.{Choices}
 use Rattle.definition.specs.Building.{each}
 use Rattle.definition.specs.Decomposing.{start}
 use Rattle.definition.specs.DecompositionRows.{decompositions-of}
 use Rattle.definition.specs.Listing.{shown}
 use Rattle.definition.specs.Utf8.{decoded}
-use Rattle.definition.specs.Call.{Inputs, Called, tables-of, written, accepted, unless-refused}
-use Rattle.definition.specs.Call.{before-text, text-refusal, refusal}
+use Rattle.definition.specs.Refusals.{refuse}
+use Rattle.definition.specs.ClassRows.{class-fault}
+use Rattle.definition.specs.RuleFaults.{rule-fault}
+use Rattle.definition.specs.Call.{Inputs, Called, tables-of, written, accepted, text-refusal, refusal}
 use Rattle.utf8.specs.Lines.{line-spaces, spaced}
 use Rattle.table_classes.specs.Told.{kinds-of, alphas-of}
 use Rattle.table_vowels.specs.Told.{FineVowels}
@@ -34,6 +35,8 @@ use Rattle.decomp.specs.Grown.{GrewTo}
 use Rattle.decomp_pass.specs.Passes.{Begins}
 use Rattle.output.specs.declared.Built.{Built}
 use Rattle.jettyfig.specs.declared.Asked.{Asked}
+use Rattle.jettyfig.specs.declared.SetUp.{SetUp}
+use Rattle.jettyfig.specs.declared.SetUp.the-variants as SetUp
 use Rattle.jettyfig.specs.Verdicts.{given}
 
 -- characters of a short text, at most
@@ -55,7 +58,7 @@ asking a l =
     (a .mode)
 
 -- What is prepared before the tables are checked: nothing behind what was asked, and room for the text
-pub record RespondReady (text prepared : List ℕ) : Type 0 where
+pub record Fresh (text prepared : List ℕ) : Type 0 where
   pub long : all-ready ≤ length prepared
   pub zeros : take (form-entries + all-places) (drop forms-from prepared) ≡ replicate (form-entries + all-places) 0
   pub room : LineRoom text (length prepared - all-ready)
@@ -67,17 +70,13 @@ pub record Blank (decompositions prepared : List ℕ) : Type 0 where
   pub zeros : take all-places (drop index-from prepared) ≡ replicate all-places 0
   pub forms : forms-in prepared ≡ index-of decompositions
 
--- the tables and the code have passed, and the line has room for the text
-pub record ReadReady (rules classes vowels decompositions code text prepared : List ℕ) : Type 0 where
-  pub passed : before-text (mode-in prepared) (choices-in prepared) rules classes vowels decompositions code ≡ none
+-- the tables have passed, and the line has room for the text
+pub record TextReady (rules classes text prepared : List ℕ) : Type 0 where
+  pub ruled : rule-fault rules ≡ none
+  pub classed : class-fault classes ≡ none
+  pub decompositions : List ℕ
   pub blank : Blank decompositions prepared
   pub room : LineRoom text (length prepared - all-ready)
-
--- and the text, whose line stands there
-pub record PrepareReady (rules classes vowels decompositions code text prepared : List ℕ) : Type 0 where
-  pub passed : refusal (given (mode-in prepared) (choices-in prepared) rules classes vowels decompositions code text 0 0 0) ≡ none
-  pub blank : Blank decompositions prepared
-  pub line : line-in prepared ≡ with-kinds classes (decoded text)
 
 -- What was made ready of it
 pub record MadeReady (rules classes before after : List ℕ) : Type 0 where
@@ -88,6 +87,26 @@ pub record MadeReady (rules classes before after : List ℕ) : Type 0 where
   pub index : Kept rules (take all-places (drop index-from after))
   pub line : line-in after ≡ line-in before
   pub long : length after ≡ length before
+
+-- and of a text, whose line stands there
+pub record TextMade (rules classes text before prepared : List ℕ) : Type 0 where
+  pub letters : letters-in prepared ≡ alphas-of classes
+  pub choices : choices-in prepared ≡ choices-in before
+  pub mode : mode-in prepared ≡ mode-in before
+  pub forms : forms-in prepared ≡ forms-in before
+  pub index : Kept rules (take all-places (drop index-from prepared))
+  pub line : line-in prepared ≡ with-kinds classes (decoded text)
+  pub long : all-ready ≤ length prepared
+
+-- so much of what is prepared is used for a text of `n` characters
+abbrev pub used-for : ℕ → ℕ
+used-for n = all-ready + 2 * (n + line-spaces)
+
+-- a text that is not refused is set up; or there is its refusal
+abbrev pub TextSet : List ℕ → List ℕ → List ℕ → List ℕ → List ℕ → SetUp → Type 0
+TextSet rules classes text before after (SetUp.Ready n) =
+    (text-refusal text ≡ none) × (n ≤ most-characters) × (used-for n ≤ length after) × TextMade rules classes text before (take (used-for n) after)
+TextSet rules classes text before after (SetUp.Refused k p) = text-refusal text ≡ some (refuse k p)
 
 -- The first pass has answered in a world over what was lent, with some vowel and decomposition table: the state that it leads to
 -- from no edges is kept, and nothing has overflowed; or there is its refusal
@@ -166,11 +185,19 @@ Romanizes rules prepared classes vowels decompositions code text slots room out 
     → r ≡ accepted (given (mode-in (ready-in prepared)) (w .choices) rules (w .classes) vowels decompositions code text slots room out)
     (tables-of (w .choices) rules (w .classes) vowels code) (w .text)
 
--- the same in terms of the call, whose tables and text are right; and of one whose text may be refused
-abbrev pub Prepares : ℕ → Choices → List ℕ → List ℕ → List ℕ → List ℕ → List ℕ → List ℕ → ℕ → ℕ → ℕ → Called → Type 0
-Prepares mode choices rules classes vowels decompositions code text slots room out r =
-    r ≡ accepted (given mode choices rules classes vowels decompositions code text slots room out) (tables-of choices rules classes vowels code) (decoded text)
+-- the world of a call before there are edges: its class table, choices and text
+abbrev pub world-of : Inputs → World
+world-of i = record { classes = i .classes; choices = i .choices; text = decoded (i .text); edges = [] }
 
-abbrev pub Reads : ℕ → Choices → List ℕ → List ℕ → List ℕ → List ℕ → List ℕ → List ℕ → ℕ → ℕ → ℕ → Called → Type 0
-Reads mode choices rules classes vowels decompositions code text slots room out r =
-    r ≡ unless-refused (given mode choices rules classes vowels decompositions code text slots room out) (text-refusal text)
+-- A call that is not refused before any edge is built, and all that building them needs
+pub record Accepting (i : Inputs) (prepared : List ℕ) : Type 0 where
+  pub accepted : refusal i ≡ none
+  pub ready : RomanizeReady (i .rules) prepared (i .classes) (i .vowels) (i .decompositions) (i .text)
+  pub mode : mode-in (ready-in prepared) ≡ i .mode
+  pub told : Told (world-of i) (ready-in prepared)
+  pub lined : Lined (world-of i) (line-in prepared)
+
+-- or its refusal
+abbrev pub SetsUp : Inputs → List ℕ → SetUp → Type 0
+SetsUp i after (SetUp.Ready n) = (n ≤ most-characters) × (used-for n ≤ length after) × Accepting i (take (used-for n) after)
+SetsUp i after (SetUp.Refused k p) = refusal i ≡ some (refuse k p)

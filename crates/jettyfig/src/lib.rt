@@ -18,8 +18,8 @@ ghost use Rattle.utf8.specs.Lines.{line-spaces};
 ghost use Rattle.words.specs.Given.{size-in, form-entries, choices-in, mode-in, all-ready, line-in};
 ghost use Rattle.output.specs.Whole.{Whole};
 ghost use Rattle.jettyfig.specs.Verdicts.{verdict-means, Indexed, choose, chosen, given, returned, by-asked, by-code};
-ghost use Rattle.jettyfig.specs.Steps.{few-characters, with-kinds, LineRoom, Blank, asking, RespondReady, ReadReady, PrepareReady, MadeReady, FinishReady, ConcludeReady, RomanizeReady};
-ghost use Rattle.jettyfig.specs.Steps.{Writes, Finishes, Concludes, Romanizes, Prepares, Reads};
+ghost use Rattle.jettyfig.specs.Steps.{few-characters, with-kinds, LineRoom, Blank, asking, Fresh, TextReady, MadeReady, FinishReady, ConcludeReady, RomanizeReady};
+ghost use Rattle.jettyfig.specs.Steps.{Writes, Finishes, Concludes, Romanizes, TextSet, SetsUp};
 use decomp::Grew;
 use edge::Added;
 use edge::Filled;
@@ -28,9 +28,11 @@ use rule_table_check::RulesRead;
 use table_blocks::TableRead;
 use utf8::TextRead;
 
-// What is kept for a text stands in arrays, and an array is written whole: so there are two sizes of each, and a short text has the
-// smaller ones. A text of so many bytes is short.
+// What is kept for a text stands in arrays, and an array is written whole: so there are two sizes of each, and a text of so many
+// characters has the smaller ones. No character has more bytes than these.
 const SHORT: usize = 512;
+
+const MOST_CHARACTER_BYTES: usize = 4;
 
 // What is prepared: what is made ready, and behind it the text between spaces and the classes of its characters.
 const SHORT_PREPARED: usize = words::READY + 2 * (SHORT + utf8::LINE_SPACES);
@@ -110,6 +112,12 @@ pub struct Asked {
 // What was found of the tables and the code: nothing, or a refusal.
 pub enum Verdict {
     Accepted,
+    Refused(u64, u64),
+}
+
+// What was found of the text too: all is ready for so many characters, or a refusal.
+pub enum SetUp {
+    Ready(usize),
     Refused(u64, u64),
 }
 
@@ -473,52 +481,6 @@ fn romanize_long<'a>(
     )
 }
 
-// What is shown of the lattice, or its refusal, in arrays that the text needs.
-fn romanize<'a>(
-    rules: &'a [u8],
-    prepared: &[u32],
-    classes: &[u8],
-    vowels: &[u8],
-    decompositions: &[u8],
-    code: &[u8],
-    text: &'a [u8],
-    slots: &mut [u8],
-    room: &mut [u8],
-    out: &mut [u8],
-) -> Answer
-    requires { ⌜ RomanizeReady (now rules) (now prepared) (now classes) (now vowels) (now decompositions) (now text)
-        × (now out ≡ replicate (length (now out)) 0) ⌝ }
-    ensures { λ r. ⌜ Romanizes (now (rules .entry)) (now (prepared .entry)) (now (classes .entry)) (now (vowels .entry)) (now (decompositions .entry))
-        (now (code .entry)) (now (text .entry)) (length (now (slots .entry))) (length (now (room .entry))) (length (now (out .entry))) (returned r (now (out .exit))) ⌝ }
-{
-    if words::text_len(words::line_in(prepared)) <= SHORT {
-        return romanize_short(
-            rules,
-            prepared,
-            classes,
-            vowels,
-            decompositions,
-            code,
-            text,
-            slots,
-            room,
-            out,
-        );
-    }
-    romanize_long(
-        rules,
-        prepared,
-        classes,
-        vowels,
-        decompositions,
-        code,
-        text,
-        slots,
-        room,
-        out,
-    )
-}
-
 // What the engine asks besides the tables' rows: the ASCII letters, and the index of the rule table with what it has of the
 // line's characters.
 fn make_ready(rules: &[u8], classes: &[u8], prepared: &mut [u32])
@@ -528,40 +490,6 @@ fn make_ready(rules: &[u8], classes: &[u8], prepared: &mut [u32])
     table_classes::classify_ascii(classes, &mut prepared[..ASCII]);
     let half = (prepared.len() - words::READY) / 2;
     rule_memo::fill(rules, &mut prepared[words::INDEX..], half);
-}
-
-// What is shown of a text, with what the engine is lent made ready first.
-fn prepare<'a>(
-    rules: &'a [u8],
-    classes: &[u8],
-    vowels: &[u8],
-    decompositions: &[u8],
-    code: &[u8],
-    text: &'a [u8],
-    prepared: &mut [u32],
-    slots: &mut [u8],
-    room: &mut [u8],
-    out: &mut [u8],
-) -> Answer
-    requires { ⌜ PrepareReady (now rules) (now classes) (now vowels) (now decompositions) (now code) (now text) (now prepared)
-        × (now out ≡ replicate (length (now out)) 0) ⌝ }
-    ensures { λ r. ⌜ Prepares (mode-in (now (prepared .entry))) (choices-in (now (prepared .entry))) (now (rules .entry)) (now (classes .entry)) (now (vowels .entry))
-        (now (decompositions .entry)) (now (code .entry)) (now (text .entry))
-        (length (now (slots .entry))) (length (now (room .entry))) (length (now (out .entry))) (returned r (now (out .exit))) ⌝ }
-{
-    make_ready(rules, classes, prepared);
-    romanize(
-        rules,
-        prepared,
-        classes,
-        vowels,
-        decompositions,
-        code,
-        text,
-        slots,
-        room,
-        out,
-    )
 }
 
 // The text between spaces, and behind it the class of each of its characters.
@@ -583,40 +511,23 @@ fn lay_out(classes: &[u8], text: &[u8], line: &mut [u32]) -> TextRead
     }
 }
 
-// The text read and romanized, or its refusal.
-fn read<'a>(
-    rules: &'a [u8],
-    classes: &[u8],
-    vowels: &[u8],
-    decompositions: &[u8],
-    code: &[u8],
-    text: &'a [u8],
-    prepared: &mut [u32],
-    slots: &mut [u8],
-    room: &mut [u8],
-    out: &mut [u8],
-) -> Answer
-    requires { ⌜ ReadReady (now rules) (now classes) (now vowels) (now decompositions) (now code) (now text) (now prepared) × (now out ≡ replicate (length (now out)) 0) ⌝ }
-    ensures { λ r. ⌜ Reads (mode-in (now (prepared .entry))) (choices-in (now (prepared .entry))) (now (rules .entry)) (now (classes .entry)) (now (vowels .entry))
-        (now (decompositions .entry)) (now (code .entry)) (now (text .entry))
-        (length (now (slots .entry))) (length (now (room .entry))) (length (now (out .entry))) (returned r (now (out .exit))) ⌝ }
+// The text's refusal, or the text in what is prepared, with all that the engine asks besides the tables' rows.
+fn set_up_text(rules: &[u8], classes: &[u8], text: &[u8], prepared: &mut [u32]) -> SetUp
+    requires { ⌜ TextReady (now rules) (now classes) (now text) (now prepared) ⌝ }
+    ensures { λ r. ⌜ TextSet (now (rules .entry)) (now (classes .entry)) (now (text .entry)) (now (prepared .entry)) (now (prepared .exit)) r ⌝ }
 {
     match lay_out(classes, text, &mut prepared[words::READY..]) {
-        TextRead::Characters(n) => prepare(
-            rules,
-            classes,
-            vowels,
-            decompositions,
-            code,
-            text,
-            &mut prepared[..words::READY + 2 * (n + utf8::LINE_SPACES)],
-            slots,
-            room,
-            out,
-        ),
-        TextRead::NotUtf8(at) => refuse(REFUSED_UTF8, at as u64),
-        TextRead::TooLong => refuse(REFUSED_TOO_LONG, utf8::MOST_CHARACTERS as u64),
-        TextRead::LeftOut(p) => refuse(REFUSED_LEFT_OUT, p as u64),
+        TextRead::Characters(n) => {
+            make_ready(
+                rules,
+                classes,
+                &mut prepared[..words::READY + 2 * (n + utf8::LINE_SPACES)],
+            );
+            SetUp::Ready(n)
+        }
+        TextRead::NotUtf8(at) => SetUp::Refused(REFUSED_UTF8, at as u64),
+        TextRead::TooLong => SetUp::Refused(REFUSED_TOO_LONG, utf8::MOST_CHARACTERS as u64),
+        TextRead::LeftOut(p) => SetUp::Refused(REFUSED_LEFT_OUT, p as u64),
     }
 }
 
@@ -644,23 +555,19 @@ fn asked_in(prepared: &[u32]) -> Asked
     }
 }
 
-// The whole call over an output of zeros, in what is prepared for its text, but for clearing the rooms.
-fn respond_in<'a>(
-    rules: &'a [u8],
+// What is refused before any edge is built, or all that is needed to build them. What was asked stands in what is prepared.
+fn set_up(
+    rules: &[u8],
     classes: &[u8],
     vowels: &[u8],
     decompositions: &[u8],
     code: &[u8],
-    text: &'a [u8],
+    text: &[u8],
     prepared: &mut [u32],
-    slots: &mut [u8],
-    room: &mut [u8],
-    out: &mut [u8],
-) -> Answer
-    requires { ⌜ RespondReady (now text) (now prepared) × (now out ≡ replicate (length (now out)) 0) ⌝ }
-    ensures { λ r. ⌜ returned r (now (out .exit)) ≡ called (given (mode-in (now (prepared .entry))) (choices-in (now (prepared .entry))) (now (rules .entry))
-        (now (classes .entry)) (now (vowels .entry)) (now (decompositions .entry)) (now (code .entry)) (now (text .entry))
-        (length (now (slots .entry))) (length (now (room .entry))) (length (now (out .entry)))) ⌝ }
+) -> SetUp
+    requires { ⌜ Fresh (now text) (now prepared) ⌝ }
+    ensures { λ r. ⌜ SetsUp (given (mode-in (now (prepared .entry))) (choices-in (now (prepared .entry))) (now (rules .entry)) (now (classes .entry))
+        (now (vowels .entry)) (now (decompositions .entry)) (now (code .entry)) (now (text .entry)) 0 0 0) (now (prepared .exit)) r ⌝ }
 {
     match check(
         asked_in(prepared),
@@ -671,23 +578,12 @@ fn respond_in<'a>(
         code,
         &mut prepared[words::FORMS..words::INDEX],
     ) {
-        Verdict::Refused(number, place) => refuse(number, place),
-        Verdict::Accepted => read(
-            rules,
-            classes,
-            vowels,
-            decompositions,
-            code,
-            text,
-            prepared,
-            slots,
-            room,
-            out,
-        ),
+        Verdict::Refused(number, place) => SetUp::Refused(number, place),
+        Verdict::Accepted => set_up_text(rules, classes, text, prepared),
     }
 }
 
-// The same for a text of few bytes, in the smaller array.
+// The whole call over an output of zeros, but for clearing the rooms, in the smaller arrays: its text has few characters.
 fn respond_short<'a>(
     asked: Asked,
     rules: &'a [u8],
@@ -700,13 +596,13 @@ fn respond_short<'a>(
     room: &mut [u8],
     out: &mut [u8],
 ) -> Answer
-    requires { ⌜ (length (now text) ≤ few-characters) × (now out ≡ replicate (length (now out)) 0) ⌝ }
+    requires { ⌜ (length (decoded (now text)) ≤ few-characters) × (now out ≡ replicate (length (now out)) 0) ⌝ }
     ensures { λ r. ⌜ returned r (now (out .exit)) ≡ called (given (asked .mode) (chosen asked) (now (rules .entry)) (now (classes .entry)) (now (vowels .entry))
         (now (decompositions .entry)) (now (code .entry)) (now (text .entry)) (length (now (slots .entry))) (length (now (room .entry))) (length (now (out .entry)))) ⌝ }
 {
     let mut prepared = [0u32; SHORT_PREPARED];
     put_asked(&mut prepared, asked);
-    respond_in(
+    match set_up(
         rules,
         classes,
         vowels,
@@ -714,13 +610,24 @@ fn respond_short<'a>(
         code,
         text,
         &mut prepared,
-        slots,
-        room,
-        out,
-    )
+    ) {
+        SetUp::Refused(number, place) => refuse(number, place),
+        SetUp::Ready(n) => romanize_short(
+            rules,
+            &prepared[..words::READY + 2 * (n + utf8::LINE_SPACES)],
+            classes,
+            vowels,
+            decompositions,
+            code,
+            text,
+            slots,
+            room,
+            out,
+        ),
+    }
 }
 
-// The same for any text.
+// The same in the larger ones, for any text.
 fn respond_long<'a>(
     asked: Asked,
     rules: &'a [u8],
@@ -739,7 +646,7 @@ fn respond_long<'a>(
 {
     let mut prepared = [0u32; LONG_PREPARED];
     put_asked(&mut prepared, asked);
-    respond_in(
+    match set_up(
         rules,
         classes,
         vowels,
@@ -747,13 +654,25 @@ fn respond_long<'a>(
         code,
         text,
         &mut prepared,
-        slots,
-        room,
-        out,
-    )
+    ) {
+        SetUp::Refused(number, place) => refuse(number, place),
+        SetUp::Ready(n) => romanize_long(
+            rules,
+            &prepared[..words::READY + 2 * (n + utf8::LINE_SPACES)],
+            classes,
+            vowels,
+            decompositions,
+            code,
+            text,
+            slots,
+            room,
+            out,
+        ),
+    }
 }
 
-// The whole call, but for clearing the rooms, in arrays that the text needs.
+// The whole call, but for clearing the rooms, in arrays that the text needs. Its characters are counted only where its bytes don't
+// tell enough of them.
 fn respond<'a>(
     asked: Asked,
     rules: &'a [u8],
@@ -771,6 +690,34 @@ fn respond<'a>(
 {
     lent_bytes::clear(out);
     if text.len() <= SHORT {
+        return respond_short(
+            asked,
+            rules,
+            classes,
+            vowels,
+            decompositions,
+            code,
+            text,
+            slots,
+            room,
+            out,
+        );
+    }
+    if MOST_CHARACTER_BYTES * SHORT < text.len() {
+        return respond_long(
+            asked,
+            rules,
+            classes,
+            vowels,
+            decompositions,
+            code,
+            text,
+            slots,
+            room,
+            out,
+        );
+    }
+    if utf8::characters(text) <= SHORT {
         return respond_short(
             asked,
             rules,

@@ -5,3 +5,4 @@ pub mod Lines
 -- Continuation bytes; bytes that are those of a text
 pub mod Sixes
 pub mod Encodings
+pub mod Beginnings

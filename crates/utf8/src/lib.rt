@@ -6,6 +6,7 @@ ghost use Rattle.definition.specs.Utf8.{six, read, decoded, encode, sequence, c
 ghost use Rattle.definition.specs.Texts.{left-out};
 ghost use Rattle.definition.specs.Call.{first-left-out, text-refusal};
 ghost use Rattle.utf8.specs.Read.{char-means, found-means, answered, text-means, Roomy};
+ghost use Rattle.utf8.specs.Beginnings.{begins, beginnings};
 ghost use Rattle.utf8.specs.Puts.{puts};
 ghost use Rattle.utf8.specs.Lines.{line-spaces, spaced};
 
@@ -237,6 +238,29 @@ pub fn first_left_out(chars: &[u32]) -> Found
         i += 1;
     }
     Found::Nothing
+}
+
+// 1 for a byte that continues no character.
+fn begins(b: u32) -> usize
+    ensures { λ r. ⌜ (r ≡ begins b) × (r ≤ 1) ⌝ }
+{
+    if six(b) == 64 {
+        return 1;
+    }
+    0
+}
+
+// As many characters as a text can have at most: those bytes are counted that continue none.
+pub fn characters(text: &[u8]) -> usize
+    ensures { λ r. ⌜ r ≡ beginnings (now (text .entry)) ⌝ }
+{
+    let mut n = 0;
+    let mut i = 0;
+    while i < text.len() {
+        n += begins(base::byte(text, i));
+        i += 1;
+    }
+    n
 }
 
 // What a call needs of its text: the characters, or its refusal. There is room for all characters of a text that is not too long.
