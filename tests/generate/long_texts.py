@@ -1,7 +1,7 @@
 #!/usr/bin/env python3
 """Texts of up to 4,096 characters, made by hand as in reading.py and refusals.py, and in a list of their own: they are for the library
-alone, since a computation of the definition on one of them takes many minutes. Strings and refusals stated here are checked against the
-oracle.
+alone, since from some 700 characters on the prover's steps for a theorem are too few to compute the definition. Strings and refusals stated
+here are checked against the oracle.
 
 usage: long_texts.py ORACLE FILE.calls.xz"""
 import sys
@@ -55,6 +55,7 @@ def plain():
 
 def lines():
     """words of several scripts"""
+    yield Case((LINE_OF_WORDS * MOST)[:1024], SAMPLE, range(4))
     yield Case((LINE_OF_WORDS * MOST)[:MOST - 1], SAMPLE, (0,))
     yield Case((LINE_OF_WORDS * MOST)[:MOST], SAMPLE, range(4))
     yield Case((LINE_OF_WORDS * MOST)[:MOST], SAMPLE, (0,), choices=(1, 1, 1))

@@ -847,9 +847,8 @@ LINE_OF_WORDS = "कत ก \u0e48อก きゃっか เกา жж कित �
 
 
 def longer_texts():
-    """texts of more than 512 characters; longer ones are in a list of their own (long_texts.py)"""
-    for n in (513, 1024):
-        yield Corner((LINE_OF_WORDS * n)[:n], sample.RULES, sample.CLASSES, sample.VOWELS)
+    """one character more than was the most once; longer ones are in a list of their own (long_texts.py)"""
+    yield Corner((LINE_OF_WORDS * 513)[:513], sample.RULES, sample.CLASSES, sample.VOWELS)
 
 
 # what each group tells is seen in these modes: all edges, and the others in turn
