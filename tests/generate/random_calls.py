@@ -82,6 +82,7 @@ USUAL_FORMS = {"①": "1", "②": "2", "½": "1" + SLASH + "2", "Ａ": "A", "ⓩ
 
 # far more than most of these calls need; a long output would only make the definition slow
 MANY_SLOTS, MUCH_ROOM = 104448, 101376
+MANY_EDGES = 800
 
 
 class World:
@@ -306,12 +307,12 @@ class LongWorld(World):
     """a world with texts of rules about 64 bytes, which were the most once, about 200, and between; or now and then with a text of more
     than 512 characters, which the definition takes its time for"""
     LONG_TARGET = "ka" * (MOST_TARGET // 2)
-    FULL = 0.25
+    FORMED, FULL = 0.8, 0.5
     LENGTHS = 63, 64, 65, 66, 127, 128, MOST_TARGET - 1, MOST_TARGET, MOST_TARGET
 
     def some_text(self):
         text = super().some_text()
-        self.stretched = bool(text) and self.chance(0.06)
+        self.stretched = bool(text) and self.chance(0.08)
         return (text * 640)[:self.rng.choice((512, 513, 514, 540))] if self.stretched else text
 
     def target(self, source=""):
@@ -347,9 +348,17 @@ def made(rng, case, built):
     return call(case, built, lent(rng, built)) if built else Call(case, Lent(12, 9, 9), refused(number, 0))
 
 
+def cut(case, built):
+    """the case, its text cut where it has more edges than the prover's steps are enough for"""
+    if not built or len(built.added) <= MANY_EDGES:
+        return case
+    return case._replace(text=case.text.decode()[:100].encode())
+
+
 def generated(program, world, seed, count):
     rng = random.Random(seed)
     cases = [world(rng).given() for _ in range(count)]
+    cases = [cut(case, built) for case, built in zip(cases, ask(program, cases))]
     return [made(rng, case, built) for case, built in zip(cases, ask(program, cases))]
 
 
