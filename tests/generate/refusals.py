@@ -370,7 +370,7 @@ def utf8():
         yield Border((6, 9), text="é€𐍈".encode() + s)
     yield Border((6, 3), text=b"\xe2\x82\xac\x80\xff")                   # a good one, then two bad ones
     yield Border((6, 512), text=b"a" * 512 + b"\xff")
-    yield Border((6, 600), text=b"a" * 600 + b"\xc2")                    # before 7
+    yield Border((6, 600), text=b"a" * 600 + b"\xc2")
     yield Border((6, 3), text="\u0f00".encode() + b"\xed\xa0\x80")       # before 8
     for s in sequences(GOOD_UTF8):
         yield accepted(text=s, mode=0)
