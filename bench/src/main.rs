@@ -151,7 +151,8 @@ fn main() {
         }
         _ => {
             let (text, mode) = (text("text.txt"), number(2) as u8);
-            let n = text.chars().count();
+            // what alternatives keep in mind stands in the room that is free: a short text gets as much of it as a longer one
+            let n = text.chars().count().max(ENOUGH_FOR);
             (library.slots, library.room) = (vec![0; slots_for(n)], vec![0; room_for(n)]);
             library.out = vec![0; 1 << 26];
             // the first call touches memory that was never used
