@@ -4,11 +4,14 @@ its parameters, its answer and its variables that have an array for a romanizati
 most; what is compiled into one frame may share some of them.
 
 usage: copies.py CRATE FUNCTION    as in copies.py vowel_step add_default_abugida_vowel"""
+import pathlib
 import re
 import subprocess
 import sys
 
-MOST_BYTES = 198
+ROOT = pathlib.Path(__file__).resolve().parents[1]
+sys.path.insert(0, str(ROOT / "tools"))
+from tables import MOST_EDGE_TEXT as MOST_BYTES
 
 
 def parsed(text):

@@ -5,14 +5,14 @@
  * FOLDER holds rules.bin, classes.bin, vowels.bin, decompositions.bin and labels.txt. The texts are so many labels, or with another LENGTH than 0 so
  * many texts of LENGTH characters, which are labels joined by spaces; `empty` in its place makes them empty. Rooms are ROOMS bytes
  * for slots, as many for texts, and four times as many for the output. All is read and laid out before the first call, for the
- * most texts that may be asked for: so two runs differ in their calls alone. */
+ * most texts that may be asked for, 32, or 4 of more than 512 characters: so two runs differ in their calls alone. */
 #include <stdio.h>
 #include <stdlib.h>
 #include <string.h>
 
 #include "jettyfig.h"
 
-enum { MOST_TEXTS = 32, MOST_BYTES = 1 << 20, WORDS = 9 };
+enum { MOST_TEXTS = 32, MOST_LONG_TEXTS = 4, LONG_TEXT = 512, MOST_BYTES = 1 << 20, WORDS = 9 };
 
 typedef struct {
     uint8_t bytes[MOST_BYTES];
@@ -26,6 +26,7 @@ typedef struct {
 
 static file rules, classes, vowels, decompositions, labels;
 static slice text[MOST_TEXTS];
+static size_t most_texts = MOST_TEXTS;
 
 static void quit(const char *why) {
     fprintf(stderr, "count: %s\n", why);
@@ -57,7 +58,8 @@ static size_t end_of(size_t at, size_t characters) {
 
 static void lay_out(size_t characters) {
     size_t k, at = 0;
-    for (k = 0; k < MOST_TEXTS; k++) {
+    if (characters > LONG_TEXT) most_texts = MOST_LONG_TEXTS;
+    for (k = 0; k < most_texts; k++) {
         size_t end = end_of(at, characters);
         text[k].bytes = labels.bytes + at;
         text[k].length = end - at;
@@ -93,7 +95,7 @@ int main(int argc, char **argv) {
     o_ang = (uint8_t)strtoul(argv[6], NULL, 10);
     readings = (uint8_t)strtoul(argv[7], NULL, 10);
     times = strtoul(argv[8], NULL, 10);
-    if (times > MOST_TEXTS) quit("too many texts");
+    if (times > most_texts) quit("too many texts");
     slots = lend(room_length), room = lend(room_length), out = lend(4 * room_length);
     for (k = 0; k < times; k++) {
         jettyfig_answer a = jettyfig_romanize(mode, capitals, o_ang, readings, rules.bytes, rules.length, classes.bytes,

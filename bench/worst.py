@@ -32,16 +32,25 @@ def word(k):
     return "".join(letters)
 
 
+def with_alternatives(n):
+    """so many rules of one character and one target, with eight alternatives each that no other has"""
+    return rules(*(Rule("か", "ka", others=[word(8 * k + i) for i in range(8)]) for k in range(n)))
+
+
 def main():
     folder = pathlib.Path(sys.argv[1])
     kana = classes({"か": (LETTER, HIRAGANA)})
-    write(folder / "one_character", rules(*(Rule("か" * (1 + k % 16), "k") for k in range(MOST_RULES))), kana, "か" * 512)
+    repeated = rules(*(Rule("か" * (1 + k % 16), "k") for k in range(MOST_RULES)))
     thai = classes({"ก": (LETTER, THAI), "อ": (LETTER, THAI), "่": (NONSPACING, THAI)})
-    write(folder / "o_ang", rules(("ก", "k"), ("อ", "o"), ("่", "")), thai, "ก" + "่" * 500 + "อก" * 5)
-    many = rules(*(Rule("か", "ka", others=[word(8 * k + i) for i in range(8)]) for k in range(MOST_RULES)))
-    write(folder / "alternatives", many, kana, "か" * 4)
+    silent = rules(("ก", "k"), ("อ", "o"), ("่", ""))
     every = rules(*(Rule("か" * k, "k") for k in range(1, 17)))
-    write(folder / "decompositions", every, kana, "①" * 512, forms({"①": "か" * 18}))
+    for n in (512, MOST_CHARACTERS):
+        write(folder / ("one_character_%d" % n), repeated, kana, "か" * n)
+        write(folder / ("o_ang_%d" % n), silent, thai, "ก" + "่" * (n - 11) + "อก" * 5)
+        write(folder / ("o_angs_%d" % n), silent, thai, "่อ" * (n // 2))
+        write(folder / ("decompositions_%d" % n), every, kana, "①" * n, forms({"①": "か" * 18}))
+        write(folder / ("alternatives_%d" % n), with_alternatives(64), kana, "か" * n)
+    write(folder / "alternatives", with_alternatives(MOST_RULES), kana, "か" * 4)
 
 
 if __name__ == "__main__":

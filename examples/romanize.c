@@ -12,50 +12,70 @@
 #include "jettyfig.h"
 
 typedef struct {
-    uint8_t bytes[1 << 23]; /* the largest rule table has 5,980,165 */
+    uint8_t *bytes;
     size_t length;
-} file;
+} slice;
 
-static file rules, classes, vowels, decompositions, text;
+static uint8_t *grown(uint8_t *bytes, size_t size) {
+    bytes = realloc(bytes, size ? size : 1);
+    if (!bytes) {
+        fprintf(stderr, "no memory\n");
+        exit(2);
+    }
+    return bytes;
+}
 
-/* rooms for any text */
-static uint8_t slots[JETTYFIG_SLOTS_FOR(JETTYFIG_MOST_CHARACTERS)];
-static uint8_t room[JETTYFIG_ROOM_FOR(JETTYFIG_MOST_CHARACTERS)];
-static uint8_t out[JETTYFIG_STRING_FOR(JETTYFIG_MOST_CHARACTERS)];
-
-static void read_all(FILE *f, const char *name, file *t) {
+static slice read_all(FILE *f, const char *name) {
+    slice s = {NULL, 0};
+    size_t size = 0;
     if (!f) {
         perror(name);
         exit(2);
     }
-    t->length = fread(t->bytes, 1, sizeof t->bytes, f);
-    if (t->length == sizeof t->bytes) {
-        fprintf(stderr, "%s: longer than this program takes\n", name);
-        exit(2);
+    while (s.length == size) {
+        size = size ? 2 * size : 65536;
+        s.bytes = grown(s.bytes, size);
+        s.length += fread(s.bytes + s.length, 1, size - s.length, f);
     }
     fclose(f);
+    return s;
+}
+
+static slice read_file(const char *path) { return read_all(fopen(path, "rb"), path); }
+
+/* a room of a call, which clears it */
+static slice lend(size_t length) {
+    slice s = {grown(NULL, length), length};
+    return s;
 }
 
 int main(int argc, char **argv) {
+    slice rules, classes, vowels, decompositions, text, slots, room, out;
     jettyfig_answer a;
+    size_t n;
     if (argc != 5) {
         fprintf(stderr, "usage: romanize RULES CLASSES VOWELS DECOMPOSITIONS < TEXT\n");
         return 2;
     }
-    read_all(fopen(argv[1], "rb"), argv[1], &rules);
-    read_all(fopen(argv[2], "rb"), argv[2], &classes);
-    read_all(fopen(argv[3], "rb"), argv[3], &vowels);
-    read_all(fopen(argv[4], "rb"), argv[4], &decompositions);
-    read_all(stdin, "standard input", &text);
+    rules = read_file(argv[1]);
+    classes = read_file(argv[2]);
+    vowels = read_file(argv[3]);
+    decompositions = read_file(argv[4]);
+    text = read_all(stdin, "standard input");
+    /* each character has a byte at least; a text of more than these is refused before it needs any room */
+    n = text.length < JETTYFIG_MOST_CHARACTERS ? text.length : JETTYFIG_MOST_CHARACTERS;
+    slots = lend(JETTYFIG_SLOTS_FOR(n));
+    room = lend(JETTYFIG_ROOM_FOR(n));
+    out = lend(JETTYFIG_STRING_FOR(n));
     a = jettyfig_romanize(JETTYFIG_SHOW_STRING, JETTYFIG_CAPITALS_OFF, JETTYFIG_O_ANG_OFF, JETTYFIG_READINGS_OFF,
                           rules.bytes, rules.length, classes.bytes, classes.length, vowels.bytes, vowels.length,
-                          decompositions.bytes, decompositions.length, (const uint8_t *)"", 0, text.bytes, text.length, slots,
-                          sizeof slots, room, sizeof room, out, sizeof out);
+                          decompositions.bytes, decompositions.length, (const uint8_t *)"", 0, text.bytes, text.length,
+                          slots.bytes, slots.length, room.bytes, room.length, out.bytes, out.length);
     if (a.number != JETTYFIG_DONE) {
         fprintf(stderr, "refused with %llu at %llu\n", (unsigned long long)a.number, (unsigned long long)a.place);
         return 1;
     }
-    fwrite(out, 1, a.length, stdout);
+    fwrite(out.bytes, 1, a.length, stdout);
     putchar('\n');
     return 0;
 }

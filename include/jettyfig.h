@@ -19,8 +19,8 @@ extern "C" {
 #endif
 
 /* The version of this header and its library: as text, and as a number that rises. */
-#define JETTYFIG_VERSION "6.0.0"
-#define JETTYFIG_VERSION_NUMBER 60000 /* 10000 for the first part, 100 for the second, 1 for the third */
+#define JETTYFIG_VERSION "7.0.0"
+#define JETTYFIG_VERSION_NUMBER 70000 /* 10000 for the first part, 100 for the second, 1 for the third */
 
 /* What a call shows: its argument `mode`. */
 enum jettyfig_show {
@@ -106,13 +106,15 @@ enum jettyfig_number {
                                      * a row of its own */
     JETTYFIG_REFUSED_CODE = 5,      /* the language code is neither empty nor three letters a to z; 0 */
     JETTYFIG_REFUSED_UTF8 = 6,      /* the text is not UTF-8 (RFC 3629); the offset of the first bad sequence */
-    JETTYFIG_REFUSED_TOO_LONG = 7,  /* the text has over 512 characters; 512 */
+    JETTYFIG_REFUSED_TOO_LONG = 7,  /* the text has over 4,096 characters; 4,096 */
     JETTYFIG_REFUSED_LEFT_OUT = 8,  /* a Tibetan, Braille or Hangul character; its position in characters */
     JETTYFIG_REFUSED_SLOTS = 9,     /* an edge finds no slot; the edge's start. The edges of a decomposition's string take slots and
                                      * room for a while: of these it is the decomposed character */
     JETTYFIG_REFUSED_ROOM = 10,     /* an edge finds a slot, but too little text room; likewise */
-    JETTYFIG_REFUSED_EDGE_TEXT = 14, /* a decomposition's text would pass 198 bytes; its character's position. This is looked for
+    JETTYFIG_REFUSED_EDGE_TEXT = 14, /* a decomposition's text would pass 606 bytes; its character's position. This is looked for
                                      * with 9 and 10, after those of the string's edges and before the edge's own */
+    JETTYFIG_REFUSED_LISTING = 19,  /* a listing's rows pass 4,294,967,295 bytes; 0. Only JETTYFIG_SHOW_ALTERNATIVES can have so
+                                     * many */
     JETTYFIG_REFUSED_OUTPUT = 11    /* the output is too short; the bytes that it needs */
 };
 
@@ -125,24 +127,26 @@ typedef struct {
 } jettyfig_answer;
 
 /* The most characters of a text. */
-#define JETTYFIG_MOST_CHARACTERS 512
+#define JETTYFIG_MOST_CHARACTERS 4096
 
 /* How many bytes are always enough for a text of n characters, whatever the tables: with slots and room of these sizes 9 and
  * 10 never come, and with an output of its mode's size 11 never comes. A lattice has at most 17 edges for each character, each
- * of a slot of 12 bytes and a text of at most 198; while a decomposition's string is made, the edges of its 18 characters at most
+ * of a slot of 12 bytes and a text of at most 606; while a decomposition's string is made, the edges of its 18 characters at most
  * stand behind those of the text; a path has at most one edge for each character; a listing has 5 bytes before its rows, and a row
  * 8 before its text. A text of b bytes has at most b characters, and one of more than
  * JETTYFIG_MOST_CHARACTERS is refused before it needs any room: so the smaller of the two may stand for n. These are constants
- * where n is one. */
+ * where n is one. For the longest text the room is 42,382,428 bytes and the listing of all edges 42,754,053: take them from the heap,
+ * and as large as the text asks for, since a call clears all that it is lent. */
 #define JETTYFIG_SLOTS_FOR(n) ((size_t)17 * 12 * ((n) + 18))
-#define JETTYFIG_ROOM_FOR(n) ((size_t)17 * 198 * ((n) + 18))
+#define JETTYFIG_ROOM_FOR(n) ((size_t)17 * 606 * ((n) + 18))
 /* and the output of JETTYFIG_SHOW_STRING, JETTYFIG_SHOW_PATH and JETTYFIG_SHOW_ALL_EDGES */
-#define JETTYFIG_STRING_FOR(n) ((size_t)198 * (n))
-#define JETTYFIG_PATH_FOR(n) ((size_t)5 + (size_t)(8 + 198) * (n))
-#define JETTYFIG_ALL_EDGES_FOR(n) ((size_t)5 + (size_t)17 * (8 + 198) * (n))
+#define JETTYFIG_STRING_FOR(n) ((size_t)606 * (n))
+#define JETTYFIG_PATH_FOR(n) ((size_t)5 + (size_t)(8 + 606) * (n))
+#define JETTYFIG_ALL_EDGES_FOR(n) ((size_t)5 + (size_t)17 * (8 + 606) * (n))
 
 /* Alternatives have no such size: a text can have many thousands for each character, as the rules are. Call with as much as
- * most texts need; where it is refused with JETTYFIG_REFUSED_OUTPUT, `place` is what it needs: call again with so much. */
+ * most texts need; where it is refused with JETTYFIG_REFUSED_OUTPUT, `place` is what it needs, up to 4,294,967,300: call again with so
+ * much. Where it is refused with JETTYFIG_REFUSED_LISTING no output is enough: call with parts of the text. */
 
 /* Bytes of stack that are enough for a call, on x86-64 as the library is built there, whatever text and tables: nothing in it is
  * recursive. It has room for the dynamic linker, which may run at the first call of memcpy, memmove or memset. */

@@ -5,8 +5,8 @@
 #![allow(dead_code)]
 
 /// The version of this file and its library: as text, and as a number that rises.
-pub const VERSION: &str = "6.0.0";
-pub const VERSION_NUMBER: u32 = 60000;
+pub const VERSION: &str = "7.0.0";
+pub const VERSION_NUMBER: u32 = 70000;
 
 /// What a call shows: its mode. The string, the path, the path and its alternatives, all edges.
 pub const SHOW_STRING: u8 = 0;
@@ -69,6 +69,7 @@ pub enum Refusal {
     Slots = 9,
     Room = 10,
     EdgeText = 14,
+    Listing = 19,
     Output = 11,
 }
 
@@ -96,6 +97,7 @@ impl Refusal {
             9 => Refusal::Slots,
             10 => Refusal::Room,
             14 => Refusal::EdgeText,
+            19 => Refusal::Listing,
             11 => Refusal::Output,
             _ => return None,
         })
@@ -120,7 +122,7 @@ impl Answer {
 }
 
 /// The most characters of a text.
-pub const MOST_CHARACTERS: usize = 512;
+pub const MOST_CHARACTERS: usize = 4096;
 
 /// Bytes that are always enough for a text of `n` characters, whatever the tables: slots, text room, and the output of each
 /// mode but alternatives, which have no such size (where they are refused with `Refusal::Output`, the place is what they need).
@@ -130,19 +132,19 @@ pub const fn slots_for(n: usize) -> usize {
 }
 
 pub const fn room_for(n: usize) -> usize {
-    17 * 198 * (n + 18)
+    17 * 606 * (n + 18)
 }
 
 pub const fn string_for(n: usize) -> usize {
-    198 * n
+    606 * n
 }
 
 pub const fn path_for(n: usize) -> usize {
-    5 + (8 + 198) * n
+    5 + (8 + 606) * n
 }
 
 pub const fn all_edges_for(n: usize) -> usize {
-    5 + 17 * (8 + 198) * n
+    5 + 17 * (8 + 606) * n
 }
 
 /// Bytes of stack that are enough for a call, on x86-64 as the library is built there, whatever text and tables.

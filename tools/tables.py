@@ -29,11 +29,14 @@ VERSION = 1
 HEADER = 5          # bytes before the first row
 MOST_RULES = MOST_CLASSES = MOST_DECOMPOSITIONS = 8192
 MOST_VOWELS = 127
-MOST_CHARACTERS = 512
-MOST_SOURCE, MOST_CODES, MOST_OTHERS, MOST_TARGET = 16, 8, 8, 64
+MOST_CHARACTERS = 4096
+MOST_SOURCE, MOST_CODES, MOST_OTHERS, MOST_TARGET = 16, 8, 8, 200
 MOST_LETTERS = 4
 MOST_HELD = 18      # characters of a decomposition
-MOST_EDGE_TEXT = 198
+# bytes of an alternative: a text of the table and a vowel; and of an edge: such a text doubled, a pre-vowel's text behind it, then an e in
+# front, a small letter's text in place of the last letter, and a long mark's letter
+MOST_ALTERNATIVE = MOST_TARGET + MOST_LETTERS
+MOST_EDGE_TEXT = MOST_ALTERNATIVE + 1 + MOST_TARGET + 1 + (MOST_TARGET - 1) + 1
 
 # bits of a rule's flags; has target and has end-of-syllable target follow from the texts
 START, NOT_START, END, NOT_END, WHOLE = 1, 2, 4, 8, 16

@@ -29,7 +29,7 @@ class RoundTrips(unittest.TestCase):
             self.assertEqual(len(read(empty)), 0)
 
     def test_rows_come_back_as_they_were(self):
-        given = [Rule("b", " ~"), FULL, Rule("ce", None, NOT_END, 65535, (), "~"), Rule("\U0010ffff" * 16, "x" * 64, others=("y" * 64,) * 8)]
+        given = [Rule("b", " ~"), FULL, Rule("ce", None, NOT_END, 65535, (), "~"), Rule("\U0010ffff" * 16, "x" * MOST_TARGET, others=("y" * MOST_TARGET,) * 8)]
         self.assertEqual(read_rules(rules(*given)), given)
         kinds = {" ": (ZS, 0, 0), "Z": (LETTER, 127, 127), "z": (LETTER, 0, LOWER), "é": (LETTER, 6, 255), "\ud7ff": (CO, 6, 0), "\ue000": (MARK, 5, VIRAMA)}
         self.assertEqual(read_classes(classes(kinds)), kinds)
@@ -39,7 +39,7 @@ class RoundTrips(unittest.TestCase):
                 "\ue000": Held("\ud7ff" * 18, NO_BREAK), "\U0010ffff": Held("\U0010fffe\uffff", SUB)}
         self.assertEqual(read_decompositions(decompositions(held)), held)
         self.assertEqual(read_decompositions(decompositions({"½": "1\u20442", "²": ("2", SUPER)})), {"½": ("1\u20442", FORM), "²": ("2", SUPER)})
-        edges = [Edge(0, 512, CORE, 2, "kha"), Edge(3, 4, ORIG, 0, "€"), Edge(0, 1, FALLBACK_MN, 0, ""), Edge(0, 1, EXPANDED, 0, "k" * 198), Edge(1, 2, DECOMP, 0, " 1/2")]
+        edges = [Edge(0, MOST_CHARACTERS, CORE, 2, "kha"), Edge(3, 4, ORIG, 0, "€"), Edge(0, 1, FALLBACK_MN, 0, ""), Edge(0, 1, EXPANDED, 0, "k" * MOST_EDGE_TEXT), Edge(1, 2, DECOMP, 0, " 1/2")]
         self.assertEqual(read_listing(listing(*edges)), edges)
 
     def test_writers_put_rows_in_order(self):
@@ -50,7 +50,7 @@ class RoundTrips(unittest.TestCase):
         self.assertEqual(list(read_decompositions(decompositions({"②": "2", "①": "1"}))), ["①", "②"])
 
     def test_the_largest_tables(self):
-        most = "c" * 16, "x" * 64, 31, 65535, ["abc"] * 8, "y" * 64, ["z" * 64] * 8
+        most = "c" * 16, "x" * MOST_TARGET, 31, 65535, ["abc"] * 8, "y" * MOST_TARGET, ["z" * MOST_TARGET] * 8
         sizes = len(rules(*[most] * MOST_RULES)), 5 + 6 * MOST_CLASSES, len(vowels(*((n, A, "aaaa") for n in range(1, 128))))
         sizes += len(decompositions({chr(0x3400 + k): "1" * 18 for k in range(MOST_DECOMPOSITIONS)})),
         page = (ROOT / "docs" / "FORMAT.md").read_text(encoding="utf-8")
@@ -71,7 +71,7 @@ class WrittenFaults(unittest.TestCase):
                 ("bits 0 to 4", Rule("c", "t", 128)), ("bits 0 to 4", Rule("c", None, 32)), ("bits 0 to 4", Rule("c", "t", -1)),
                 ("65536", Rule("c", "t", 0, 65536)), ("9 language codes", Rule("c", "t", codes=["abc"] * 9)),
                 ("'ab'", Rule("c", "t", codes=["ab"])), ("'abC'", Rule("c", "t", codes=["abc", "abC"])),
-                (("target has 65 bytes", "'c'"), Rule("c", "x" * 65)), ("0x20", Rule("c", "\x1f")), ("0x7E", Rule("c", "é")),
+                (("target has 201 bytes", "'c'"), Rule("c", "x" * (MOST_TARGET + 1))), ("0x20", Rule("c", "\x1f")), ("0x7E", Rule("c", "é")),
                 ("end-of-syllable target", Rule("c", "t", end="\x7f")), ("alternative", Rule("c", "t", others=["\t"])),
                 ("9 alternatives", Rule("c", "t", others=["x"] * 9))]:
             self.refused(words, rules, ("b", "B"), rule)
@@ -101,9 +101,9 @@ class WrittenFaults(unittest.TestCase):
         self.refused("8193 rows", decompositions, {chr(0x4E00 + k): "1" for k in range(8193)})
 
     def test_listings(self):
-        for words, edge in [("from 1 to 1", (1, 1, ROM, 0, "a")), ("from 0 to 513", (0, 513, ROM, 0, "a")), ("annotation 0", (0, 1, 0, 0, "a")),
+        for words, edge in [("from 1 to 1", (1, 1, ROM, 0, "a")), ("from 0 to 4097", (0, MOST_CHARACTERS + 1, ROM, 0, "a")), ("annotation 0", (0, 1, 0, 0, "a")),
                             ("annotation 16", (0, 1, 16, 0, "a")), ("core length 1", (0, 1, DECOMP, 1, "a")), ("core length 1", (0, 1, ROM, 1, "a")), ("core length 2", (0, 1, CORE, 2, "a")),
-                            ("199 bytes", (0, 1, ROM, 0, "a" * 199)), ("surrogate", (0, 1, ROM, 0, "\ud800"))]:
+                            ("607 bytes", (0, 1, ROM, 0, "a" * (MOST_EDGE_TEXT + 1))), ("surrogate", (0, 1, ROM, 0, "\ud800"))]:
             self.refused(words, listing, (0, 1, ROM, 0, "k"), edge)
 
 
@@ -125,7 +125,7 @@ class ReadFaults(unittest.TestCase):
                 self.assertEqual(fault(read, table), (number, 0))
 
     def test_the_smallest_rule_tables(self):
-        for words, table, number, place in [*smallest.small_tables(), *smallest.large_tables()]:
+        for words, table, number, place in [*smallest.small_tables(), *smallest.long_tables(), *smallest.large_tables()]:
             self.assertEqual(fault(read_rules, table), (number, place), words)
 
     def test_rule_rows(self):
@@ -135,7 +135,7 @@ class ReadFaults(unittest.TestCase):
                 (rule_row("c", "t", 128), 21, 2, "bit 7"), (rule_row("", "t"), 21, 5, "0 source characters"),
                 (rule_row("c" * 17, "t"), 21, 5, "17 source characters"), (rule_row("\ud800", "t"), 22, 6, "0xd800"),
                 (rule_row("c", "t", codes=["abc"] * 9), 21, 9, "9 language codes"), (rule_row("c", "t", codes=["a c"]), 22, 10, "'a c'"),
-                (rule_row("c", "x" * 65), 21, 10, "65 bytes"), (rule_row("c", "\x7f"), 23, 11, "0x7E"),
+                (rule_row("c", "x" * (MOST_TARGET + 1)), 21, 10, "201 bytes"), (rule_row("c", "\x7f"), 23, 11, "0x7E"),
                 (rule_row("c", end="\x80"), 23, 11, "end-of-syllable"), (rule_row("c", others=["\x1f"]), 23, 12, "alternative"),
                 (rule_row("c", others=[""] * 9), 21, 10, "9 alternatives"), (b"\0\x09\0\0\0\1\x11\0\0\0\0", 22, 6, "0x110000"),
                 (full[:1] + bytes([full[1] + 1]) + full[2:] + b"\0", 20, len(full), "left over"), (b"\0\0", 20, 2, "flags")]:

@@ -1,7 +1,7 @@
 //! The same texts through the published Rust and the proved library, in one run. FOLDER holds rules.bin, classes.bin,
 //! vowels.bin, decompositions.bin and labels.txt.
 //!
-//!   bench FOLDER                                 times: labels, and texts of 64 to 512 characters, which are labels joined
+//!   bench FOLDER                                 times: labels, and texts of 64 to 4,096 characters, which are labels joined
 //!                                                by spaces, in all four modes
 //!   bench FOLDER count WHO LENGTH MODE TIMES     so many calls, to count their instructions: WHO is `rust`, `library`,
 //!                                                `readings` for the library with this choice, or `empty` for the library
@@ -14,14 +14,15 @@
 #[path = "../../include/jettyfig.rs"]
 mod jettyfig;
 
-use jettyfig::{Choices, Rooms, Tables};
+use jettyfig::{Choices, Rooms, Tables, room_for, slots_for};
 use std::time::{Duration, Instant};
 
 const ROUNDS: usize = 7;
 const MODES: [(u8, &str); 4] = [(0, "string"), (1, "path"), (2, "alternatives"), (3, "all edges")];
-const LENGTHS: [usize; 5] = [0, 64, 128, 256, 512];
+const LENGTHS: [usize; 6] = [0, 64, 512, 1024, 2048, 4096];
 
-/// enough for a text of 512 characters of these labels
+/// enough for a text of 512 characters of these labels; longer ones get as many times as much
+const ENOUGH_FOR: usize = 512;
 const SLOTS: usize = 64 * 1024;
 const ROOM: usize = 64 * 1024;
 const OUT: usize = 256 * 1024;
@@ -36,6 +37,12 @@ struct Lent<'a> {
 }
 
 impl Lent<'_> {
+    /// rooms for texts of so many characters
+    fn make_room(&mut self, length: usize) {
+        let times = length.div_ceil(ENOUGH_FOR).max(1);
+        (self.slots, self.room, self.out) = (vec![0; times * SLOTS], vec![0; times * ROOM], vec![0; times * OUT]);
+    }
+
     fn romanize(&mut self, mode: u8, text: &str) -> &[u8] {
         let rooms = Rooms { slots: &mut self.slots, room: &mut self.room, out: &mut self.out };
         let answer = jettyfig::romanize(mode, self.choices, self.tables, b"", text.as_bytes(), rooms);
@@ -88,6 +95,7 @@ fn texts(labels: &str, length: usize) -> Vec<String> {
 fn compare(published: &oracle::Tables, library: &mut Lent, labels: &str) {
     for length in LENGTHS {
         let texts = texts(labels, length);
+        library.make_room(length);
         let n = texts.len();
         let characters = texts.iter().map(|text| text.chars().count()).sum::<usize>();
         println!("{n} texts of {:.1} characters on average; microseconds a text", characters as f64 / n as f64);
@@ -120,7 +128,7 @@ fn main() {
     let decompositions = read("decompositions.bin");
     let tables = Tables { rules: &rules, classes: &classes, vowels: &vowels, decompositions: &decompositions };
     let choices = Choices::default();
-    let mut library = Lent { choices, tables, slots: vec![0; SLOTS], room: vec![0; ROOM], out: vec![0; OUT] };
+    let mut library = Lent { choices, tables, slots: Vec::new(), room: Vec::new(), out: Vec::new() };
     let published = || oracle::Tables::read([&rules, &classes, &vowels, &decompositions]).expect("the tables are right");
     match words.get(1).map(String::as_str) {
         None => {
@@ -129,6 +137,7 @@ fn main() {
         }
         Some("count") => {
             let (who, texts, mode, times) = (&words[2], texts(&text("labels.txt"), number(3)), number(4) as u8, number(5));
+            library.make_room(number(3));
             let taken = texts.iter().take(times);
             library.choices.readings = (who == "readings") as u8;
             match who.as_str() {
@@ -142,9 +151,9 @@ fn main() {
         }
         _ => {
             let (text, mode) = (text("text.txt"), number(2) as u8);
-            // as many edges as the text can have, and behind them those of a decomposition of 18 characters
-            library.slots = vec![0; 12 * 17 * (512 + 18)];
-            library.room = vec![0; 198 * 17 * (512 + 18)];
+            // what alternatives keep in mind stands in the room that is free: a short text gets as much of it as a longer one
+            let n = text.chars().count().max(ENOUGH_FOR);
+            (library.slots, library.room) = (vec![0; slots_for(n)], vec![0; room_for(n)]);
             library.out = vec![0; 1 << 26];
             // the first call touches memory that was never used
             let answered = library.romanize(mode, &text).to_vec();

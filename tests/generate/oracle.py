@@ -1,5 +1,6 @@
 """Asks the oracle, and makes calls of what it answers. The oracle knows nothing of the room lent to a call, nor of the longest text of
 an edge: 9, 10, 11 and 14 are worked out here, by the words of document 01 and ticket 3, from the edges in their adding order."""
+import itertools
 import pathlib
 import subprocess
 import sys
@@ -35,7 +36,7 @@ class Built(NamedTuple):
 
     def lent(self):
         """exactly what the call needs"""
-        before = [sum(edge.length for edge in self.added[:k]) for k in range(len(self.added))]
+        before = itertools.accumulate((edge.length for edge in self.added), initial=0)
         slots = max((k + edge.slots() for k, edge in enumerate(self.added)), default=0)
         room = max((had + edge.room() for had, edge in zip(before, self.added)), default=0)
         return Lent(SLOT * slots, room, len(self.output))

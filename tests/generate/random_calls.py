@@ -1,7 +1,8 @@
 #!/usr/bin/env python3
 """Random calls, answered by the oracle. Small alphabets of each script meet random rules made from pieces of the text, so that
 sources match, targets chain and the special characters stand beside each other. The last quarter of the calls is of worlds with readings,
-where the texts of rules are often equal; only these choose readings.
+where the texts of rules are often equal; only these choose readings. Behind them comes one more for each 20: worlds with targets of up to
+200 bytes, where a text now and then has over 512 characters.
 
 usage: random_calls.py ORACLE SEED COUNT FILE.calls[.xz]"""
 import random
@@ -72,21 +73,24 @@ CODES = ["san", "asm", "ben", "guj", "kas", "pan", "hin", "abc"]
 # characters that have decompositions, their usual classes, and what stands together with them
 FORMS = {"①": (NUMBER,), "②": (NUMBER,), "½": (NUMBER,), "Ａ": (LETTER,), "ⓩ": (OTHER,), "㌔": (LETTER, KATAKANA), "\u2075": (NUMBER,)}
 FORM_PHRASES = ["①②", "1①", "①1", "1½", "½①1", "Ａⓩ", "①x", "½ ", " ①"]
-# with its rule three of these are 192 bytes; the other has none
+# with its rule three of these are 192 bytes, or 600; the other has none
 LONG, FILLER = "\u3007", "="
 # what a row may hold besides the characters of its world
 HELD = "1122xkZq" + SLASH * 3 + "  é€\u0301"
 USUAL_FORMS = {"①": "1", "②": "2", "½": "1" + SLASH + "2", "Ａ": "A", "ⓩ": "z", "㌔": "キロ", "\u2075": "5"}
 
 
-# far more than any of these calls needs; a long output would only make the definition slow
-MANY_SLOTS, MUCH_ROOM = 17 * 512 * 12, 512 * 198
+# far more than most of these calls need; a long output would only make the definition slow
+MANY_SLOTS, MUCH_ROOM = 104448, 101376
+MANY_EDGES = 800
 
 
 class World:
     """the tables and texts of one case"""
     MODES = (0, 1, 2, 2, 3, 3)
     FORMED = 0.6      # how often there are decompositions
+    LONG_TARGET = "ka" * 32
+    FULL = 0.1        # how often a row holds about as many bytes as a text may have
 
     def __init__(self, rng):
         self.rng = rng
@@ -203,7 +207,7 @@ class World:
         usual = USUAL_FORMS.get(char, "")
         if usual and self.chance(0.4) and set(usual) <= set(free):
             return usual
-        if self.chance(0.1):
+        if self.chance(self.FULL):
             return LONG * 3 + rng.choice((FILLER, FILLER, rng.choice(free))) * rng.randint(4, 8)
         if self.chance(0.2):
             phrase = [c for c in rng.choice(self.phrases) if c in free]
@@ -212,7 +216,7 @@ class World:
         return "".join(rng.choice(free) for _ in range(rng.choice((1, 1, 1, 2, 2, 3, 3, 4, 6, MOST_FORM))))
 
     def long_rules(self):
-        return [Rule(LONG, "ka" * 32)] if any(LONG in held for held, _ in self.forms.values()) else []
+        return [Rule(LONG, self.LONG_TARGET)] if any(LONG in held for held, _ in self.forms.values()) else []
 
     def sources(self):
         """characters of the text, stretches of it, patterns around a character, and strangers; and the same of what rows hold"""
@@ -299,6 +303,28 @@ class ReadWorld(World):
         return self.choice()
 
 
+class LongWorld(World):
+    """a world with texts of rules about 64 bytes, which were the most once, about 200, and between; or now and then with a text of more
+    than 512 characters, which the definition takes its time for"""
+    LONG_TARGET = "ka" * (MOST_TARGET // 2)
+    FORMED, FULL = 0.8, 0.5
+    LENGTHS = 63, 64, 65, 66, 127, 128, MOST_TARGET - 1, MOST_TARGET, MOST_TARGET
+
+    def some_text(self):
+        text = super().some_text()
+        self.stretched = bool(text) and self.chance(0.08)
+        return (text * 640)[:self.rng.choice((512, 513, 514, 540))] if self.stretched else text
+
+    def target(self, source=""):
+        """its first or its last bytes are those of a usual one"""
+        chosen = super().target(source)
+        if self.stretched or self.chance(0.7):
+            return chosen
+        length = self.rng.choice((*self.LENGTHS, self.rng.randint(65, MOST_TARGET)))
+        more = (self.rng.choice(TARGETS) or "k") * length
+        return (chosen + more)[:length] if self.chance(0.5) else (more + chosen)[-length:]
+
+
 def lent(rng, built):
     """what is lent: enough, exactly enough, or short of slots, of room or of output"""
     slots, room, output = exact = built.lent()
@@ -306,7 +332,7 @@ def lent(rng, built):
     if way < 0.2:
         return exact
     if way < 0.75:
-        return Lent(rng.choice((slots + rng.randrange(30), MANY_SLOTS)), rng.choice((room + rng.randrange(9), MUCH_ROOM)), output + rng.randrange(9))
+        return Lent(rng.choice((slots + rng.randrange(30), max(slots, MANY_SLOTS))), rng.choice((room + rng.randrange(9), max(room, MUCH_ROOM))), output + rng.randrange(9))
     less = [rng.randrange(n) if n else 0 for n in exact]
     if way < 0.84:
         return Lent(less[0], room, output)
@@ -322,15 +348,24 @@ def made(rng, case, built):
     return call(case, built, lent(rng, built)) if built else Call(case, Lent(12, 9, 9), refused(number, 0))
 
 
+def cut(case, built):
+    """the case, its text cut where it has more edges than the prover's steps are enough for"""
+    if not built or len(built.added) <= MANY_EDGES:
+        return case
+    return case._replace(text=case.text.decode()[:100].encode())
+
+
 def generated(program, world, seed, count):
     rng = random.Random(seed)
     cases = [world(rng).given() for _ in range(count)]
+    cases = [cut(case, built) for case, built in zip(cases, ask(program, cases))]
     return [made(rng, case, built) for case, built in zip(cases, ask(program, cases))]
 
 
 def main(program, seed, count, path):
     seed, count = int(seed), int(count)
-    calls = generated(program, World, seed, count - count // 4) + generated(program, ReadWorld, seed, count // 4)
+    worlds = (World, count - count // 4), (ReadWorld, count // 4), (LongWorld, count // 20)
+    calls = [call for world, n in worlds for call in generated(program, world, seed, n)]
     callfile.write(path, calls)
     numbers = [c.answer.number for c in calls]
     print("%d calls: %s" % (len(calls), ", ".join("%d of %d" % (numbers.count(n), n) for n in sorted(set(numbers)))))

@@ -62,11 +62,11 @@ def sample_results():
 
 
 def longest_and_most():
-    # the longest text an edge can have: 64, vowel 4, doubled 1, pre-vowel 64, e 1, small ya 64 for one, long mark 1
+    # every step that makes a text longer, of targets of 64: vowel 4, doubled 1, pre-vowel 64, e 1, small ya 64 for one, long mark 1
     yield Corner("เっกⲁ\u0300ゃー", [("กⲁ", "k" * 64), ("เ", "e" * 62 + "ki"), ("ゃ", "y" + "a" * 63)],
                  {"เ": (OTHER, THAI, PRE), "っ": (OTHER, THAI), "ก": T, "ⲁ": COPT, "\u0300": (NONSPACING, HIRAGANA), "ゃ": HIRA, "ー": L},
                  [(THAI, A, "aeio")], want="e" + "k" * 65 + "aeio" + "e" * 62 + "ky" + "a" * 64)
-    # the longest alternative: 64 and a vowel of 4
+    # an alternative of 64 and a vowel of 4
     yield Corner("क", [("क", "k", 0, 0, (), None, ["x" * 64])], {"क": SIX}, [(6, A, "aeio")], want="kaeio")
     # 48 edges start at 0, since those found at 1 and 2 move there; then 16, 15 .. 1 from 3 on, and two fallbacks
     text = "เっ" + "ก" * 17
@@ -621,7 +621,7 @@ def decompositions_and_words():
     yield made("xっ①", {"①": "か"}, "ska", [("xっ", "s"), Rule("①", "ta", end="ka", others=["ga"]), ("か", "ka")], kana)
     yield made("①", {"①": "か"}, "ka", [Rule("か", "ka", others=["ga"])], kana)
     yield made("①", {"①": "か"}, "ko", [Rule("①", "ko", others=["ka", "go"]), ("か", "ka")], kana)
-    # 18 characters; the longest text
+    # 18 characters; long texts
     yield made("①", {"①": "abcdefghijklmnopqr"}, "abcdefghijklmnopqr", edges=1)
     yield made("①", {"①": "x" * 18}, "k" * 198, [("x", "k" * 11)])
     yield made("2①2", {"①": "x" * 17 + "y"}, "2 " + "k" * 196 + " 2", [("x", "k" * 11), ("y", "k" * 9)], {"①": N, "2": N})
@@ -740,7 +740,7 @@ def readings():
     kana = {c: HIRA for c in "っ①か"}
     yield from by_readings("xっ①", [("xっ", "s"), Rule("①", "ka", end="t"), ("か", "ka")], kana, none, [(13, "t")], want="ska", made={"①": "か"})
     yield from by_readings("①", [Rule("か", "ka", end="t")], kana, none, none, want="ka", made={"①": "か"})
-    # 64 bytes
+    # a long one
     yield from by_readings("x", [rule("k", "t" * 64)], {}, none, [(13, "t" * 64)])
 
 
@@ -791,6 +791,66 @@ def letters():
             yield Corner("क", [("क", "h")], {"क": SIX}, [(6, A, "a" + c)])
 
 
+MOST = MOST_TARGET
+
+
+def longest_edges():
+    """targets, end-of-syllable targets and alternatives of 200 bytes"""
+    # the longest text that an edge can have: 200, vowel 4, doubled 1, pre-vowel 200, e 1, small ya 200 for one, long mark 1
+    want = "e" + "k" * (MOST + 1) + "aeio" + "e" * (MOST - 2) + "ky" + "a" * MOST
+    assert len(want) == MOST_EDGE_TEXT
+    every = {"เ": (OTHER, THAI, PRE), "っ": (OTHER, THAI), "ก": T, "ⲁ": COPT, "\u0300": (NONSPACING, HIRAGANA), "ゃ": HIRA, "ー": L}
+    yield Corner("เっกⲁ\u0300ゃー", [("กⲁ", "k" * MOST), ("เ", "e" * (MOST - 2) + "ki"), ("ゃ", "y" + "a" * (MOST - 1))], every,
+                 [(THAI, A, "aeio")], want=want)
+    # the longest alternative: 200 and a vowel of 4
+    yield Corner("क", [Rule("क", "k", others=["x" * MOST])], {"क": SIX}, [(6, A, "aeio")], want="kaeio", listed=[(12, "x" * MOST + "aeio")])
+    # cores: 200 bytes, and on both sides of what was the most, and of 127
+    for n in (64, 65, 127, 128, MOST - 1, MOST):
+        yield Corner("क", [Rule("क", "k" * n, others=["g" * n])], {"क": SIX}, [(6, A, "ae")], want="k" * n + "ae", listed=[(12, "g" * n + "ae")])
+    # each step by itself
+    yield Corner("っか", [("か", "k" * MOST)], {c: HIRA for c in "っか"}, want="k" * (MOST + 1))
+    yield Corner("っち", [("ち", "ch" + "i" * (MOST - 2))], {c: HIRA for c in "っち"}, want="tch" + "i" * (MOST - 2))
+    yield Corner("きゃ", [("き", "k" * (MOST - 1) + "i"), ("ゃ", "y" + "a" * (MOST - 1))], {c: HIRA for c in "きゃ"}, want="k" * (MOST - 1) + "y" + "a" * (MOST - 1))
+    yield Corner("かー", [("か", "k" * (MOST - 1) + "a")], {"か": HIRA, "ー": L}, want="k" * (MOST - 1) + "aa")
+    yield Corner("ⲁ\u0300", [("ⲁ", "a" * MOST)], {"ⲁ": COPT, "\u0300": (NONSPACING, COPTIC)}, want="e" + "a" * MOST)
+    thai = {"ก": T, "า": T, "อ": T, "เ": (LETTER, THAI, PRE), "\u0e48": TONE_MARK}
+    yield Corner("เก", [("ก", "k" * MOST), ("เ", "e" * MOST)], thai, want="k" * MOST + "e" * MOST)
+    yield Corner("เกา", [("ก", "k" * MOST), ("เ\u2013า", "a" * MOST)], thai, want="k" * MOST + "a" * MOST)
+    yield Corner("กอก", [("ก", "a" * (MOST - 1) + "k"), ("อ", "o" * MOST)], thai)
+    yield Corner("กก", [Rule("ก", "k", end="t" * MOST)], thai, want="k" + "t" * MOST)
+    # what is looked for stands at the very end, or at the front
+    for front in ("x", "1", "-"):
+        for target in ("kya", "dya", "tika", "ka", "k", "ya-"):
+            yield Corner("क", [("क", front * (MOST - len(target)) + target)], {"क": SIX}, [A6])
+    yield Corner("x--", [("x", "q", END, 1), ("x", "p"), ("-", "1" * (MOST - 1) + "k")], {}, begins="p")
+    yield Corner("x--", [("x", "q", END, 1), ("x", "p"), ("-", "1" * MOST)], {}, begins="q")
+    yield Corner("-x", [("-", "1" * (MOST - 1) + "k"), ("x", "y", NOT_START)], {}, want="1" * (MOST - 1) + "ky")
+    yield Corner("-x", [("-", "k" * (MOST - 1) + "1"), ("x", "y", START)], {}, want="k" * (MOST - 1) + "1y")
+    yield Corner("x", [("x", "+" + "n" * (MOST - 1))], {}, want="+" + "n" * (MOST - 1))
+    for capitals, shown in ((0, "ZH" * (MOST // 2)), (1, "Z" + "h" + "zh" * (MOST // 2 - 1))):
+        yield Corner("Жж", [("Ж", "ZH" * (MOST // 2)), ("ж", "zh")], {"Ж": L, "ж": L}, want=shown + "zh", capitals=capitals, lower="ж")
+    # texts that differ in their last byte alone
+    x, y, z = ("x" * (MOST - 1) + c for c in "xyz")
+    yield Corner("ж", [Rule("ж", x, others=[y, z, y, x]), Rule("ж", x, others=[z, x[:-1]])], {}, want=x, listed=[(12, y), (12, z), (12, x[:-1])])
+    yield Corner("ж", [Rule("ж", y, others=["b"]), Rule("ж", x, 0, 1, (), None, ["a"])], {}, want=x, listed=[(12, "a")])
+    yield from by_readings("x", [Rule("x", x, end=y, others=[z])], {}, [(12, z)], [(12, z), (13, y)])
+    yield from by_readings("x", [Rule("x", x, end=x), Rule("x", x, end=z)], {}, [], [(13, z)])
+    yield Corner("xx", [Rule("x", "s", end=y), Rule("x", z, end=y), Rule("x", y, end=y)], {})
+    # decompositions: three times 200 bytes and 6, or 5 and a space, or slashes
+    yield Corner("①", [("x", "k" * MOST)], {}, want="k" * 3 * MOST + "€€", made={"①": "xxx€€"})
+    yield Corner("①2", [("x", "k" * MOST), ("y", "k" * 5)], {"①": N, "2": N}, want="k" * (3 * MOST + 5) + " 2", made={"①": "xyxx"})
+    yield Corner("①", [("x", "k" * MOST)], {"①": N}, want="///" + "k" * 3 * MOST + "///", made={"①": "\u2044\u2044\u2044xxx\u2044\u2044\u2044"})
+
+
+# words of several scripts
+LINE_OF_WORDS = "कत ก \u0e48อก きゃっか เกา жж कित Жж р с ងយ "
+
+
+def longer_texts():
+    """one character more than was the most once; longer ones are in a list of their own (long_texts.py)"""
+    yield Corner((LINE_OF_WORDS * 513)[:513], sample.RULES, sample.CLASSES, sample.VOWELS)
+
+
 # what each group tells is seen in these modes: all edges, and the others in turn
 TURNS = lambda k: (k % 3, 3)
 GROUPS = {
@@ -799,6 +859,8 @@ GROUPS = {
     decompositions_and_rules: TURNS, decompositions_and_words: TURNS, fallbacks: TURNS,
     alternatives: lambda k: (k % 2, 2), letters: lambda k: (3,), o_ang: TURNS, readings: lambda k: (2,), readings_elsewhere: lambda k: (0, 1, 3),
     reading_pairs: lambda k: (2,), readings_again: lambda k: (2,),
+    # what came with targets of 200 bytes and longer texts
+    longest_edges: lambda k: range(4), longer_texts: lambda k: range(4),
 }
 
 

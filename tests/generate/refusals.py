@@ -32,11 +32,11 @@ def accepted(**changes):
 
 
 def in_table(number, table, before, bad, after, within=0):
-    """a faulty row as a table's only row, its last, and with one after it; the place is so far within the row"""
+    """a faulty row as a table's only row, its last, and with one after it; the place is so far within the row. A row that is right has the
+    number 0, and the text is read in the same rooms"""
     bad = bytes(bad)
-    yield Border((number, 5 + within), **{table: block([bad])})
-    yield Border((number, 5 + len(before) + within), **{table: block([before, bad])})
-    yield Border((number, 5 + len(before) + within), **{table: block([before, bad, after])})
+    for front, back in ((b"", b""), (before, b""), (before, after)):
+        yield Border((number, 5 + len(front) + within) if number else None, **{table: block([front, bad, back])})
 
 
 def cut_rows(number, table, before, row):
@@ -116,14 +116,23 @@ def resized(rest):
 
 
 def bad_text(text):
-    """the number of a faulty text, and how far from its length byte the fault is"""
-    if len(text) > 64:
+    """the number of a faulty text, and how far from its length byte the fault is; none where nothing is wrong with it"""
+    if len(text) > MOST_TARGET:
         return 21, 0
-    return 23, 1 + next(at for at, c in enumerate(text) if not "\x20" <= c <= "\x7e")
+    at = next((at for at, c in enumerate(text) if not "\x20" <= c <= "\x7e"), None)
+    return None if at is None else (23, 1 + at)
 
 
 # where a field stands in a row with one character and no code: a text behind a target of one byte stands at 12
 FLAGS, CHARACTERS, SOURCE, CODES, FIRST_CODE, TEXT = 2, 5, 6, 9, 10, 10
+
+
+def rows_with(text):
+    """the text as each of a row's: the number that it is refused by, 0 where it is right, how far within the row, and the row"""
+    number, within = bad_text(text) or (0, 0)
+    return [(number, at + within, row) for at, row in (
+        (TEXT, rule_row("c", text)), (TEXT + 2, rule_row("c", "t", end=text)), (TEXT, rule_row("c", None, end=text)),
+        (TEXT + 3, rule_row("c", "t", others=[text])), (TEXT + 5, rule_row("c", "t", others=["x", text])))]
 
 
 def rule_rows():
@@ -149,10 +158,7 @@ def rule_rows():
         bad.append((22, FIRST_CODE, rule_row("c", "t", codes=[code])))
         bad.append((22, FIRST_CODE + 3, rule_row("c", "t", codes=["abc", code])))
     for text in ("\x1f", "\x7f", "\0", "\x80", "\xff", "ab\x1f", "\x7fab", "x" * 65, "x" * 255):
-        number, within = bad_text(text)
-        bad += [(number, at + within, row) for at, row in (
-            (TEXT, rule_row("c", text)), (TEXT + 2, rule_row("c", "t", end=text)), (TEXT, rule_row("c", None, end=text)),
-            (TEXT + 3, rule_row("c", "t", others=[text])), (TEXT + 5, rule_row("c", "t", others=["x", text])))]
+        bad += rows_with(text)
     for number, within, row in bad:
         yield from in_table(number, "rules", before, row, after, within)
     # a row's rest that ends before its parts do: each of its bytes, and the part that is missed without it
@@ -364,7 +370,7 @@ def utf8():
         yield Border((6, 9), text="é€𐍈".encode() + s)
     yield Border((6, 3), text=b"\xe2\x82\xac\x80\xff")                   # a good one, then two bad ones
     yield Border((6, 512), text=b"a" * 512 + b"\xff")
-    yield Border((6, 600), text=b"a" * 600 + b"\xc2")                    # before 7
+    yield Border((6, 600), text=b"a" * 600 + b"\xc2")
     yield Border((6, 3), text="\u0f00".encode() + b"\xed\xa0\x80")       # before 8
     for s in sequences(GOOD_UTF8):
         yield accepted(text=s, mode=0)
@@ -372,11 +378,12 @@ def utf8():
 
 
 def lengths():
+    """texts about a length that was the most once: there are slots for 100 of their edges"""
     for n in (513, 514, 700):
-        yield Border((7, 512), text=b"a" * n)
-    yield Border((7, 512), text="€".encode() * 513)
-    yield Border((7, 512), text=b"a" * 512 + "𐍈".encode())
-    yield Border((7, 512), text="\u0f00".encode() + b"a" * 512)          # before 8
+        yield Border((9, 100), text=b"a" * n)
+    yield Border((9, 100), text="€".encode() * 513)
+    yield Border((9, 100), text=b"a" * 512 + "𐍈".encode())
+    yield Border((8, 0), text="\u0f00".encode() + b"a" * 512)
     yield accepted(text=b"b" * 512, mode=0)
     yield accepted(text="€".encode() * 512, mode=1, rules=NONE, classes=NONE, vowels=NONE)
 
@@ -514,71 +521,202 @@ def inner_rooms():
         yield Border(None, Lent(24, 2, needs), **plain({"①": "12"}, "①", mode=mode))
 
 
-def too_long():
-    """14 at the character whose finished text passes 198 bytes: behind its string's 9 and 10, before its own"""
-    def long(made, text, kinds=(), table=(("x", "k" * 11), ("y", "k" * 12), ("z", "k" * 10))):
-        return dict(rules=rules(*table), classes=classes(dict(kinds)), vowels=NONE, decompositions=forms(made), text=text.encode(), mode=1)
+def long(made, text, kinds=(), table=()):
+    """a text with decompositions, whose path is shown"""
+    return dict(rules=rules(*table), classes=classes(dict(kinds)), vowels=NONE, decompositions=forms(made), text=text.encode(), mode=1)
 
-    number = {"①": (NUMBER,), "2": (NUMBER,)}
+
+NUMBERS = {"①": (NUMBER,), "2": (NUMBER,)}
+
+
+def former_too_long():
+    """texts about 198 bytes, which was the longest once: what 14 came for is read now, or finds too little room"""
+    def short(made, text, kinds=(), table=(("x", "k" * 11), ("y", "k" * 12), ("z", "k" * 10))):
+        return long(made, text, kinds, table)
+
     most, more, less = "x" * 18, "x" * 17 + "y", "x" * 17 + "z"            # 198, 199 and 197 bytes
-    yield Border(None, Lent(18 * 12, 198, 300), **long({"①": most}, "①"))
-    yield Border((14, 0), Lent(18 * 12, 199, 300), **long({"①": more}, "①"))
-    yield Border((14, 0), Lent(9999, 9999, 300), **long({"①": more}, "①"))
-    yield Border((14, 0), Lent(9999, 9999, 0), **long({"①": more}, "①"))
-    # behind the string's 9 and 10
+    yield Border(None, Lent(18 * 12, 198, 300), **short({"①": most}, "①"))
+    yield Border(None, Lent(18 * 12, 199, 300), **short({"①": more}, "①"))
+    yield Border(None, Lent(9999, 9999, 300), **short({"①": more}, "①"))
+    yield Border((11, 5 + 8 + 199), Lent(9999, 9999, 0), **short({"①": more}, "①"))
     for slots in (0, 1, 17):
-        yield Border((9, 0), Lent(12 * slots, 199, 300), **long({"①": more}, "①"))
+        yield Border((9, 0), Lent(12 * slots, 199, 300), **short({"①": more}, "①"))
     for room in (0, 11, 198):
-        yield Border((10, 0), Lent(18 * 12, room, 300), **long({"①": more}, "①"))
-    # before its own 10: 197 bytes and two spaces, 198 and one
+        yield Border((10, 0), Lent(18 * 12, room, 300), **short({"①": more}, "①"))
+    # 197 bytes and two spaces, 198 and one: with room for the string alone its own 10 comes
     for made, text, table in ((less, "2①2", 197), (most, "2①", 198), (most, "①2", 198)):
         at = text.index("①")
-        yield Border((10, at), Lent(9999, table - 1, 300), **long({"①": made}, text, number))
-        yield Border((14, at), Lent(9999, table, 300), **long({"①": made}, text, number))
-        yield Border((14, at), Lent(18 * 12, 9999, 300), **long({"①": made}, text, number))
-        yield Border(None, Lent(9999, 9999, 300), **long({"①": made}, text))
-    yield Border((10, 1), Lent(9999, 197, 300), **long({"①": less}, "2①", number))
-    yield Border(None, Lent(9999, 199, 300), **long({"①": less}, "2①", number))
-    # the slash is in: 15 times 13 bytes, and three slashes of three bytes, or of one
+        yield Border((10, at), Lent(9999, table - 1, 300), **short({"①": made}, text, NUMBERS))
+        yield Border((10, at), Lent(9999, table, 300), **short({"①": made}, text, NUMBERS))
+        yield Border(None, Lent(18 * 12, 9999, 300), **short({"①": made}, text, NUMBERS))
+        yield Border(None, Lent(9999, 9999, 300), **short({"①": made}, text))
+    yield Border((10, 1), Lent(9999, 197, 300), **short({"①": less}, "2①", NUMBERS))
+    yield Border(None, Lent(9999, 199, 300), **short({"①": less}, "2①", NUMBERS))
+    # 15 times 13 bytes, and three slashes of three bytes, or of one
     slashes = dict(made={"①": "w" * 15 + SLASH * 3}, table=(("w", "k" * 13),))
-    yield Border((14, 0), Lent(9999, 9999, 300), **long(text="①", **slashes))
-    yield Border(None, Lent(9999, 204, 300), **long(text="①", kinds=number, **slashes))
-    yield Border((10, 0), Lent(9999, 203, 300), **long(text="①", kinds=number, **slashes))
-    yield Border((14, 1), Lent(9999, 9999, 300), **long(text="2①", kinds=number, **slashes))
-    # bytes, not characters: 15 times 13, and one of three bytes, or two of two
-    yield Border(None, Lent(9999, 9999, 300), **long({"①": "v" * 15 + "€"}, "①", table=(("v", "k" * 13),)))
-    yield Border((14, 0), Lent(9999, 9999, 300), **long({"①": "v" * 15 + "éé"}, "①", table=(("v", "k" * 13),)))
-    # the first such character, and behind 9 and 10 of what is added before it
-    yield Border((14, 1), Lent(9999, 9999, 300), **long({"①": more, "②": more}, "a①②"))
-    yield Border((14, 1), Lent(18 * 12, 199, 300), **long({"①": more}, "a①"))
-    yield Border((9, 0), Lent(0, 9999, 300), **long({"①": more}, "x①"))
-    yield Border((10, 0), Lent(9999, 10, 300), **long({"①": more}, "x①"))
-    yield Border((9, 1), Lent(18 * 12, 9999, 300), **long({"①": more}, "x①"))
-    yield Border((10, 1), Lent(9999, 11 + 198, 300), **long({"①": more}, "x①"))
-    yield Border((14, 1), Lent(19 * 12, 11 + 199, 300), **long({"①": more}, "x①"))
-    # a rule beside it helps nothing; a tag without an edge does
-    yield Border((14, 0), Lent(9999, 9999, 300), **long({"①": more}, "①", table=(("①", "1"), ("x", "k" * 11), ("y", "k" * 12))))
-    yield Border((14, 0), Lent(9999, 9999, 300), **long({"①": more}, "①②", table=(("①②", "1"), ("x", "k" * 11), ("y", "k" * 12))))
+    yield Border(None, Lent(9999, 9999, 300), **short(text="①", **slashes))
+    yield Border(None, Lent(9999, 204, 300), **short(text="①", kinds=NUMBERS, **slashes))
+    yield Border((10, 0), Lent(9999, 203, 300), **short(text="①", kinds=NUMBERS, **slashes))
+    yield Border(None, Lent(9999, 9999, 300), **short(text="2①", kinds=NUMBERS, **slashes))
+    yield Border(None, Lent(9999, 9999, 300), **short({"①": "v" * 15 + "€"}, "①", table=(("v", "k" * 13),)))
+    yield Border(None, Lent(9999, 9999, 300), **short({"①": "v" * 15 + "éé"}, "①", table=(("v", "k" * 13),)))
+    # the output is too short for both; the fallback of a is added last, and finds no room
+    yield Border((11, 5 + 9 + 2 * (8 + 199)), Lent(9999, 9999, 300), **short({"①": more, "②": more}, "a①②"))
+    yield Border((10, 0), Lent(18 * 12, 199, 300), **short({"①": more}, "a①"))
+    yield Border((9, 0), Lent(0, 9999, 300), **short({"①": more}, "x①"))
+    yield Border((10, 0), Lent(9999, 10, 300), **short({"①": more}, "x①"))
+    yield Border((9, 1), Lent(18 * 12, 9999, 300), **short({"①": more}, "x①"))
+    yield Border((10, 1), Lent(9999, 11 + 198, 300), **short({"①": more}, "x①"))
+    yield Border(None, Lent(19 * 12, 11 + 199, 300), **short({"①": more}, "x①"))
+    yield Border(None, Lent(9999, 9999, 300), **short({"①": more}, "①", table=(("①", "1"), ("x", "k" * 11), ("y", "k" * 12))))
+    yield Border(None, Lent(9999, 9999, 300), **short({"①": more}, "①②", table=(("①②", "1"), ("x", "k" * 11), ("y", "k" * 12))))
     for tag in (UNTAGGED, SUPER, SUB, NO_BREAK, COMPAT):
-        yield Border(None, Lent(9999, 9999, 300), **long({"①": (more, tag)}, "①"))
+        yield Border(None, Lent(9999, 9999, 300), **short({"①": (more, tag)}, "①"))
+    # 18 times 64 bytes is still too long
+    yield Border((14, 0), Lent(9999, 9999, 300), **short({"①": "x" * 18}, "①", table=(("x", "k" * 64),)))
+    yield Border(None, Lent(99999, 99999, 9999), **short({"①": more}, "a" * 511 + "①"))
+    # a choice is refused before anything
+    for choice, refusal in (("capitals", 12), ("o_ang", 15), ("readings", 17)):
+        yield Border((refusal, 0), Lent(9999, 9999, 300), **short({"①": more}, "①"), **{choice: 2})
+
+
+def long_targets():
+    """targets, end-of-syllable targets and alternatives about 64 bytes, which were the most once, and about 200"""
+    before, after = rule_row("b", "B"), rule_row("d", "D")
+    for n in (64, 66, MOST_TARGET - 1, MOST_TARGET, MOST_TARGET + 1, MOST_TARGET + 2, 254):
+        for number, within, row in rows_with("x" * n):
+            yield from in_table(number, "rules", before, row, after, within)
+    for text in ("x" * 64 + "\x7f", "x" * (MOST_TARGET - 1) + "\x1f", "\x80" + "x" * (MOST_TARGET - 1), "x" * MOST_TARGET + "\x7f"):
+        for number, within, row in rows_with(text):
+            yield from in_table(number, "rules", before, row, after, within)
+    for _, table, number, place in smallest.long_tables():
+        yield Border((number, place), rules=table)
+    # what is still allowed
+    full = "x" * MOST_TARGET
+    for row in (rule_row("c", "x" * 65, end="y" * 65, others=["z" * 65]), rule_row("c", full, end="y" * MOST_TARGET, others=["z" * MOST_TARGET]),
+                rule_row("c" * 16, full, 31, 65535, ["abc"] * 8, full, [full] * 8), rule_row("c", " " * MOST_TARGET, end="~" * MOST_TARGET)):
+        yield accepted(rules=block([row]), text=b"c" * 17, mode=2)
+
+
+def long_texts():
+    """6, 7 and 8 at 4,096 characters of each size"""
+    most = MOST_CHARACTERS
+    for n in (most + 1, most + 2, most + 900):
+        yield Border((7, most), text=b"a" * n)
+    for c in "é€𐍈":
+        yield Border((7, most), text=c.encode() * (most + 1))
+        yield Border((7, most), text=b"a" * most + c.encode())
+        yield Border((6, most), text=b"a" * most + c.encode()[:-1])          # before 7, though there would be a character
+        yield Border((6, len(c.encode()) * most), text=c.encode() * most + b"\xff")
+    yield Border((6, most + 1), text=b"a" * (most + 1) + b"\xc2")
+    yield Border((7, most), text="\u0f00".encode() + b"a" * most)             # before 8
+    yield Border((7, most), text=b"a" * most + "\u0f00".encode())
+    for c in "\u0f00\u2800\uac00":
+        yield Border((8, most - 1), text=b"a" * (most - 1) + c.encode())
+        yield Border((8, 512), text=b"a" * 512 + c.encode() * 2)
+    for mode, lent in ((0, Lent(99999, 9999, 0)), (1, Lent(0, 0, 0)), (2, Lent(99999, 9999, 99999)), (3, Lent(0, 0, 99999))):
+        yield Border((7, most), lent, text=b"b" * (most + 1), mode=mode)
+
+
+def too_long():
+    """14 at the character whose finished text passes 606 bytes: behind its string's 9 and 10, before its own"""
+    # three times 200 bytes, and 5, 6 or 7
+    full, rest = "k" * MOST_TARGET, MOST_EDGE_TEXT - 3 * MOST_TARGET
+    table = ("x", full), ("w", "k" * (rest - 1)), ("y", "k" * rest), ("z", "k" * (rest + 1))
+    less, most, more = "xxxw", "xxxy", "xxxz"
+    bytes_of = {less: MOST_EDGE_TEXT - 1, most: MOST_EDGE_TEXT, more: MOST_EDGE_TEXT + 1}
+
+    def border(refusal, lent, made, text, kinds=(), table=table, **changes):
+        return Border(refusal, lent, **long(made, text, kinds, table), **changes)
+
+    yield border(None, Lent(4 * 12, 606, 619), {"①": most}, "①")
+    yield border((11, 619), Lent(4 * 12, 606, 618), {"①": most}, "①")
+    yield border((10, 0), Lent(4 * 12, 605, 700), {"①": most}, "①")
+    yield border((14, 0), Lent(4 * 12, 607, 700), {"①": more}, "①")
+    yield border((14, 0), Lent(9999, 9999, 700), {"①": more}, "①")
+    yield border((14, 0), Lent(9999, 9999, 0), {"①": more}, "①")
+    for mode in (0, 2, 3):
+        yield Border((14, 0), Lent(9999, 9999, 700), **{**long({"①": more}, "①", table=table), "mode": mode})
+        yield Border(None, Lent(9999, 9999, 700), **{**long({"①": most}, "①", table=table), "mode": mode})
+    # behind the string's 9 and 10
+    for slots in (0, 1, 3):
+        yield border((9, 0), Lent(12 * slots, 607, 700), {"①": more}, "①")
+    for room in (0, 199, 200, 606):
+        yield border((10, 0), Lent(4 * 12, room, 700), {"①": more}, "①")
+    # before its own 10: 605 bytes and two spaces, 606 and one
+    for made, text in ((less, "2①2"), (most, "2①"), (most, "①2")):
+        at, size = text.index("①"), bytes_of[made]
+        yield border((10, at), Lent(9999, size - 1, 700), {"①": made}, text, NUMBERS)
+        yield border((14, at), Lent(9999, size, 700), {"①": made}, text, NUMBERS)
+        yield border((14, at), Lent(4 * 12, 9999, 700), {"①": made}, text, NUMBERS)
+        yield border(None, Lent(9999, 9999, 700), {"①": made}, text)
+    yield border((10, 1), Lent(9999, 605, 700), {"①": less}, "2①", NUMBERS)
+    yield border(None, Lent(9999, 607, 700), {"①": less}, "2①", NUMBERS)
+    # the slash is in: three times 200 bytes, three, and three slashes of three bytes, or of one
+    slashes = dict(made={"①": "xxxv" + SLASH * 3}, table=(("x", full), ("v", "kkk")))
+    yield border((14, 0), Lent(9999, 9999, 700), text="①", **slashes)
+    yield border(None, Lent(9999, 612, 700), text="①", kinds=NUMBERS, **slashes)
+    yield border((10, 0), Lent(9999, 611, 700), text="①", kinds=NUMBERS, **slashes)
+    yield border((14, 1), Lent(9999, 9999, 700), text="2①", kinds=NUMBERS, **slashes)
+    # bytes, not characters: three times 200, and two of three bytes, or one of three and two of two
+    yield border(None, Lent(9999, 9999, 700), {"①": "xxx€€"}, "①")
+    yield border((14, 0), Lent(9999, 9999, 700), {"①": "xxx€éé"}, "①")
+    # 18 characters: 17 times 34 bytes, and 28 or 29
+    eighteen = ("x", "k" * 34), ("y", "k" * 28), ("z", "k" * 29)
+    yield border(None, Lent(18 * 12, 606, 619), {"①": "x" * 17 + "y"}, "①", table=eighteen)
+    yield border((14, 0), Lent(18 * 12, 607, 700), {"①": "x" * 17 + "z"}, "①", table=eighteen)
+    # the first such character, and behind 9 and 10 of what is added before it
+    yield border((14, 1), Lent(9999, 9999, 700), {"①": more, "②": more}, "a①②")
+    yield border((14, 2), Lent(9999, 9999, 2000), {"①": most, "②": more}, "a①②")
+    yield border((14, 1), Lent(4 * 12, 607, 700), {"①": more}, "a①")
+    yield border((9, 0), Lent(0, 9999, 900), {"①": more}, "x①")
+    yield border((10, 0), Lent(9999, 199, 900), {"①": more}, "x①")
+    yield border((9, 1), Lent(4 * 12, 9999, 900), {"①": more}, "x①")
+    yield border((10, 1), Lent(9999, 200 + 606, 900), {"①": more}, "x①")
+    yield border((14, 1), Lent(5 * 12, 200 + 607, 900), {"①": more}, "x①")
+    # a rule beside it helps nothing; a tag without an edge does
+    yield border((14, 0), Lent(9999, 9999, 700), {"①": more}, "①", table=(("①", "1"), *table))
+    yield border((14, 0), Lent(9999, 9999, 700), {"①": more}, "①②", table=(("①②", "1"), *table))
+    for tag in (UNTAGGED, SUPER, SUB, NO_BREAK, COMPAT):
+        yield border(None, Lent(9999, 9999, 700), {"①": (more, tag)}, "①")
     # as long as it can get
-    yield Border((14, 0), Lent(9999, 9999, 300), **long({"①": "x" * 18}, "①", table=(("x", "k" * 64),)))
-    yield Border((14, 511), Lent(99999, 99999, 9999), **long({"①": more}, "a" * 511 + "①"))
+    yield border((14, 0), Lent(9999, 9999, 700), {"①": "x" * 18}, "①")
     # a choice is refused before it
     for choice, refusal in (("capitals", 12), ("o_ang", 15), ("readings", 17)):
-        yield Border((refusal, 0), Lent(9999, 9999, 300), **long({"①": more}, "①"), **{choice: 2})
+        yield border((refusal, 0), Lent(9999, 9999, 700), {"①": more}, "①", **{choice: 2})
 
 
-def orders():
-    """two faults at once: the one that is looked for earlier comes first; all of them together give the first"""
+def long_rooms():
+    """9, 10 and 11 of texts of 200 bytes and more"""
+    full = "k" * MOST_TARGET
+    plain = dict(rules=rules(("x", full), ("y", "k" * 65)), classes=NONE, vowels=NONE, text=b"xyx")
+    for slots, place in ((0, 0), (1, 1), (2, 2)):
+        yield Border((9, place), Lent(12 * slots, 999, 999), **plain)
+    for room, place in ((0, 0), (199, 0), (200, 1), (264, 1), (265, 2), (464, 2)):
+        yield Border((10, place), Lent(36, room, 999), **plain)
+    for mode, needs in ((0, 465), (1, 5 + 3 * 8 + 465), (2, 5 + 3 * 8 + 465), (3, 5 + 3 * 8 + 465)):
+        yield Border((11, needs), Lent(36, 465, needs - 1), **plain, mode=mode)
+        yield Border(None, Lent(36, 465, needs), **plain, mode=mode)
+    # alternatives and readings of 200 bytes need output alone
+    others = dict(plain, rules=rules(Rule("x", "k", end="e" * MOST_TARGET, others=["a" * MOST_TARGET, "b" * MOST_TARGET])), text=b"x")
+    for readings, rows in ((0, 2), (1, 3)):
+        needs = 5 + 9 + rows * (8 + MOST_TARGET)
+        yield Border((11, needs), Lent(12, 1, needs - 1), **others, mode=2, readings=readings)
+        yield Border(None, Lent(12, 1, needs), **others, mode=2, readings=readings)
+
+
+def orders(most):
+    """two faults at once: the one that is looked for earlier comes first; all of them together give the first. A text of over `most`
+    characters is one of them"""
     b, c = rule_row("b", "B"), rule_row("c", "C")
     # in their order: number, place, what is changed
     faults = [
         (1, 0, dict(mode=9)), (12, 0, dict(capitals=2)), (15, 0, dict(o_ang=2)), (17, 0, dict(readings=2)), (20, 5 + len(b), dict(rules=block([b, b"\0"]))), (3, 5, dict(classes=block([class_row("b", 2)]))),
-        (4, 0, dict(vowels=b"\x02\0\0\0\0")), (13, 13, dict(decompositions=block([form_row("①", "1"), form_row("②", "①")]))), (5, 0, dict(code=b"xx")), (6, 1, dict(text=b"a\xff")), (7, 512, dict(text=b"a" * 513)),
+        (4, 0, dict(vowels=b"\x02\0\0\0\0")), (13, 13, dict(decompositions=block([form_row("①", "1"), form_row("②", "①")]))), (5, 0, dict(code=b"xx")), (6, 1, dict(text=b"a\xff")), (7, most, dict(text=b"a" * (most + 1))),
         (8, 2, dict(text="ab\u0f00".encode())),
     ]
-    both = {(6, 7): (b"a\xff" + b"a" * 600, 1), (6, 8): ("\u0f00a".encode() + b"\xff", 4), (7, 8): ("\u0f00".encode() * 513, 512)}
+    both = {(6, 7): (b"a\xff" + b"a" * (most + 88), 1), (6, 8): ("\u0f00a".encode() + b"\xff", 4),
+            (7, 8): ("\u0f00".encode() * (most + 1), most)}
     small = {9: Lent(0, 0, 0), 10: Lent(1200, 0, 0), 11: Lent(1200, 100, 0)}
 
     def from_rank(rank):
@@ -618,6 +756,21 @@ def orders():
             yield Border((number, place), **more, rules=table)
 
 
+def former_orders():
+    """with a text of 513 characters, which was too long once: what it was refused by 7 for is now read, and refused for another reason"""
+    now = iter([(8, 0), (9, 0), (10, 0), (9, 100)])
+    for border in orders(512):
+        if border.refusal == (7, 512):
+            border.refusal = next(now)
+        yield border
+    assert not list(now)
+
+
+def long_orders():
+    """those in which the text is too long"""
+    return (border for border in orders(MOST_CHARACTERS) if len(border.given.text) > MOST_CHARACTERS)
+
+
 def most_classes():
     """8,192 rows are allowed, the next is faulty; these are large and slow, so there are few"""
     row = [class_row(chr(0x4E00 + k), OTHER) for k in range(8193)]
@@ -648,7 +801,9 @@ def most_decompositions():
 
 
 GROUPS = [modes, choices, headers, rule_rows, smallest_rules, class_rows, vowel_rows, decomposition_rows, nested_decompositions, codes, utf8, lengths,
-          left_out, rooms, inner_rooms, too_long, orders, most_classes]
+          left_out, rooms, inner_rooms, former_too_long, former_orders, most_classes,
+          # what came with texts of 4,096 characters and targets of 200 bytes
+          long_targets, long_texts, too_long, long_orders, long_rooms]
 
 
 def made(border, built):

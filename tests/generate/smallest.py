@@ -6,7 +6,7 @@ import pathlib
 import sys
 
 sys.path.insert(0, str(pathlib.Path(__file__).resolve().parents[2] / "tools"))
-from tables import MOST_RULES, block
+from tables import MOST_RULES, MOST_TARGET, block
 
 HEADERS = [
     ("no byte", ""), ("four bytes", "01 00 00 00"), ("version 0", "00 00 00 00 00"), ("version 2", "02 00 00 00 00"),
@@ -62,7 +62,7 @@ ROWS = [
     ("the second code's third letter", "00 0e 00 00 00 01 00 00 63 02 61 62 63 61 62 00", 22, 18),
     # the target: a length byte, and every byte a field of its own
     ("no length of the target", "00 08 20 00 00 01 00 00 63 00", 20, 15),
-    ("a target of 65 bytes", "00 09 20 00 00 01 00 00 63 00 41", 21, 15),
+    ("a target of 65 bytes, of which none is there", "00 09 20 00 00 01 00 00 63 00 41", 20, 16),
     ("a target of 255 bytes", "00 09 20 00 00 01 00 00 63 00 ff", 21, 15),
     ("the target's byte is missing", "00 09 20 00 00 01 00 00 63 00 01", 20, 16),
     ("below the space", "00 0a 20 00 00 01 00 00 63 00 01 1f", 23, 16),
@@ -73,11 +73,11 @@ ROWS = [
     ("63 of 64 bytes are missing", "00 0a 20 00 00 01 00 00 63 00 40 61", 20, 17),
     # the end-of-syllable target, alone and behind a target
     ("no length of the end-of-syllable target", "00 08 40 00 00 01 00 00 63 00", 20, 15),
-    ("an end-of-syllable target of 65 bytes", "00 09 40 00 00 01 00 00 63 00 41", 21, 15),
+    ("an end-of-syllable target of 65 bytes, of which none is there", "00 09 40 00 00 01 00 00 63 00 41", 20, 16),
     ("the end-of-syllable target's byte is missing", "00 09 40 00 00 01 00 00 63 00 01", 20, 16),
     ("the end-of-syllable target's byte", "00 0a 40 00 00 01 00 00 63 00 01 1f", 23, 16),
     ("no length of the text behind the target", "00 0a 60 00 00 01 00 00 63 00 01 74", 20, 17),
-    ("65 bytes behind the target", "00 0b 60 00 00 01 00 00 63 00 01 74 41", 21, 17),
+    ("65 bytes behind the target, of which none is there", "00 0b 60 00 00 01 00 00 63 00 01 74 41", 20, 18),
     ("the byte behind the target", "00 0c 60 00 00 01 00 00 63 00 01 74 01 7f", 23, 18),
     # the number of alternatives
     ("no number of alternatives", "00 08 00 00 00 01 00 00 63 00", 20, 15),
@@ -87,11 +87,11 @@ ROWS = [
     ("9 alternatives behind a target", "00 0b 20 00 00 01 00 00 63 00 01 74 09", 21, 17),
     # the alternatives
     ("no length of the alternative", "00 09 00 00 00 01 00 00 63 00 01", 20, 16),
-    ("an alternative of 65 bytes", "00 0a 00 00 00 01 00 00 63 00 01 41", 21, 16),
+    ("an alternative of 65 bytes, of which none is there", "00 0a 00 00 00 01 00 00 63 00 01 41", 20, 17),
     ("the alternative's byte is missing", "00 0a 00 00 00 01 00 00 63 00 01 01", 20, 17),
     ("the alternative's byte", "00 0b 00 00 00 01 00 00 63 00 01 01 1f", 23, 17),
     ("the second alternative is missing", "00 0a 00 00 00 01 00 00 63 00 02 00", 20, 17),
-    ("the second alternative of 65 bytes", "00 0b 00 00 00 01 00 00 63 00 02 00 41", 21, 17),
+    ("the second alternative of 65 bytes, of which none is there", "00 0b 00 00 00 01 00 00 63 00 02 00 41", 20, 18),
     ("the second alternative's byte", "00 0c 00 00 00 01 00 00 63 00 02 00 01 80", 23, 18),
     # bytes that are left over, at the first of them
     ("a byte left over", "00 0a 00 00 00 01 00 00 63 00 00 00", 20, 16),
@@ -110,6 +110,25 @@ ROWS = [
     ("the third row below the second", ROW_B + ROW_C + ROW_B, 24, 27),
 ]
 
+# a text may have as many bytes as C8 says: with C9 it is too long, with C8 its first byte is missed
+LONG_ROWS = [
+    ("a target of 201 bytes", "00 09 20 00 00 01 00 00 63 00 c9", 21, 15),
+    ("a target of 200 bytes, of which none is there", "00 09 20 00 00 01 00 00 63 00 c8", 20, 16),
+    ("199 of 200 bytes are missing", "00 0a 20 00 00 01 00 00 63 00 c8 61", 20, 17),
+    ("a target of 201 bytes, the first of which is bad", "00 0a 20 00 00 01 00 00 63 00 c9 1f", 21, 15),
+    ("an end-of-syllable target of 201 bytes", "00 09 40 00 00 01 00 00 63 00 c9", 21, 15),
+    ("an end-of-syllable target of 200 bytes, of which none is there", "00 09 40 00 00 01 00 00 63 00 c8", 20, 16),
+    ("an end-of-syllable target of 255 bytes", "00 09 40 00 00 01 00 00 63 00 ff", 21, 15),
+    ("201 bytes behind the target", "00 0b 60 00 00 01 00 00 63 00 01 74 c9", 21, 17),
+    ("200 bytes behind the target, of which none is there", "00 0b 60 00 00 01 00 00 63 00 01 74 c8", 20, 18),
+    ("an alternative of 201 bytes", "00 0a 00 00 00 01 00 00 63 00 01 c9", 21, 16),
+    ("an alternative of 200 bytes, of which none is there", "00 0a 00 00 00 01 00 00 63 00 01 c8", 20, 17),
+    ("an alternative of 255 bytes", "00 0a 00 00 00 01 00 00 63 00 01 ff", 21, 16),
+    ("the second alternative of 201 bytes", "00 0b 00 00 00 01 00 00 63 00 02 00 c9", 21, 17),
+    ("the second alternative of 200 bytes, of which none is there", "00 0b 00 00 00 01 00 00 63 00 02 00 c8", 20, 18),
+]
+assert MOST_TARGET == 0xC8
+
 # behind as many rows as are allowed each of these is one too many, whatever it is
 TOO_MANY_ROWS = [("a row that is right", ROW_C), ("a row below the one before", ROW_B), ("bit 7", "00 01 80"), ("no flags", "00 00"),
                  ("a single byte", "00"), ("a row past the block's end", "00 09 80")]
@@ -119,6 +138,11 @@ def small_tables():
     for words, table in HEADERS:
         yield words, bytes.fromhex(table), 20, 0
     for words, rows, number, place in ROWS:
+        yield words, block([bytes.fromhex(rows)]), number, place
+
+
+def long_tables():
+    for words, rows, number, place in LONG_ROWS:
         yield words, block([bytes.fromhex(rows)]), number, place
 
 

@@ -60,13 +60,14 @@ static const uint8_t FORMS[] = {1, 0, 0, 0, 28, 0, 0x24, 0x60, 5, 2, 0, 0, '1', 
                                 0, 0x24, 0x61, 5, 4, 0, 0, 'x', 0, 0, 'x', 0, 0, 'x', 0, 0, 'x'};
 enum { SECOND_FORM = 16 };
 
-/* the only rule is that of x, whose target has 50 bytes */
-static void put_long_rule(slice *s) {
-    const uint8_t front[] = {1, 0, 0, 0, 62, 0, 60, 0x20, 0, 0, 1, 0, 0, 'x', 0, 50};
+/* the only rule is that of x, whose target has so many bytes, at most 201 */
+enum { MOST_TARGET = 200, TARGET_LENGTH = 15 };
+static void put_long_rule(slice *s, uint8_t target) {
+    const uint8_t front[] = {1, 0, 0, 0, (uint8_t)(target + 12), 0, (uint8_t)(target + 10), 0x20, 0, 0, 1, 0, 0, 'x', 0, target};
     put_bytes(s, front, sizeof front);
-    memset(s->bytes + s->length, 'k', 50);
-    s->bytes[s->length + 50] = 0;
-    s->length += 51;
+    memset(s->bytes + s->length, 'k', target);
+    s->bytes[s->length + target] = 0;
+    s->length += target + 1u;
 }
 
 static int is_zero(const uint8_t *bytes, size_t n) {
@@ -192,8 +193,15 @@ int main(int argc, char **argv) {
     expect("slots of a decomposition", &c, JETTYFIG_REFUSED_SLOTS, 0);
     c.slots++, c.room--;
     expect("room of a decomposition", &c, JETTYFIG_REFUSED_ROOM, 0);
-    /* four times 50 bytes; three are enough for no refusal */
-    c = good, put(&c.text, "a\xe2\x91\xa1"), put_long_rule(&c.rules), c.slots = 48, c.room = 200, c.out = 200;
+    /* texts of 200 bytes are taken, and no longer ones */
+    c = good, put(&c.text, "x"), put_long_rule(&c.rules, MOST_TARGET), c.room = MOST_TARGET, c.out = MOST_TARGET;
+    expect("done, with a long target", &c, JETTYFIG_DONE, 0);
+    c = good, put_long_rule(&c.rules, MOST_TARGET + 1);
+    expect("rules, too long a target", &c, JETTYFIG_REFUSED_RANGE, TARGET_LENGTH);
+    c = good, memset(c.text.bytes, 'a', JETTYFIG_MOST_CHARACTERS), c.text.length = JETTYFIG_MOST_CHARACTERS;
+    expect("slots of the longest text", &c, JETTYFIG_REFUSED_SLOTS, 2);
+    /* four times 200 bytes; three are enough for no refusal */
+    c = good, put(&c.text, "a\xe2\x91\xa1"), put_long_rule(&c.rules, MOST_TARGET), c.slots = 48, c.room = 800, c.out = 800;
     expect("a decomposition's text", &c, JETTYFIG_REFUSED_EDGE_TEXT, 1);
     c.room--;
     expect("room before a decomposition's text", &c, JETTYFIG_REFUSED_ROOM, 1);

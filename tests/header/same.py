@@ -5,7 +5,7 @@ import re
 import sys
 
 INCLUDE = pathlib.Path(__file__).resolve().parents[2] / "include"
-SIZES = (0, 1, 511, 512)
+SIZES = (0, 1, 4095, 4096)
 NOT_IN_RUST = {"H"}
 
 

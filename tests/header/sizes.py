@@ -11,18 +11,18 @@ TESTS = pathlib.Path(__file__).resolve().parents[1]
 sys.path[:0] = [str(TESTS / "calls"), str(TESTS / "generate")]
 import callfile
 from forms import NO_FORMS, forms
-from random_calls import ReadWorld, World
+from random_calls import LongWorld, ReadWorld, World
 from tables import *
 
 NEEDS_ROOM = (9, 10, 11)
-MOST = "k" * 64
+MOST = "k" * MOST_TARGET
 
 
 def worst():
     """16 sources from each character, each of the longest target; and Thai texts that grow at every step of the expansion"""
     kana = classes({"か": (LETTER, HIRAGANA)})
     many = rules(*(Rule("か" * k, MOST) for k in range(1, 17)))
-    for n in (1, 2, 16, 17, 100, 512):
+    for n in (1, 2, 16, 17, 100, 512, MOST_CHARACTERS):
         yield many, kana, vowels((HIRAGANA, A, "aaaa")), NO_FORMS, b"", ("か" * n).encode()
         # the most edges inside, and before it the most outside
         held = forms({"①": "か" * 18})
@@ -30,9 +30,10 @@ def worst():
             yield many, kana, vowels(), held, b"", text.encode()
     thai = classes({"ก": (LETTER, THAI), "เ": (LETTER, THAI, PRE), "っ": (LETTER, THAI), "า": (LETTER, THAI),
                     "ゃ": (LETTER, THAI), "\u0e4d": (NONSPACING, THAI, VIRAMA)})
-    long = rules(("ก", MOST[1:] + "i"), ("เ", "y" * 63 + "i"), ("า", MOST), ("ゃ", MOST), *(("ก" * k, MOST) for k in range(2, 17)))
+    long = rules(("ก", MOST[1:] + "i"), ("เ", "y" * (MOST_TARGET - 1) + "i"), ("า", MOST), ("ゃ", MOST), *(("ก" * k, MOST) for k in range(2, 17)))
     for pattern in ("っเกゃ", "เกา", "っกゃ", "ก", "กゃ", "เก\u0e4d"):
-        yield long, thai, vowels((THAI, AO, "oooo")), NO_FORMS, b"", (pattern * 170)[:512].encode()
+        for n in (512, MOST_CHARACTERS):
+            yield long, thai, vowels((THAI, AO, "oooo")), NO_FORMS, b"", (pattern * n)[:n].encode()
 
 
 def cases(count, seed):
@@ -42,7 +43,7 @@ def cases(count, seed):
                 yield call.given[callfile.NUMBERS:]
     rng = random.Random(seed)
     for k in range(count):
-        yield (ReadWorld if k % 4 == 0 else World)(rng).given()[callfile.NUMBERS:]
+        yield (ReadWorld if k % 4 == 0 else LongWorld if k % 8 == 1 else World)(rng).given()[callfile.NUMBERS:]
     yield from worst()
 
 

@@ -17,7 +17,7 @@ ENTRY = "jettyfig_romanize"
 # what the C library's functions may take: little themselves, but where they are bound at their first call the dynamic linker
 # runs there, with all vector registers saved (3,144 bytes with AVX-512)
 OUTSIDE = {"memcpy": 4096, "memmove": 4096, "memset": 4096}
-WORD = 8
+WORD, PAGE = 8, 4096
 
 
 def functions(listing):
@@ -37,6 +37,23 @@ def functions(listing):
                 sys.exit("%s: a call into the midst of something: %s" % (name, line.strip()))
             found[name][-1][3] = called.group(1)
     return found
+
+
+def probed(name, code):
+    """a frame of several pages is taken page by page, each touched, in a loop up to where %r11 points: the same code with one `sub` of all
+    these pages in its place"""
+    for i in range(len(code) - 5):
+        (_, one, to, _), (_, two, by, _), (loop, *page, _), (_, *touch, _), (_, *end, _), (_, back, where, _) = code[i:i + 6]
+        size = re.match(r"\$(0x[0-9a-f]+),%r11$", by)
+        if (one, to, two, back) != ("mov", "%rsp,%r11", "sub", "jne") or not size or int(where.split()[0], 16) != loop:
+            continue
+        whole = int(size.group(1), 16) % PAGE == 0
+        if not whole or [page, touch, end] != [["sub", "$%#x,%%rsp" % PAGE], ["movq", "$0x0,(%rsp)"], ["cmp", "%r11,%rsp"]]:
+            sys.exit("%s: a loop over pages that is not understood" % name)
+        for k in range(i, i + 6):
+            code[k][1:3] = "nop", ""
+        code[i][1:3] = "sub", "$%s,%%rsp" % size.group(1)
+    return code
 
 
 def moved(name, operation, operands):
@@ -121,7 +138,7 @@ def deepest(walked, name, above=()):
 
 def main(library):
     listing = subprocess.run([*OBJDUMP, library], capture_output=True, text=True, check=True).stdout
-    walked = {name: walk(name, code) for name, code in functions(listing).items()}
+    walked = {name: walk(name, probed(name, code)) for name, code in functions(listing).items()}
     own = {name: (depth, [call for call in calls if call[0] not in OUTSIDE]) for name, (depth, calls) in walked.items()}
     depth, chain = deepest(own, ENTRY)
     print("%d bytes of stack in the library's own frames: %s" % (depth, ", ".join("%s %d" % part for part in chain)))

@@ -23,8 +23,8 @@ TESTS = pathlib.Path(__file__).resolve().parents[1]
 sys.path[:0] = [str(TESTS / 'calls'), str(TESTS / 'generate'), str(TESTS.parent / 'tools')]
 import callfile
 import program
-from tables import A, AO, CF, CO, COMPAT, DEVANAGARI, FAULTS, FORM, LETTER, MARK, MOST_RULES, OTHER, PRE, START, SUPER, THAI, UNTAGGED
-from tables import VIRAMA, WHOLE, ZS, Rule, block, class_row, decomposition_row, fault, read_classes, read_decompositions, read_rules
+from tables import A, AO, CF, CO, COMPAT, DEVANAGARI, FAULTS, FORM, LETTER, MARK, MOST_RULES, MOST_TARGET, OTHER, PRE, START, SUPER
+from tables import THAI, UNTAGGED, VIRAMA, WHOLE, ZS, Rule, block, class_row, decomposition_row, fault, read_classes, read_decompositions, read_rules
 from tables import read_vowels, rule_row, vowel_row
 
 RULES, CLASSES, VOWELS, DECOMPOSITIONS = range(4)
@@ -69,11 +69,11 @@ def answered(calls):
 
 
 def frozen():
-    """every eighth of the random calls' tables, which are alike, and all others; of the large ones only the longest of each
+    """every tenth of the random calls' tables, which are alike, and all others; of the large ones only the longest of each
     kind, valid and faulty: both sides of the border of 8,192 rows"""
     longest = {}
     for path in sorted((TESTS / 'calls').glob('*.calls.xz')):
-        every = 8 if path.name.startswith('random') else 1
+        every = 10 if path.name.startswith('random') else 1
         for kind, table, answer in list(agreed(answered(callfile.read(path))))[::every]:
             if len(table) <= LARGE:
                 yield kind, table, answer
@@ -126,12 +126,12 @@ def rule_rows():
     for n in range(11):
         yield from at(rule_row('c', 't', codes=['abc'] * n), unless(n <= 8, 21, 9))
         yield from at(rule_row('c', 't', others=['x'] * n), unless(n <= 8, 21, 12))
-    for n in (0, 1, 2, 63, 64, 65, 127, 128, 255):
+    for n in (0, 1, 2, 63, 64, 65, 127, 128, MOST_TARGET - 1, MOST_TARGET, MOST_TARGET + 1, 255):
         s = 'x' * n
         texts = ((dict(target=s), 10), (dict(end=s), 10), (dict(target='t', end=s), 12), (dict(others=[s]), 11),
                  (dict(others=['y', s]), 13))
         for given, within in texts:
-            yield from at(rule_row('c', **given), unless(n <= 64, 21, within))
+            yield from at(rule_row('c', **given), unless(n <= MOST_TARGET, 21, within))
     # the flags: each of the lower five, with each of the texts, is right; bit 7 never is
     for flags in range(32):
         for target, end in itertools.product((None, 't'), (None, 'e')):
@@ -178,7 +178,7 @@ def counted(n, *wrong):
 
 
 def text_fields(s):
-    return [] if s is None else [counted(len(s), 65, 255), *(Field(bytes([c]), 23, NOT_PRINTABLE) for c in s.encode())]
+    return [] if s is None else [counted(len(s), MOST_TARGET + 1, 255), *(Field(bytes([c]), 23, NOT_PRINTABLE) for c in s.encode())]
 
 
 def fields_of(rule):
@@ -288,7 +288,7 @@ def pairs_of_faults(layout):
 
 def largest_row():
     """the first and the last of each kind of field in the longest row, wrong and missing"""
-    layout = Layout(Rule('c' * 16, 'x' * 64, 31, 65535, ('abc',) * 8, 'y' * 64, ('z' * 64,) * 8))
+    layout = Layout(Rule('c' * 16, 'x' * MOST_TARGET, 31, 65535, ('abc',) * 8, 'y' * MOST_TARGET, ('z' * MOST_TARGET,) * 8))
     same = [(field.number, len(field.right)) for field in layout.fields]
     for i in layout.faulty:
         if i + 1 < len(same) and same[i - 1] == same[i] == same[i + 1]:

@@ -3,6 +3,8 @@
 use crate::call::{Choices, PARTS};
 use crate::damaged_table::{DECOMPOSITIONS, table};
 use crate::random::Random;
+use crate::texts::LONG_TEXT;
+use oracle::MOST_CHARACTERS;
 
 /// tables, code and text, to be changed in place
 pub type Damaged = [Vec<u8>; PARTS.len()];
@@ -124,10 +126,14 @@ fn change_any(random: &mut Random, text: &mut [u8]) {
     }
 }
 
-/// over 512 characters, rarely just 512
+/// over 4,096 characters; rarely just so many, which the Rust takes its time for, or about 512
 fn lengthen(random: &mut Random, text: &mut Vec<u8>) {
     let n = text.iter().filter(|b| **b & 0xC0 != 0x80).count();
-    let wanted = if random.chance(0.05) { 512 } else { random.choice(&[513, 514, 600]) };
+    let wanted = match random.below(300) {
+        0 => MOST_CHARACTERS,
+        1..15 => random.choice(&[LONG_TEXT, LONG_TEXT + 1]),
+        _ => random.choice(&[MOST_CHARACTERS + 1, MOST_CHARACTERS + 1, MOST_CHARACTERS + 2, MOST_CHARACTERS + 500]),
+    };
     for _ in n..wanted {
         text.extend(random.choice(&["a", "q", "é", "क"]).bytes());
     }

@@ -111,7 +111,7 @@ fn change(random: &mut Random, kind: Kind, field: &mut [u8]) {
         Kind::Restriction => field[0] = random.byte(),
         Kind::SourceCount => field[0] = random.choice(&[near, near, 0, 0, 16, 17, 255]),
         Kind::CodeCount | Kind::OtherCount => field[0] = random.choice(&[near, near, 0, 8, 9, 255]),
-        Kind::TextLength => field[0] = random.choice(&[near, near, 0, 64, 65, 255]),
+        Kind::TextLength => field[0] = random.choice(&[near, near, 0, 64, 65, 200, 201, 255]),
         Kind::TextByte => field[0] = random.choice(&[0, 0x1F, 0x20, 0x7E, 0x7F, 0x80, 0xFF]),
         Kind::Character => {
             let scalar = three(random.choice(&BORDER_SCALARS));
@@ -193,7 +193,7 @@ fn source_of(row: &[u8]) -> Vec<char> {
 }
 
 fn odd_target(random: &mut Random) -> Vec<u8> {
-    let n = random.choice(&[0, 1, 3, 63, 64, 65, 255]);
+    let n = random.choice(&[0, 1, 3, 64, 65, 199, 200, 200, 201, 201, 255]);
     let mut target = vec![b'x'; n];
     if n > 0 && random.chance(0.5) {
         target[random.below(n)] = random.choice(&[0, 0x1F, 0x20, 0x7E, 0x7F, 0x80, 0xFF]);

@@ -8,8 +8,8 @@ use crate::rows::{Rule, block, class_row, set_length, vowel_row};
 use std::ops::Range;
 
 /// the borders of the fields of all rows, on both sides
-pub const BORDERS: [u8; 26] =
-    [0, 1, 2, 3, 4, 5, 7, 8, 9, 12, 15, 16, 17, 31, 32, 63, 64, 65, 96, 97, 122, 123, 126, 127, 128, 255];
+pub const BORDERS: [u8; 29] =
+    [0, 1, 2, 3, 4, 5, 7, 8, 9, 12, 15, 16, 17, 31, 32, 63, 64, 65, 96, 97, 122, 123, 126, 127, 128, 199, 200, 201, 255];
 pub const BORDER_SCALARS: [u32; 9] = [0, 0xD7FF, 0xD800, 0xDBFF, 0xDFFF, 0xE000, 0x10FFFF, 0x110000, 0xFFFFFF];
 
 const RULES: usize = 0;

@@ -5,9 +5,11 @@ use crate::damage::{Damaged, damage};
 use crate::judge::{Judged, judge, tables as read};
 use crate::random::Random;
 use crate::rooms;
+use crate::rows::{LONG_TARGET, MOST_TARGET};
 use crate::tester::Tester;
+use crate::texts::LONG_TEXT;
 use crate::world::{World, world};
-use oracle::Tables;
+use oracle::{MOST_CHARACTERS, Tables};
 use std::time::{Duration, Instant};
 
 /// the first parts are tables
@@ -26,6 +28,7 @@ pub fn run(tester: &mut Tester, seconds: u64, seed: u64) {
     {
         let mut random = Random::of(seed, k);
         let world = world(&mut random);
+        tester.long_targets.iter_mut().zip(world.long_targets).for_each(|(n, more)| *n += more as u64);
         let tables = read(parts(&world, &world.asked[0]));
         for asked in &world.asked {
             ask(tester, &name, &mut random, parts(&world, asked), tables.as_ref());
@@ -44,6 +47,10 @@ pub fn run(tester: &mut Tester, seconds: u64, seed: u64) {
         tester.chose_readings, tester.listed_readings, tester.kept_out
     );
     println!("in {} cases a decomposition has an edge", tester.decomposed);
+    let [texts, longest] = tester.long_texts;
+    println!("in {texts} cases a text that is read has over {LONG_TEXT} characters, in {longest} of them {MOST_CHARACTERS}");
+    let [targets, longest] = tester.long_targets;
+    println!("{targets} texts of rules have over {LONG_TARGET} bytes, {longest} of them {MOST_TARGET}");
     println!("{cases} cases, {} differ (seed {seed}: {numbers}), {speed:.0}/s", tester.differ());
 }
 
@@ -88,9 +95,19 @@ fn test(
     tester.capitalized += judged.capitalized() as u64;
     tester.walk_ended += judged.walk_ended() as u64;
     tester.decomposed += judged.decomposed() as u64;
+    count_long(tester, &call, judged);
     let wanted = judged.wanted(mode, lent);
     count_readings(tester, &call, &wanted, judged);
     tester.test(name, &call, &wanted, judged.strange(), random.next());
+}
+
+fn count_long(tester: &mut Tester, call: &Call, judged: &Judged) {
+    let [.., text] = call.parts;
+    if text.len() > LONG_TEXT && matches!(judged, Judged::Shown(_)) {
+        let n = text.iter().filter(|b| **b & 0xC0 != 0x80).count();
+        tester.long_texts[0] += (n > LONG_TEXT) as u64;
+        tester.long_texts[1] += (n == MOST_CHARACTERS) as u64;
+    }
 }
 
 /// readings are where alternatives are shown

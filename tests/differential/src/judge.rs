@@ -43,7 +43,7 @@ impl Judged {
                 Answer::refused(*number, *place)
             }
             Judged::Strange(_, None) => Answer::done(&[], 0),
-            Judged::Shown(shown) => answered(&shown.added, &shown.outputs[mode as usize], lent),
+            Judged::Shown(shown) => answered(mode, &shown.added, &shown.outputs[mode as usize], lent),
         }
     }
 

@@ -1,12 +1,12 @@
 //! What a call is refused by before its lattice, and where: document 01's "Numbers a call returns" and "Table and output
-//! bytes", and for the choices and decompositions tickets 2, 3, 5 and 8 (docs/DECISIONS.md), written from their words alone. The
-//! rule table's refusals are in rule_refusals.rs.
+//! bytes", for the choices and decompositions tickets 2, 3, 5 and 8, and for the longest text ticket 10 (docs/DECISIONS.md), written
+//! from their words alone. The rule table's refusals are in rule_refusals.rs.
 
 use crate::call::{Choices, Parts};
 use crate::rule_refusals::rule_fault;
 
 pub const MOST_ROWS: usize = 8192;
-const MOST_TEXT: usize = 512;
+const MOST_TEXT: usize = 4096;
 
 /// number and place; none where the call goes on to its lattice
 pub type Refusal = Option<(u64, u64)>;

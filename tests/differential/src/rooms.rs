@@ -1,15 +1,18 @@
 //! What a call answers where this much is lent. The oracle knows nothing of slots, text room and output size, nor of the
-//! longest text of an edge: 9, 10, 11 and 14 follow by the words of document 01 and ticket 3 from its edges in their adding
-//! order.
+//! longest text of an edge and of a listing: 9, 10, 11, 14 and 19 follow by the words of document 01 and tickets 3 and 10 from its
+//! edges in their adding order.
 
 use crate::call::{Answer, Lent};
 use crate::random::Random;
 use oracle::Added;
 
 const SLOT: usize = 12;
-const MOST_EDGE_TEXT: usize = 198;
+const MOST_EDGE_TEXT: usize = 606;
+/// of a listing: the bytes before its rows, and the most that these may have
+const HEADER: usize = 5;
+const MOST_LISTED: usize = u32::MAX as usize;
 /// far more than most calls need; to clear it takes time, so it is lent rarely
-const MUCH: [usize; 2] = [17 * 512 * SLOT, 512 * 198];
+const MUCH: [usize; 2] = [100_000, 300_000];
 
 /// exactly what the call needs; the edges that a decomposition's comes of are gone before it is added
 pub fn exact(added: &[Added], output: &[u8]) -> Lent {
@@ -53,9 +56,12 @@ fn first_misfit(added: &[Added], [slots, mut room, _]: Lent) -> Option<Answer<'s
     None
 }
 
-pub fn answered<'a>(added: &[Added], output: &'a [u8], lent: Lent) -> Answer<'a> {
+pub fn answered<'a>(mode: u8, added: &[Added], output: &'a [u8], lent: Lent) -> Answer<'a> {
     if let Some(refused) = first_misfit(added, lent) {
         return refused;
+    }
+    if mode > 0 && output.len() - HEADER > MOST_LISTED {
+        return Answer::refused(19, 0);
     }
     if lent[2] < output.len() {
         return Answer::refused(11, output.len() as u64);
@@ -71,7 +77,7 @@ pub fn some(random: &mut Random, added: &[Added], output: &[u8]) -> Lent {
     let [less_slots, less_room, less_out] = less();
     match random.below(100) {
         0..20 => exact,
-        20..75 if random.chance(0.002) => [MUCH[0], MUCH[1], out + random.below(9)],
+        20..75 if random.chance(0.002) => [slots.max(MUCH[0]), room.max(MUCH[1]), out + random.below(9)],
         20..75 => [slots + random.below(30), room + random.below(9), out + random.below(9)],
         75..84 => [less_slots, room, out],
         84..93 => [slots, less_room, out],

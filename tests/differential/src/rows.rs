@@ -12,6 +12,11 @@ pub struct Rule<'a> {
     pub others: Vec<Vec<u8>>,
 }
 
+/// texts of rules of over so many bytes are long
+pub const LONG_TARGET: usize = 64;
+/// bytes of a target, an end-of-syllable target or an alternative
+pub const MOST_TARGET: usize = 200;
+
 pub const HAS_TARGET: u8 = 1 << 5;
 pub const HAS_END: u8 = 1 << 6;
 
@@ -26,6 +31,12 @@ pub fn three(n: u32) -> [u8; 3] {
 }
 
 impl Rule<'_> {
+    /// how many of its texts are long, and how many of these are as long as can be
+    pub fn long_texts(&self) -> [usize; 2] {
+        let sizes = || self.target.iter().chain(&self.end).chain(&self.others).map(Vec::len);
+        [sizes().filter(|n| *n > LONG_TARGET).count(), sizes().filter(|n| *n == MOST_TARGET).count()]
+    }
+
     pub fn row(&self) -> Vec<u8> {
         let has = |part: &Option<_>, flag| if part.is_some() { flag } else { 0 };
         let mut row = vec![0, 0, self.flags | has(&self.target, HAS_TARGET) | has(&self.end, HAS_END)];

@@ -1,4 +1,5 @@
-//! What is wrong with a rule table, and where: ticket 1 of docs/DECISIONS.md, written from its words alone.
+//! What is wrong with a rule table, and where: ticket 1 of docs/DECISIONS.md, and ticket 10 for the longest text, written from their
+//! words alone.
 
 use crate::refusals::{MOST_ROWS, headed, number, scalar, small_letters};
 
@@ -8,6 +9,9 @@ const LETTER: u64 = 22;
 const BYTE: u64 = 23;
 const ORDER: u64 = 24;
 const ROWS: u64 = 25;
+
+/// bytes of a target, an end-of-syllable target or an alternative
+const MOST_TARGET: u8 = 200;
 
 /// number and offset in the table
 type Fault = (u64, usize);
@@ -90,7 +94,7 @@ impl<'a> Fields<'a> {
 
     /// each byte of a text is a field by itself
     fn text(&mut self) -> Result<(), Fault> {
-        for _ in 0..self.count(0, 64)? {
+        for _ in 0..self.count(0, MOST_TARGET)? {
             self.tested(1, BYTE, |b| (0x20..=0x7E).contains(&b[0]))?;
         }
         Ok(())

@@ -2,7 +2,7 @@
 
 use crate::alphabets::{CAPITALS, CODES, EN_DASH, LONG, PASSED, PRE, TARGETS, USUAL};
 use crate::readings::Texts;
-use crate::rows::{Rule, block};
+use crate::rows::{LONG_TARGET, MOST_TARGET, Rule, block};
 use crate::world::{Maker, Text};
 
 impl Maker<'_> {
@@ -22,7 +22,9 @@ impl Maker<'_> {
         let mut made = Vec::new();
         let long = vec![LONG];
         if self.forms.iter().any(|(_, _, held)| held.contains(&LONG)) {
-            made.push((&long, Rule { source: &long, target: Some(b"ka".repeat(32)), ..Rule::default() }.row()));
+            // three of these are 600 bytes
+            let target = Some(b"ka".repeat(MOST_TARGET / 2));
+            made.push((&long, self.noted(Rule { source: &long, target, ..Rule::default() })));
         }
         for source in &sources {
             let few = if self.read { self.few_texts(source) } else { Vec::new() };
@@ -116,7 +118,14 @@ impl Maker<'_> {
         };
         let count = if plain { 0 } else { self.random.choice(&[0, 1, 1, 2, 255, 256, 65535]) };
         let Texts { target, end, others } = if few.is_empty() { self.any_texts(source) } else { self.texts_of(few) };
-        Rule { source, flags, count, codes: self.rule_codes(), target, end, others }.row()
+        let rule = Rule { source, flags, count, codes: self.rule_codes(), target, end, others };
+        self.noted(rule)
+    }
+
+    /// the row of a rule, whose long texts are counted
+    fn noted(&mut self, rule: Rule) -> Vec<u8> {
+        self.long_targets.iter_mut().zip(rule.long_texts()).for_each(|(n, more)| *n += more);
+        rule.row()
     }
 
     fn any_texts(&mut self, source: &Text) -> Texts {
@@ -154,7 +163,8 @@ impl Maker<'_> {
             return self.random.choice(&CAPITALS).as_bytes().to_vec();
         }
         if self.chance(0.03) {
-            let n = self.random.choice(&[3, 5, 9, 64]);
+            let any = self.random.between(LONG_TARGET + 1, MOST_TARGET);
+            let n = self.random.choice(&[3, 5, 9, LONG_TARGET, LONG_TARGET + 1, any, MOST_TARGET]);
             return (0..n).map(|_| self.random.choice(b"kgnyaio+- KA1")).collect();
         }
         let mut chosen = self.random.choice(&TARGETS).as_bytes().to_vec();

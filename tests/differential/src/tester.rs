@@ -27,6 +27,10 @@ pub struct Tester {
     pub kept_out: u64,
     /// cases in which a decomposition has an edge
     pub decomposed: u64,
+    /// cases whose text is read and has over 512 characters, and those of them that have 4,096
+    pub long_texts: [u64; 2],
+    /// texts of rules of over 64 bytes, and those of them that have 200
+    pub long_targets: [u64; 2],
     /// cases by the number that was wanted
     numbers: [u64; HIGHEST_NUMBER + 1],
     differ: u64,
@@ -49,6 +53,8 @@ impl Tester {
             listed_readings: 0,
             kept_out: 0,
             decomposed: 0,
+            long_texts: [0; 2],
+            long_targets: [0; 2],
             numbers,
             differ: 0,
             spoilt_found: 0,

@@ -3,8 +3,10 @@
 use crate::alphabets::{CODES, OPEN_WORDS, WORDS};
 use crate::forms::usually_has;
 use crate::world::{Maker, Text};
+use oracle::MOST_CHARACTERS;
 
-const MOST_TEXT: usize = 512;
+/// texts of over so many characters are long: they are rare, since the Rust takes its time for them
+pub const LONG_TEXT: usize = 512;
 const TEXTS: usize = 4;
 
 impl Maker<'_> {
@@ -117,9 +119,15 @@ impl Maker<'_> {
         text
     }
 
-    /// up to 512 characters, and now and then just that many
+    /// up to 512 characters, now and then just that many; and rarely up to 4,096, or just that many
     fn long(&mut self, first: &Text) -> Text {
-        let n = if self.chance(0.2) { MOST_TEXT } else { self.random.between(61, MOST_TEXT) };
+        let n = match self.random.below(100) {
+            0..20 => LONG_TEXT,
+            20..32 => self.random.between(LONG_TEXT + 1, 2 * LONG_TEXT),
+            32..35 => self.random.between(2 * LONG_TEXT + 1, MOST_CHARACTERS),
+            35..38 => self.random.choice(&[MOST_CHARACTERS - 1, MOST_CHARACTERS]),
+            _ => self.random.between(61, LONG_TEXT),
+        };
         let mut text = Text::new();
         while text.len() < n {
             let word = if self.chance(0.5) { first.clone() } else { self.some_text() };

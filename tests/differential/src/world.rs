@@ -14,6 +14,8 @@ pub struct World {
     pub decompositions: Vec<u8>,
     /// code and text
     pub asked: Vec<(&'static str, String)>,
+    /// texts of rules that are long, and those of them that are as long as can be
+    pub long_targets: [usize; 2],
 }
 
 pub fn world(random: &mut Random) -> World {
@@ -27,7 +29,7 @@ pub fn world(random: &mut Random) -> World {
     let rules = maker.rule_table(&texts);
     let asked = texts.iter().map(|text| (maker.near_code(), text.iter().collect())).collect();
     let (classes, vowels, decompositions) = (maker.class_table(), maker.vowel_table(), maker.form_table());
-    World { rules, classes, vowels, decompositions, asked }
+    World { rules, classes, vowels, decompositions, asked, long_targets: maker.long_targets }
 }
 
 pub type Text = Vec<char>;
@@ -50,6 +52,8 @@ pub struct Maker<'r> {
     pub forms: Vec<Form>,
     /// what texts are made from, some of it more often
     pub letters: Vec<char>,
+    /// as of its world
+    pub long_targets: [usize; 2],
 }
 
 impl<'r> Maker<'r> {
@@ -65,7 +69,9 @@ impl<'r> Maker<'r> {
         let code = if random.chance(3.0 / 11.0) { "" } else { random.choice(&CODES) };
         let (formed, read) = (random.chance(0.6), random.chance(0.3));
         let (kinds, phrases, forms, letters) = Default::default();
-        let mut maker = Maker { random, alphabets, kinds, phrases, code, lined, cased: false, read, formed, forms, letters };
+        let (cased, long_targets) = (false, [0; 2]);
+        let mut maker =
+            Maker { random, alphabets, kinds, phrases, code, lined, cased, read, formed, forms, letters, long_targets };
         maker.cased = maker.odd(0.5);
         for alphabet in maker.alphabets.clone() {
             let all = alphabet.kinds;

@@ -161,10 +161,13 @@ fn left_out(c: char) -> bool {
     matches!(c, '\u{F00}'..='\u{FFF}' | '\u{2800}'..='\u{28FF}' | '\u{AC00}'..='\u{D7A3}')
 }
 
+/// The most characters of a text.
+pub const MOST_CHARACTERS: usize = 4096;
+
 /// A text that no call refuses.
 pub fn allowed_text(text: &[u8]) -> Option<&str> {
     let text = std::str::from_utf8(text).ok()?;
-    (text.chars().count() <= 512 && !text.chars().any(left_out)).then_some(text)
+    (text.chars().count() <= MOST_CHARACTERS && !text.chars().any(left_out)).then_some(text)
 }
 
 /// A language code that no call refuses.

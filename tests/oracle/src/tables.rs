@@ -3,6 +3,9 @@
 use crate::dicts::{AbugidaRuleType, Data, Rule};
 use crate::left_out;
 
+/// The most bytes of a target, an end-of-syllable target or an alternative.
+const MOST_TARGET: usize = 200;
+
 pub struct Reader<'a> {
     bytes: &'a [u8],
     at: usize,
@@ -30,7 +33,7 @@ impl<'a> Reader<'a> {
     fn target(&mut self) -> Option<String> {
         let n = self.number(1)? as usize;
         let t = self.take(n)?;
-        (n <= 64 && t.iter().all(|c| (0x20..=0x7e).contains(c))).then(|| String::from_utf8(t.to_vec()).unwrap())
+        (n <= MOST_TARGET && t.iter().all(|c| (0x20..=0x7e).contains(c))).then(|| String::from_utf8(t.to_vec()).unwrap())
     }
     fn letters(&mut self, n: usize) -> Option<String> {
         let t = self.take(n)?;
