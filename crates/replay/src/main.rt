@@ -178,12 +178,12 @@ fn run_one(input: &[u8], at: usize, slots: &mut [u8], room: &mut [u8], out: &mut
 
 // Room for slots, text and output, and room for the calls. Each is apart so that its user knows its length alone, and no proof
 // goes through its bytes.
-fn lent_room() -> [u8; 131072] {
-    [0u8; 131072]
+fn lent_room() -> [u8; 400000] {
+    [0u8; 400000]
 }
 
-fn calls_room() -> [u8; 3400000] {
-    [0u8; 3400000]
+fn calls_room() -> [u8; 4900000] {
+    [0u8; 4900000]
 }
 
 // All calls, one behind the other.
