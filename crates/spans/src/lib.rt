@@ -2,7 +2,7 @@
 // a fallback (`get_fallback_rom_and_annot`), a part of the rule table or of the text itself.
 ghost use mathlib.Core.Path.{_≡_};
 ghost use Prim.Native.Nat.{_+_, _<_, _≤_};
-ghost use lib.ListN.{length, take, drop};
+ghost use lib.ListN.{length, take, drop, replicate};
 ghost use Rattle.definition.specs.Limits.{most-bytes, most-target, most-vowel};
 ghost use Rattle.definition.specs.Texts.{Text};
 ghost use Rattle.definition.specs.VowelRows.{vowels-of};
@@ -175,7 +175,8 @@ fn put_expanded(
     }
 }
 
-// The edge of a span with a romanization `w`: vowel step, then expansion.
+// The edge of a span with a romanization `w`: vowel step, then expansion. Where neither does anything, `w` is its text, and
+// neither is asked, as they pass their arrays by value.
 fn edge_of(
     rules: &[u8],
     ready: &[u32],
@@ -189,10 +190,18 @@ fn edge_of(
     bytes: &mut [u8],
 ) -> Spanned
     requires { ⌜ Prepared (now rules) (now ready) × FineVowels (now vowels) × (length (now w) ≤ most-target)
-        × (span .from < span .to) × (span .to ≤ size-in (now line)) × (length (now bytes) ≡ most-bytes) ⌝ }
+        × (span .from < span .to) × (span .to ≤ size-in (now line)) × (now bytes ≡ replicate most-bytes 0) ⌝ }
     ensures { λ r. ⌜ FindsEdge (now (rules .entry)) (now (ready .entry)) (now (vowels .entry)) (now (code .entry)) (now (line .entry))
         (now (places .entry)) (now (places .exit)) (λ D t v. edge-of D t v tail (now (w .entry)) (span .from) (span .to)) (now (bytes .exit)) r ⌝ }
 {
+    if plain::is_plain(words::choices_in(ready), vowels, line, w, span) {
+        lent_bytes::put_text(bytes, w);
+        return Spanned {
+            there: true,
+            numbers: as_edge(tail, w.len(), false, span.from, span.to, edge::UNTOUCHED),
+            len: w.len(),
+        };
+    }
     let v = voiced(rules, ready, vowels, code, line, places, w, tail, span);
     let x = put_expanded(rules, ready, code, line, places, v.rom, span, bytes);
     Spanned {
@@ -213,7 +222,7 @@ pub fn put_span_edge(
     look: Look,
     bytes: &mut [u8],
 ) -> Spanned
-    requires { ⌜ Prepared (now rules) (now ready) × FineVowels (now vowels) × Looked (now rules) (now line) look × (length (now bytes) ≡ most-bytes) ⌝ }
+    requires { ⌜ Prepared (now rules) (now ready) × FineVowels (now vowels) × Looked (now rules) (now line) look × (now bytes ≡ replicate most-bytes 0) ⌝ }
     ensures { λ r. ⌜ Finds (now (rules .entry)) (now (ready .entry)) (now (vowels .entry)) (now (code .entry)) (now (line .entry))
         (now (places .entry)) (now (places .exit)) (λ D t v. span-edge D t v (look .from) (look .to)) (found (now (bytes .exit)) r)
         × Leaves (now (bytes .entry)) (now (bytes .exit)) r ⌝ }
