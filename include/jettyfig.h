@@ -149,8 +149,12 @@ typedef struct {
  * much. Where it is refused with JETTYFIG_REFUSED_LISTING no output is enough: call with parts of the text. */
 
 /* Bytes of stack that are enough for a call, on x86-64 as the library is built there, whatever text and tables: nothing in it is
- * recursive. It has room for the dynamic linker, which may run at the first call of memcpy, memmove or memset. */
-#define JETTYFIG_STACK 21504
+ * recursive. They have room for the dynamic linker, which may run at the first call of memcpy, memmove or memset. A text of
+ * JETTYFIG_SHORT_CHARACTERS at most needs JETTYFIG_SHORT_STACK, and no more is touched for it. What is kept of a longer text are
+ * 16 bytes for each of the most characters, 65,536 in all; the rest is the same for every text. */
+#define JETTYFIG_SHORT_CHARACTERS 512
+#define JETTYFIG_SHORT_STACK 24064
+#define JETTYFIG_STACK 81408
 
 /* The call. Each slice is a pointer and a length in bytes. Rules, classes, vowels, decompositions, code and text are read only.
  * Slots and room are working rooms: what stands in them before is of no matter, and both are all zeros afterwards, whatever
@@ -160,7 +164,7 @@ typedef struct {
  * This is asked of the caller, and can't be checked: no pointer is null, also where its length is 0; so many bytes as the
  * length says can be read there, and in slots, room and output written; these three overlap no other slice, nor each other;
  * no other thread writes any of the nine, or reads these three, before the call returns; and there are JETTYFIG_STACK bytes of
- * stack. */
+ * stack, or as many as the text needs. */
 jettyfig_answer jettyfig_romanize(uint8_t mode, uint8_t capitals, uint8_t o_ang, uint8_t readings,
                                   const uint8_t *rules, size_t rules_length,
                                   const uint8_t *classes, size_t classes_length,

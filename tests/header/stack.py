@@ -1,6 +1,6 @@
 #!/usr/bin/env python3
 """How much stack can a call take? Follows the stack pointer through the library's machine code, whatever the inputs, along each
-chain of calls, and compares the deepest with JETTYFIG_STACK. Fails too where that can't be told: on recursion, on a call through
+chain of calls, and compares the deepest with JETTYFIG_STACK, and that of a text of few characters with JETTYFIG_SHORT_STACK. Fails too where that can't be told: on recursion, on a call through
 a pointer, where the stack pointer is set otherwise than by a constant or two ways meet at different depths, and on a call of
 anything but three functions of the C library.
 
@@ -14,6 +14,8 @@ ROOT = pathlib.Path(__file__).resolve().parents[2]
 HEADER = ROOT / "include" / "jettyfig.h"
 OBJDUMP = [ROOT / "tests" / "x86_64", "objdump", "-dr", "--no-show-raw-insn"]
 ENTRY = "jettyfig_romanize"
+# what a call with a text of few characters doesn't enter
+LONG_TEXTS = "jettyfig::respond_long"
 # what the C library's functions may take: little themselves, but where they are bound at their first call the dynamic linker
 # runs there, with all vector registers saved (3,144 bytes with AVX-512)
 OUTSIDE = {"memcpy": 4096, "memmove": 4096, "memset": 4096}
@@ -136,16 +138,26 @@ def deepest(walked, name, above=()):
     return max(chains)
 
 
+def told(walked, macro, left_out):
+    """says the deepest chain of calls without some functions, and whether it passes what the header states"""
+    kept = {name: (depth, [call for call in calls if call[0] not in left_out]) for name, (depth, calls) in walked.items()}
+    own = {name: (depth, [call for call in calls if call[0] not in OUTSIDE]) for name, (depth, calls) in kept.items()}
+    depth, chain = deepest(own, ENTRY)
+    print("%d bytes of stack in the library's own frames: %s" % (depth, ", ".join("%s %d" % part for part in chain)))
+    depth, chain = deepest(kept, ENTRY)
+    stated = int(re.search(r"#define %s (\d+)" % macro, HEADER.read_text(encoding="utf-8")).group(1))
+    print("%d with what it calls (%s); %s is %d" % (depth, ", ".join(name for name, _ in chain), macro, stated))
+    return depth > stated
+
+
 def main(library):
     listing = subprocess.run([*OBJDUMP, library], capture_output=True, text=True, check=True).stdout
     walked = {name: walk(name, probed(name, code)) for name, code in functions(listing).items()}
-    own = {name: (depth, [call for call in calls if call[0] not in OUTSIDE]) for name, (depth, calls) in walked.items()}
-    depth, chain = deepest(own, ENTRY)
-    print("%d bytes of stack in the library's own frames: %s" % (depth, ", ".join("%s %d" % part for part in chain)))
-    depth, chain = deepest(walked, ENTRY)
-    stated = int(re.search(r"#define JETTYFIG_STACK (\d+)", HEADER.read_text(encoding="utf-8")).group(1))
-    print("%d with what it calls (%s); JETTYFIG_STACK is %d" % (depth, ", ".join(name for name, _ in chain), stated))
-    return depth > stated
+    if LONG_TEXTS not in walked:
+        sys.exit("%s is not in the library: it was compiled into what calls it, and short texts take as much stack as long ones" % LONG_TEXTS)
+    wrong = told(walked, "JETTYFIG_STACK", ())
+    return told(walked, "JETTYFIG_SHORT_STACK", (LONG_TEXTS,)) or wrong
+
 
 
 if __name__ == "__main__":
