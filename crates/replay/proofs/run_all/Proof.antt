@@ -10,7 +10,7 @@ use Rattle.replay.proofs.run_all.Tie as tie
 
 abbrev Inv-loop : tie.InvT-loop
 Inv-loop input slots₀ room₀ out₀ at₀ calls₀ differ₀ slots room out at calls differ =
-    (length slots ≡ 131072) × (length room ≡ 131072) × (length out ≡ 131072) × (calls ≤ at) × (differ ≤ calls)
+    (length slots ≡ 400000) × (length room ≡ 400000) × (length out ≡ 400000) × (calls ≤ at) × (differ ≤ calls)
 
 abbrev μ-loop : tie.MeasureT-loop
 μ-loop input slots₀ room₀ out₀ at₀ calls₀ differ₀ slots room out at calls differ = length input - at
