@@ -1,6 +1,6 @@
 #!/usr/bin/env python3
 """Texts of up to 4,096 characters, made by hand as in reading.py and refusals.py, and in a list of their own: they are for the library
-alone, since from some 700 characters on the prover's steps for a theorem are too few to compute the definition. Strings and refusals stated
+alone, since from some 800 edges on the prover's steps for a theorem are too few to compute the definition. Strings and refusals stated
 here are checked against the oracle.
 
 usage: long_texts.py ORACLE FILE.calls.xz"""

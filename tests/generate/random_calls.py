@@ -82,7 +82,7 @@ USUAL_FORMS = {"①": "1", "②": "2", "½": "1" + SLASH + "2", "Ａ": "A", "ⓩ
 
 # far more than most of these calls need; a long output would only make the definition slow
 MANY_SLOTS, MUCH_ROOM = 104448, 101376
-MANY_EDGES = 800
+MANY_EDGES = 750
 
 
 class World:
@@ -349,8 +349,8 @@ def made(rng, case, built):
 
 
 def cut(case, built):
-    """the case, its text cut where it has more edges than the prover's steps are enough for"""
-    if not built or len(built.added) <= MANY_EDGES:
+    """the case, its text cut where it has more edges, those of decompositions' strings with them, than the prover's steps are enough for"""
+    if not built or sum(1 + len(edge.inner) for edge in built.added) <= MANY_EDGES:
         return case
     return case._replace(text=case.text.decode()[:100].encode())
 
