@@ -103,7 +103,7 @@ class Runs(unittest.TestCase):
             rules = made[0]
             exchanged = tables.block([rules[5:27], rules[40:], rules[27:40]])
             faults = [(exchanged, 24, 40)] + [(rules[:at] + new + rules[at + len(new):], number, place) for at, new, number, place in (
-                (15, b"RUS", 22, 15), (18, b"\x41", 21, 18), (6, b"\x13", 20, 26), (6, b"\x15", 20, 27))]
+                (15, b"RUS", 22, 15), (18, bytes([tables.MOST_TARGET + 1]), 21, 18), (6, b"\x13", 20, 26), (6, b"\x15", 20, 27))]
             for table, number, place in faults:
                 self.assertIn("%d at %d" % (number, place), page)
                 names[0].write_bytes(table)
