@@ -31,7 +31,11 @@ pub record Alone (ks : List Class) (t : Text) (s e : ℕ) : Type 0 where
   pub unasked : Unasked (at t e)
   pub voiced : class ks (at t e) .virama ≡ false
 
--- neither the vowel step nor the expansion changes a text, whatever rules, code and edges there are
+-- the expansion doesn't change a text, whatever rules, code and edges there are
+abbrev pub Untouched : World → Choices → Text → ℕ → ℕ → Type 0
+Untouched x c w s e = (L : Lexicon) → L .classes ≡ kinds x → (v : View) → expand L (x .text) v c w s e ≡ ret (work w s e note-none)
+
+-- and neither does the vowel step
 pub record Plain (x : World) (c : Choices) (vs : List Vowel) (w : Text) (s e : ℕ) : Type 0 where
   pub voiceless : (L : Lexicon) → L .classes ≡ kinds x → (v : View) (tail : Bool) → vowel-step L (x .text) v vs tail w s e ≡ ret w
-  pub untouched : (L : Lexicon) → L .classes ≡ kinds x → (v : View) → expand L (x .text) v c w s e ≡ ret (work w s e note-none)
+  pub untouched : Untouched x c w s e

@@ -19,7 +19,7 @@ use Rattle.definition.specs.Vowels.{vowel-row, vowel-step}
 use Rattle.definition.specs.Expansion.{Work, work, capitalizes, capitalize, small-tsu, double, small-ya, small-target, lengthens, trim-front, trim-back, trim, finish, grave, small-y, rest, by-script, expand}
 use Rattle.rom.proofs.Walks.{no-last, last-there}
 use Rattle.words.specs.Given.{World, kinds}
-use Rattle.plain.specs.Plain.{Unasked, Unspaced, Alone, Plain}
+use Rattle.plain.specs.Plain.{Unasked, Unspaced, Alone, Untouched, Plain}
 
 -- a character that is none of a set's
 module _ (c : ℕ) where
@@ -118,10 +118,10 @@ module _ (L : Lexicon) (t : Text) (v : View) where
         (ap (λ (y : Work). by-script L t v c s (double (L .classes) t s y)) (no-capital h)
         ∙ ap (by-script L t v c s) (no-double (a .single)) ∙ no-thai k ∙ rest-none s W (a .unasked) (a .voiced) u)
 
--- both
-pub plain : (x : World) (c : Choices) (vs : List Vowel) (w : Text) (s e : ℕ) → (c .capitals ≡ 1 → ⊥) → (script (kinds x) (at (x .text) s) ≡ script-thai → ⊥)
-    → Alone (kinds x) (x .text) s e → Unspaced w → vowel-row vs (script (kinds x) (at (x .text) s)) ≡ none → Plain x c vs w s e
-plain x c vs w s e h k a u n = record {
-  voiceless = λ L q v tail. no-vowel L (x .text) v vs tail w s e (rw q n);
-  untouched = λ L q v. no-change L (x .text) v c w s e h (rw q k) (rw q a) u;
-}
+-- in a world
+module _ (x : World) (c : Choices) (w : Text) (s e : ℕ) where
+  pub untouched : (c .capitals ≡ 1 → ⊥) → (script (kinds x) (at (x .text) s) ≡ script-thai → ⊥) → Alone (kinds x) (x .text) s e → Unspaced w → Untouched x c w s e
+  untouched h k a u = λ L q v. no-change L (x .text) v c w s e h (rw q k) (rw q a) u
+
+  pub plain : (vs : List Vowel) → Untouched x c w s e → vowel-row vs (script (kinds x) (at (x .text) s)) ≡ none → Plain x c vs w s e
+  plain vs u n = record { voiceless = λ L q v tail. no-vowel L (x .text) v vs tail w s e (rw q n); untouched = u }

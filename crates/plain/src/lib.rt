@@ -11,7 +11,7 @@ ghost use Rattle.definition.specs.Expansion.{small-tsu};
 ghost use Rattle.table_vowels.specs.Told.{FineVowels};
 ghost use Rattle.words.specs.Given.{World, kinds, size-in, Lined};
 ghost use Rattle.words.specs.Choosing.{choices-of};
-ghost use Rattle.plain.specs.Plain.{Unasked, Unspaced, Alone, Plain};
+ghost use Rattle.plain.specs.Plain.{Unasked, Unspaced, Alone, Untouched, Plain};
 use table_vowels::VowelOf;
 use words::Choices;
 use words::Span;
@@ -146,11 +146,11 @@ fn is_met(line: &[u32], span: Span) -> bool
     false
 }
 
-// The vowel table is walked, so it is asked last.
-pub fn is_plain(choices: Choices, vowels: &[u8], line: &[u32], text: &[u8], span: Span) -> bool
-    requires { ⌜ FineVowels (now vowels) × (span .from < span .to) × (span .to ≤ size-in (now line)) ⌝ }
+// Does the expansion leave a text as it is?
+pub fn is_untouched(choices: Choices, line: &[u32], text: &[u8], span: Span) -> bool
+    requires { ⌜ (span .from < span .to) × (span .to ≤ size-in (now line)) ⌝ }
     ensures { λ r. ⌜ (r ≡ true → (x : World) → Lined x (now (line .entry))
-        → Plain x (choices-of choices) (vowels-of (now (vowels .entry))) (now (text .entry)) (span .from) (span .to)) ⌝ }
+        → Untouched x (choices-of choices) (now (text .entry)) (span .from) (span .to)) ⌝ }
 {
     if choices.capitals == 1 {
         return false;
@@ -165,8 +165,21 @@ pub fn is_plain(choices: Choices, vowels: &[u8], line: &[u32], text: &[u8], span
     if is_spaced(text) {
         return false;
     }
-    if has_vowel(vowels, script) {
-        return false;
-    }
     true
+}
+
+// Do both leave it as it is? The vowel table is walked, so it is asked last.
+pub fn is_plain(choices: Choices, vowels: &[u8], line: &[u32], text: &[u8], span: Span) -> bool
+    requires { ⌜ FineVowels (now vowels) × (span .from < span .to) × (span .to ≤ size-in (now line)) ⌝ }
+    ensures { λ r. ⌜ (r ≡ true → (x : World) → Lined x (now (line .entry))
+        → Plain x (choices-of choices) (vowels-of (now (vowels .entry))) (now (text .entry)) (span .from) (span .to)) ⌝ }
+{
+    if is_untouched(choices, line, text, span) {
+        let script = table_classes::script(words::kind_at(line, span.from + 1));
+        if has_vowel(vowels, script) {
+            return false;
+        }
+        return true;
+    }
+    false
 }

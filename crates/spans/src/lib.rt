@@ -140,7 +140,7 @@ fn voiced(
     )
 }
 
-// A romanization through the expansion, and put into what is lent.
+// A romanization through the expansion, unless that leaves it as it is, and put into what is lent.
 fn put_expanded(
     rules: &[u8],
     ready: &[u32],
@@ -156,6 +156,16 @@ fn put_expanded(
     ensures { λ x. ⌜ Expands (now (rules .entry)) (now (ready .entry)) (now (code .entry)) (now (line .entry)) (now (places .entry)) (now (places .exit))
         (text r) span (work-in (now (bytes .exit)) x) × Held (now (bytes .exit)) x ⌝ }
 {
+    let all = r.bytes;
+    if plain::is_untouched(words::choices_in(ready), line, &all[..r.len], span) {
+        lent_bytes::put_text(bytes, &all);
+        return Growing {
+            len: r.len,
+            from: span.from,
+            to: span.to,
+            note: edge::UNTOUCHED,
+        };
+    }
     let x = expand::expand_rom_with_special_chars(
         words::choices_in(ready),
         rules,
