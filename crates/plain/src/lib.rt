@@ -5,6 +5,7 @@ ghost use mathlib.Core.Bool.{true, false};
 ghost use mathlib.Core.Option.{none};
 ghost use mathlib.Core.Path.{_≡_};
 ghost use Prim.Native.Nat.{_<_, _≤_};
+ghost use lib.ListN.{length, take};
 ghost use Rattle.definition.specs.VowelRows.{vowels-of};
 ghost use Rattle.definition.specs.Vowels.{vowel-row};
 ghost use Rattle.definition.specs.Expansion.{small-tsu};
@@ -101,17 +102,18 @@ fn is_asked_behind(c: u32) -> bool
     false
 }
 
-// Does a text begin or end with a space?
-fn is_spaced(text: &[u8]) -> bool
-    ensures { λ r. ⌜ (r ≡ false → Unspaced (now (text .entry))) ⌝ }
+// Do the first `n` bytes of an array begin or end with a space?
+fn is_spaced(bytes: &[u8], n: usize) -> bool
+    requires { ⌜ n ≤ length (now bytes) ⌝ }
+    ensures { λ r. ⌜ (r ≡ false → Unspaced (take n (now (bytes .entry)))) ⌝ }
 {
-    if text.len() == 0 {
+    if n == 0 {
         return false;
     }
-    if base::byte(text, 0) == SPACE {
+    if base::byte(bytes, 0) == SPACE {
         return true;
     }
-    if base::byte(text, text.len() - 1) == SPACE {
+    if base::byte(bytes, n - 1) == SPACE {
         return true;
     }
     false
@@ -146,11 +148,11 @@ fn is_met(line: &[u32], span: Span) -> bool
     false
 }
 
-// Does the expansion leave a text as it is?
-pub fn is_untouched(choices: Choices, line: &[u32], text: &[u8], span: Span) -> bool
-    requires { ⌜ (span .from < span .to) × (span .to ≤ size-in (now line)) ⌝ }
+// Does the expansion leave a text as it is, the first `n` bytes of an array?
+pub fn is_untouched(choices: Choices, line: &[u32], bytes: &[u8], n: usize, span: Span) -> bool
+    requires { ⌜ (n ≤ length (now bytes)) × (span .from < span .to) × (span .to ≤ size-in (now line)) ⌝ }
     ensures { λ r. ⌜ (r ≡ true → (x : World) → Lined x (now (line .entry))
-        → Untouched x (choices-of choices) (now (text .entry)) (span .from) (span .to)) ⌝ }
+        → Untouched x (choices-of choices) (take n (now (bytes .entry))) (span .from) (span .to)) ⌝ }
 {
     if choices.capitals == 1 {
         return false;
@@ -162,7 +164,7 @@ pub fn is_untouched(choices: Choices, line: &[u32], text: &[u8], span: Span) -> 
     if is_met(line, span) {
         return false;
     }
-    if is_spaced(text) {
+    if is_spaced(bytes, n) {
         return false;
     }
     true
@@ -174,7 +176,7 @@ pub fn is_plain(choices: Choices, vowels: &[u8], line: &[u32], text: &[u8], span
     ensures { λ r. ⌜ (r ≡ true → (x : World) → Lined x (now (line .entry))
         → Plain x (choices-of choices) (vowels-of (now (vowels .entry))) (now (text .entry)) (span .from) (span .to)) ⌝ }
 {
-    if is_untouched(choices, line, text, span) {
+    if is_untouched(choices, line, text, text.len(), span) {
         let script = table_classes::script(words::kind_at(line, span.from + 1));
         if has_vowel(vowels, script) {
             return false;

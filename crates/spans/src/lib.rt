@@ -1,5 +1,6 @@
 // The edge of a span (`add_romanization`): what full search answers, through vowel step and expansion; and the text of
 // a fallback (`get_fallback_rom_and_annot`), a part of the rule table or of the text itself.
+ghost use mathlib.Core.List.{_++_};
 ghost use mathlib.Core.Path.{_≡_};
 ghost use Prim.Native.Nat.{_+_, _<_, _≤_};
 ghost use lib.ListN.{length, take, drop, replicate};
@@ -140,6 +141,18 @@ fn voiced(
     )
 }
 
+// The first `n` bytes of an array, copied to the front of what is lent: the zeros behind a romanization are there already.
+fn put_first(room: &mut [u8], bytes: &[u8], n: usize)
+    requires { ⌜ (n ≤ length (now bytes)) × (n ≤ length (now room)) ⌝ }
+    ensures { λ _. ⌜ now (room .exit) ≡ take n (now (bytes .entry)) ++ drop n (now (room .entry)) ⌝ }
+{
+    let mut i: usize = 0;
+    while i < n {
+        room[i] = bytes[i];
+        i += 1;
+    }
+}
+
 // A romanization through the expansion, unless that leaves it as it is, and put into what is lent.
 fn put_expanded(
     rules: &[u8],
@@ -152,13 +165,12 @@ fn put_expanded(
     bytes: &mut [u8],
 ) -> Growing
     requires { ⌜ Prepared (now rules) (now ready) × Clean r × (r .len ≤ most-target + most-vowel)
-        × (span .from < span .to) × (span .to ≤ size-in (now line)) × (length (now bytes) ≡ most-bytes) ⌝ }
+        × (span .from < span .to) × (span .to ≤ size-in (now line)) × (now bytes ≡ replicate most-bytes 0) ⌝ }
     ensures { λ x. ⌜ Expands (now (rules .entry)) (now (ready .entry)) (now (code .entry)) (now (line .entry)) (now (places .entry)) (now (places .exit))
         (text r) span (work-in (now (bytes .exit)) x) × Held (now (bytes .exit)) x ⌝ }
 {
-    let all = r.bytes;
-    if plain::is_untouched(words::choices_in(ready), line, &all[..r.len], span) {
-        lent_bytes::put_text(bytes, &all);
+    if plain::is_untouched(words::choices_in(ready), line, &r.bytes, r.len, span) {
+        put_first(bytes, &r.bytes, r.len);
         return Growing {
             len: r.len,
             from: span.from,
@@ -176,7 +188,7 @@ fn put_expanded(
         r,
         span,
     );
-    lent_bytes::put_text(bytes, &x.rom.bytes);
+    put_first(bytes, &x.rom.bytes, x.rom.len);
     Growing {
         len: x.rom.len,
         from: x.from,

@@ -1,15 +1,18 @@
 -- `plain::is_plain`: what the expansion leaves as it is, and no vowel of the script.
 use mathlib.Core.Bool.{true≢false}
-use mathlib.Core.Path.{sym, ap, _∙_}
+use mathlib.Core.Path.{sym, ap, _∙_, subst}
 use Prim.Native.Nat.{_+_, _≤_}
 use native.Mathlib.Omega.{arith}
 use lib.ListN.{length}
+use lib.Seq.{take-length}
 use denote.Ref.{now}
+use Rattle.definition.specs.Texts.{Text}
 use Rattle.definition.specs.VowelRows.{vowels-of}
 use Rattle.definition.specs.Vowels.{vowel-row}
 use Rattle.words.specs.Given.{line-size}
 use Rattle.words.specs.Characters.{script-here}
 use Rattle.words.specs.Choosing.{choices-of}
+use Rattle.plain.specs.Plain.{Untouched}
 use Rattle.plain.specs.Ways.{plain}
 use borrow.Author.Needs.{needs}
 use Rattle.plain.proofs.is_plain.Statement.{statement}
@@ -42,7 +45,9 @@ returns-2 c =
     λ e x g.
     let h : a .span .from ≤ length (x .text) + 1 = omega (arith, p .1, p .2, line-size g) in
     let k = script-here g (a .span .from) h (c .before .before .before .kind-at .ensures) (c .before .before .script .ensures) in
-    plain x (choices-of (a .choices)) (now (a .text)) (a .span .from) (a .span .to) vs (c .before .before .before .before .before .before .is-untouched .ensures (c .before .before .before .before .before .if1 .taken) x g)
+    plain x (choices-of (a .choices)) (now (a .text)) (a .span .from) (a .span .to) vs
+    (subst (λ (w : Text). Untouched x (choices-of (a .choices)) w (a .span .from) (a .span .to)) (take-length (now (a .text)))
+    (c .before .before .before .before .before .before .is-untouched .ensures (c .before .before .before .before .before .if1 .taken) x g))
     (ap (vowel-row vs) (sym k) ∙ c .before .has-vowel .ensures (c .if2 .left))
 
 returns-3 : tie.Need-returns-3

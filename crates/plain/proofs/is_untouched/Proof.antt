@@ -3,7 +3,7 @@ use mathlib.Core.Bool.{true≢false}
 use mathlib.Core.Path.{sym, _∙_}
 use Prim.Native.Nat.{_+_, _≤_}
 use native.Mathlib.Omega.{arith}
-use lib.ListN.{length}
+use lib.ListN.{length, take}
 use denote.Ref.{now}
 use Rattle.words.specs.Given.{line-size}
 use Rattle.words.specs.Characters.{script-here}
@@ -46,9 +46,9 @@ returns-5 c =
     let a = s .args in
     let p = s .pre in
     λ e x g.
-    let h : a .span .from ≤ length (x .text) + 1 = omega (arith, p .0, p .1, line-size g) in
+    let h : a .span .from ≤ length (x .text) + 1 = omega (arith, p .1, p .2, line-size g) in
     let k = script-here g (a .span .from) h (c .before .before .before .before .before .before .kind-at .ensures) (c .before .before .before .before .before .script .ensures) in
-    untouched x (choices-of (a .choices)) (now (a .text)) (a .span .from) (a .span .to) (λ z. omega (arith, z)) (λ z. c .before .before .before .before .if2 .left (k ∙ z))
+    untouched x (choices-of (a .choices)) (take (a .n) (now (a .bytes))) (a .span .from) (a .span .to) (λ z. omega (arith, z)) (λ z. c .before .before .before .before .if2 .left (k ∙ z))
     (c .before .before .before .is-met .ensures (c .before .before .if3 .left) x g) (c .before .is-spaced .ensures (c .if4 .left))
 
 pub is-untouched-spec : {M : Type 1} → statement M

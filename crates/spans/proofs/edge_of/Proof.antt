@@ -79,7 +79,7 @@ put-expanded-requires c κs =
     let s = x .before .before .before .before .before .before .before .before .before .before .before .before .before in
     let p = s .pre in
     let v = x .voiced .ensures in
-    (p .0, v .1, omega (arith, v .2, p .2, len-by (now (s .args .w)) refl), p .3, p .4, ap length (p .5) ∙ length-replicate {A = ℕ} most-bytes 0)
+    (p .0, v .1, omega (arith, v .2, p .2, len-by (now (s .args .w)) refl), p .3, p .4, p .5)
 
 as-edge-requires-2 : tie.Need-as-edge-requires-2
 as-edge-requires-2 c κs = omega (arith, c .before .before .before .before .before .before .before .before .before .before .before .before .before .before .before .before .before .before .before .before .before .before .pre .2)

@@ -1,11 +1,11 @@
--- `spans::put_expanded`: what the expansion leaves as it is, or else what it makes with the choices that were made ready; its whole array copied.
+-- `spans::put_expanded`: what the expansion leaves as it is, or else what it makes with the choices that were made ready.
 use mathlib.Core.List.{List}
-use mathlib.Core.Path.{refl, sym, ap, _∙_, subst}
-use Prim.Native.Nat.{ℕ, _≤_}
+use mathlib.Core.Path.{refl, ap, _∙_, subst}
+use Prim.Native.Nat.{ℕ}
 use native.Mathlib.Omega.{arith}
-use lib.ListN.{length, take}
-use lib.Seq.{length-take-le}
+use lib.ListN.{length, length-replicate}
 use denote.Ref.{now}
+use Rattle.definition.specs.Limits.{most-bytes}
 use Rattle.definition.specs.Tables.{Choices}
 use Rattle.definition.specs.Notes.{note-none}
 use Rattle.definition.specs.Edges.{M, ret}
@@ -17,32 +17,21 @@ use Rattle.words.specs.Given.{seen, size}
 use Rattle.rule_choice.specs.Lent.{lexicon-of}
 use Rattle.steps.specs.Works.{work-of}
 use Rattle.plain.specs.Plain.{Untouched}
-use Rattle.spans.proofs.Held.{held-bytes, held-clean}
+use Rattle.spans.proofs.Held.{held-text, held-clean}
 use borrow.Author.Needs.{needs}
 use Rattle.spans.proofs.put_expanded.Statement.{statement}
 use Rattle.spans.proofs.put_expanded.Tie as tie
 
--- its text lies within its array
-few : (s : tie.Start) → s .args .r .len ≤ length (s .args .r .bytes)
-few s = omega (arith, s .pre .2, bytes-length (s .pre .1))
-
 choices-in-requires : tie.Need-choices-in-requires
 choices-in-requires c κs = search needs
 
-array-share-prefix-all : tie.Need-array-share-prefix-all
-array-share-prefix-all c = let s = c .before .before .before .before .before .before .before .before in few s
-
-slice-aggregate-is-untouched : tie.Need-slice-aggregate-is-untouched
-slice-aggregate-is-untouched c = let s = c .before .before .before .before .before .before .before .before .before in sym (length-take-le (s .args .r .len) (s .args .r .bytes) (few s))
-
 is-untouched-requires : tie.Need-is-untouched-requires
-is-untouched-requires c κs = search needs
+is-untouched-requires c κs = let p = c .before .before .before .before .before .before .before .before .before .before .pre in (omega (arith, p .1 .fits, bytes-length (p .1)), p .3, p .4)
 
-slice-aggregate-put-text : tie.Need-slice-aggregate-put-text
-slice-aggregate-put-text c = search needs
-
-put-text-requires : tie.Need-put-text-requires
-put-text-requires c κs = let p = c .before .before .before .before .before .before .before .before .before .before .before .before .before .pre in omega (arith, bytes-length (p .1), p .5)
+put-first-requires : tie.Need-put-first-requires
+put-first-requires c κs =
+    let p = c .before .before .before .before .before .before .before .before .before .before .before .before .before .before .before .before .pre in
+    (omega (arith, p .1 .fits, bytes-length (p .1)), omega (arith, p .1 .fits, ap length (p .5), length-replicate {A = ℕ} most-bytes 0))
 
 same-length : tie.Need-same-length
 same-length c = search needs
@@ -50,16 +39,16 @@ same-length c = search needs
 returns : tie.Need-returns
 unfolding ret
 returns c =
-    let s = c .before .before .before .before .before .before .before .before .before .before .before .before .before .before .before .before in
+    let s = c .before .before .before .before .before .before .before .before .before .before .before .before .before .before .before .before .before .before .before in
     let a = s .args in
     let p = s .pre in
-    let k = c .before .before .before .before .before .before .before .before .choices-in in
-    let y = c .before .before .before .before .before .before .is-untouched in
-    let e = c .before .before .put-text .ensures in (
+    let k = c .before .before .before .before .before .before .before .before .before .before .before .before .choices-in in
+    let y = c .before .before .before .before .before .before .before .before .is-untouched in
+    let e = c .before .before .put-first .ensures in (
       λ u told lent.
           let m = memory (size u) (now (a .places)) in
-          let U = subst (λ (o : Choices). Untouched u o (text (a .r)) (a .span .from) (a .span .to)) (k .ensures ∙ told .choices) (y .ensures (c .before .before .before .before .before .if1 .taken) u (lent .text)) in
-          asked-none (did-by (ap (λ (b : List ℕ). work (take (a .r .len) b) (a .span .from) (a .span .to) note-none) (held-bytes (p .1) (now (a .bytes)) _ (p .5) e))
+          let U = subst (λ (o : Choices). Untouched u o (text (a .t6)) (a .span .from) (a .span .to)) (k .ensures ∙ told .choices) (y .ensures (c .before .before .before .before .before .before .before .if1 .taken) u (lent .text)) in
+          asked-none (did-by (ap (λ (w : List ℕ). work w (a .span .from) (a .span .to) note-none) (held-text (p .1) (now (a .bytes)) _ (p .5) e))
           (did (ap (λ (f : M Work). f m) (U (lexicon-of (now (a .rules)) u (now (a .code))) refl (seen u))))),
       held-clean (p .1) (now (a .bytes)) _ (p .5) e,
     )
@@ -70,8 +59,11 @@ choices-in-requires-2 c κs = search needs
 expand-rom-with-special-chars-requires : tie.Need-expand-rom-with-special-chars-requires
 expand-rom-with-special-chars-requires c κs = search needs
 
-put-text-requires-2 : tie.Need-put-text-requires-2
-put-text-requires-2 c κs = omega (arith, bytes-length (c .before .before .before .before .before .before .expand-rom-with-special-chars .ensures .1), c .before .before .before .before .before .before .before .before .before .before .before .before .before .before .before .before .before .before .before .before .pre .5)
+put-first-requires-2 : tie.Need-put-first-requires-2
+put-first-requires-2 c κs =
+    let p = c .before .before .before .before .before .before .before .before .before .before .before .before .before .before .before .before .before .before .before .before .before .pre in
+    let k = c .before .before .before .before .before .before .expand-rom-with-special-chars .ensures .1 in
+    (omega (arith, k .fits, bytes-length k), omega (arith, k .fits, ap length (p .5), length-replicate {A = ℕ} most-bytes 0))
 
 same-length-2 : tie.Need-same-length-2
 same-length-2 c = search needs
@@ -82,16 +74,16 @@ same-length-3 c = search needs
 returns-2 : tie.Need-returns-2
 returns-2 c =
     let y = c .before .before .before .before .before .before .before .before .before in
-    let s = c .before .before .before .before .before .before .before .before .before .before .before .before .before .before .before .before .before .before .before .before .before .before .before in
+    let s = c .before .before .before .before .before .before .before .before .before .before .before .before .before .before .before .before .before .before .before .before .before .before .before .before in
     let a = s .args in
     let p = s .pre in
     let k = c .before .before .before .before .before .before .before .before .before .before .before .choices-in2 in
     let x = y .expand-rom-with-special-chars in
     let z = x .result in
-    let e = c .before .before .put-text2 .ensures in (
+    let e = c .before .before .put-first2 .ensures in (
       λ u told lent.
-          asked-by (ap (λ (b : List ℕ). work (take (z .rom .len) b) (z .from) (z .to) (z .note)) (held-bytes (x .ensures .1) (now (a .bytes)) _ (p .5) e))
-          (subst (λ (o : Choices). Asked u (expand (lexicon-of (now (a .rules)) u (now (a .code))) (u .text) (seen u) o (text (a .r)) (a .span .from) (a .span .to))
+          asked-by (ap (λ (w : List ℕ). work w (z .from) (z .to) (z .note)) (held-text (x .ensures .1) (now (a .bytes)) _ (p .5) e))
+          (subst (λ (o : Choices). Asked u (expand (lexicon-of (now (a .rules)) u (now (a .code))) (u .text) (seen u) o (text (a .t6)) (a .span .from) (a .span .to))
           (now (a .places)) (x .last .1 .1 .1 .1 .1 .0) (work-of z)) (k .ensures ∙ told .choices) (x .ensures .0 u told lent)),
       held-clean (x .ensures .1) (now (a .bytes)) _ (p .5) e,
     )
@@ -101,16 +93,13 @@ put-expanded-spec =
     tie.close
     (tie.spec
     choices-in-requires
-    array-share-prefix-all
-    slice-aggregate-is-untouched
     is-untouched-requires
-    slice-aggregate-put-text
-    put-text-requires
+    put-first-requires
     same-length
     returns
     choices-in-requires-2
     expand-rom-with-special-chars-requires
-    put-text-requires-2
+    put-first-requires-2
     same-length-2
     same-length-3
     returns-2)
