@@ -24,7 +24,7 @@ use Rattle.rule_table.specs.declared.Found.{Found}
 
 -- characters that are kept, and all numbers with those of the index
 abbrev pub kept-characters : ℕ
-kept-characters = 128
+kept-characters = 256
 
 abbrev pub all-places : ℕ
 all-places = index-entries + 2 * kept-characters

@@ -1,6 +1,6 @@
 // What the rule table has of single characters, looked up once. Most spans are one character, and a text has each of its
-// characters again and again: behind the index 128 places keep what a look-up told, each that of the character that was
-// put there last of those with the same lowest seven bits. A character that is not there is looked up.
+// characters again and again: behind the index 256 places keep what a look-up told, each that of the character that was
+// put there last of those with the same lowest eight bits. A character that is not there is looked up.
 ghost use mathlib.Core.Option.{none};
 ghost use mathlib.Core.Path.{_≡_};
 ghost use Prim.Native.Nat.{_+_, _*_, _%_, _<_, _≤_};
@@ -10,7 +10,7 @@ ghost use Rattle.rule_memo.specs.Kept.{kept-characters, all-places, plac
 use rule_table::Found;
 
 // The characters that are kept behind the index, and all numbers of both.
-const CHARACTERS: u32 = 128;
+const CHARACTERS: u32 = 256;
 
 pub const PLACES: usize = rule_table::INDEX_ENTRIES + 2 * CHARACTERS as usize;
 
