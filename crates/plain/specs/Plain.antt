@@ -35,7 +35,6 @@ pub record Alone (ks : List Class) (t : Text) (s e : ℕ) : Type 0 where
 abbrev pub Untouched : World → Choices → Text → ℕ → ℕ → Type 0
 Untouched x c w s e = (L : Lexicon) → L .classes ≡ kinds x → (v : View) → expand L (x .text) v c w s e ≡ ret (work w s e note-none)
 
--- and neither does the vowel step
-pub record Plain (x : World) (c : Choices) (vs : List Vowel) (w : Text) (s e : ℕ) : Type 0 where
-  pub voiceless : (L : Lexicon) → L .classes ≡ kinds x → (v : View) (tail : Bool) → vowel-step L (x .text) v vs tail w s e ≡ ret w
-  pub untouched : Untouched x c w s e
+-- nor does the vowel step change any text over a span
+abbrev pub Voiceless : World → List Vowel → ℕ → ℕ → Type 0
+Voiceless x vs s e = (L : Lexicon) → L .classes ≡ kinds x → (v : View) (tail : Bool) (w : Text) → vowel-step L (x .text) v vs tail w s e ≡ ret w

@@ -19,7 +19,7 @@ use Rattle.definition.specs.Vowels.{vowel-row, vowel-step}
 use Rattle.definition.specs.Expansion.{Work, work, capitalizes, capitalize, small-tsu, double, small-ya, small-target, lengthens, trim-front, trim-back, trim, finish, grave, small-y, rest, by-script, expand}
 use Rattle.rom.proofs.Walks.{no-last, last-there}
 use Rattle.words.specs.Given.{World, kinds}
-use Rattle.plain.specs.Plain.{Unasked, Unspaced, Alone, Untouched, Plain}
+use Rattle.plain.specs.Plain.{Unasked, Unspaced, Alone, Untouched, Voiceless}
 
 -- a character that is none of a set's
 module _ (c : ℕ) where
@@ -119,9 +119,10 @@ module _ (L : Lexicon) (t : Text) (v : View) where
         ∙ ap (by-script L t v c s) (no-double (a .single)) ∙ no-thai k ∙ rest-none s W (a .unasked) (a .voiced) u)
 
 -- in a world
-module _ (x : World) (c : Choices) (w : Text) (s e : ℕ) where
-  pub untouched : (c .capitals ≡ 1 → ⊥) → (script (kinds x) (at (x .text) s) ≡ script-thai → ⊥) → Alone (kinds x) (x .text) s e → Unspaced w → Untouched x c w s e
-  untouched h k a u = λ L q v. no-change L (x .text) v c w s e h (rw q k) (rw q a) u
+module _ (x : World) (s e : ℕ) where
+  pub untouched : (c : Choices) (w : Text) → (c .capitals ≡ 1 → ⊥) → (script (kinds x) (at (x .text) s) ≡ script-thai → ⊥) → Alone (kinds x) (x .text) s e
+      → Unspaced w → Untouched x c w s e
+  untouched c w h k a u = λ L q v. no-change L (x .text) v c w s e h (rw q k) (rw q a) u
 
-  pub plain : (vs : List Vowel) → Untouched x c w s e → vowel-row vs (script (kinds x) (at (x .text) s)) ≡ none → Plain x c vs w s e
-  plain vs u n = record { voiceless = λ L q v tail. no-vowel L (x .text) v vs tail w s e (rw q n); untouched = u }
+  pub voiceless : (vs : List Vowel) → vowel-row vs (script (kinds x) (at (x .text) s)) ≡ none → Voiceless x vs s e
+  voiceless vs n = λ L q v tail w. no-vowel L (x .text) v vs tail w s e (rw q n)

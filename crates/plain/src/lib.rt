@@ -1,6 +1,5 @@
-// Is a target an edge's text as it is? For most spans neither the vowel step nor the expansion does anything: their script
-// has no vowel of its own, and nothing stands around them that the expansion asks for. `false` is no answer: both are to be
-// asked then.
+// Is a text left as it is? For most spans neither the vowel step nor the expansion does anything: their script has no vowel of its
+// own, and nothing stands around them that the expansion asks for. `false` is no answer: the step is to be asked then.
 ghost use mathlib.Core.Bool.{true, false};
 ghost use mathlib.Core.Option.{none};
 ghost use mathlib.Core.Path.{_≡_};
@@ -12,7 +11,7 @@ ghost use Rattle.definition.specs.Expansion.{small-tsu};
 ghost use Rattle.table_vowels.specs.Told.{FineVowels};
 ghost use Rattle.words.specs.Given.{World, kinds, size-in, Lined};
 ghost use Rattle.words.specs.Choosing.{choices-of};
-ghost use Rattle.plain.specs.Plain.{Unasked, Unspaced, Alone, Untouched, Plain};
+ghost use Rattle.plain.specs.Plain.{Unasked, Unspaced, Alone, Untouched, Voiceless};
 use table_vowels::VowelOf;
 use words::Choices;
 use words::Span;
@@ -170,18 +169,14 @@ pub fn is_untouched(choices: Choices, line: &[u32], bytes: &[u8], n: usize, span
     true
 }
 
-// Do both leave it as it is? The vowel table is walked, so it is asked last.
-pub fn is_plain(choices: Choices, vowels: &[u8], line: &[u32], text: &[u8], span: Span) -> bool
+// Does the vowel step leave every text over a span as it is?
+pub fn is_voiceless(vowels: &[u8], line: &[u32], span: Span) -> bool
     requires { ⌜ FineVowels (now vowels) × (span .from < span .to) × (span .to ≤ size-in (now line)) ⌝ }
-    ensures { λ r. ⌜ (r ≡ true → (x : World) → Lined x (now (line .entry))
-        → Plain x (choices-of choices) (vowels-of (now (vowels .entry))) (now (text .entry)) (span .from) (span .to)) ⌝ }
+    ensures { λ r. ⌜ (r ≡ true → (x : World) → Lined x (now (line .entry)) → Voiceless x (vowels-of (now (vowels .entry))) (span .from) (span .to)) ⌝ }
 {
-    if is_untouched(choices, line, text, text.len(), span) {
-        let script = table_classes::script(words::kind_at(line, span.from + 1));
-        if has_vowel(vowels, script) {
-            return false;
-        }
-        return true;
+    let script = table_classes::script(words::kind_at(line, span.from + 1));
+    if has_vowel(vowels, script) {
+        return false;
     }
-    false
+    true
 }

@@ -1,8 +1,8 @@
 // The edge of a span (`add_romanization`): what full search answers, through vowel step and expansion; and the text of
 // a fallback (`get_fallback_rom_and_annot`), a part of the rule table or of the text itself.
-ghost use mathlib.Core.List.{_++_};
+ghost use mathlib.Core.List.{List, _++_};
 ghost use mathlib.Core.Path.{_≡_};
-ghost use Prim.Native.Nat.{_+_, _<_, _≤_};
+ghost use Prim.Native.Nat.{ℕ, _+_, _<_, _≤_};
 ghost use lib.ListN.{length, take, drop, replicate};
 ghost use Rattle.definition.specs.Limits.{most-bytes, most-target, most-vowel};
 ghost use Rattle.definition.specs.Texts.{Text};
@@ -12,11 +12,12 @@ ghost use Rattle.definition.specs.Expansion.{work};
 ghost use Rattle.definition.specs.Building.{is-tail, without-plus, grown, as-edge, edge-of, span-edge, fallback-plus};
 ghost use Rattle.table_vowels.specs.Told.{FineVowels};
 ghost use Rattle.rom.specs.Rom.{text, rom, Clean};
-ghost use Rattle.words.specs.Given.{size-in, Prepared};
+ghost use Rattle.words.specs.Given.{World, size-in, Prepared, Lined};
 ghost use Rattle.words.specs.Looks.{Looked};
 ghost use Rattle.rule_choice.specs.Chosen.{chosen-means, Said};
 ghost use Rattle.steps.specs.Works.{work-in, Held};
 ghost use Rattle.vowel_step.specs.Steps.{Voices};
+ghost use Rattle.plain.specs.Plain.{Voiceless};
 ghost use Rattle.spans.specs.Spans.{Finds, edge-with, FindsEdge, found, Leaves, Expands, plus-dropped, fallback-bytes, category-note};
 use edge::Numbers;
 use rom::Rom;
@@ -153,7 +154,42 @@ fn put_first(room: &mut [u8], bytes: &[u8], n: usize)
     }
 }
 
-// A romanization through the expansion, unless that leaves it as it is, and put into what is lent.
+// A romanization through the expansion, and put into what is lent.
+fn put_grown(
+    rules: &[u8],
+    ready: &[u32],
+    code: &[u8],
+    line: &[u32],
+    places: &mut [u32],
+    r: Rom,
+    span: Span,
+    bytes: &mut [u8],
+) -> Growing
+    requires { ⌜ Prepared (now rules) (now ready) × Clean r × (r .len ≤ most-target + most-vowel)
+        × (span .from < span .to) × (span .to ≤ size-in (now line)) × (now bytes ≡ replicate most-bytes 0) ⌝ }
+    ensures { λ x. ⌜ Expands (now (rules .entry)) (now (ready .entry)) (now (code .entry)) (now (line .entry)) (now (places .entry)) (now (places .exit))
+        (text r) span (work-in (now (bytes .exit)) x) × Held (now (bytes .exit)) x ⌝ }
+{
+    let x = expand::expand_rom_with_special_chars(
+        words::choices_in(ready),
+        rules,
+        ready,
+        code,
+        line,
+        places,
+        r,
+        span,
+    );
+    put_first(bytes, &x.rom.bytes, x.rom.len);
+    Growing {
+        len: x.rom.len,
+        from: x.from,
+        to: x.to,
+        note: x.note,
+    }
+}
+
+// The same, unless the expansion leaves it as it is.
 fn put_expanded(
     rules: &[u8],
     ready: &[u32],
@@ -178,27 +214,53 @@ fn put_expanded(
             note: edge::UNTOUCHED,
         };
     }
-    let x = expand::expand_rom_with_special_chars(
-        words::choices_in(ready),
+    put_grown(rules, ready, code, line, places, r, span, bytes)
+}
+
+// The edge of a span with a romanization `w` that the vowel step leaves as it is: the expansion, unless that does too.
+fn voiceless_edge(
+    rules: &[u8],
+    ready: &[u32],
+    code: &[u8],
+    line: &[u32],
+    places: &mut [u32],
+    w: &[u8],
+    tail: bool,
+    span: Span,
+    bytes: &mut [u8],
+) -> Spanned
+    requires { ⌜ Prepared (now rules) (now ready) × (length (now w) ≤ most-target)
+        × (span .from < span .to) × (span .to ≤ size-in (now line)) × (now bytes ≡ replicate most-bytes 0) ⌝ }
+    ensures { λ r. ⌜ ((vowels : List ℕ) → ((x : World) → Lined x (now (line .entry)) → Voiceless x (vowels-of vowels) (span .from) (span .to))
+        → FindsEdge (now (rules .entry)) (now (ready .entry)) vowels (now (code .entry)) (now (line .entry))
+        (now (places .entry)) (now (places .exit)) (λ D t v. edge-of D t v tail (now (w .entry)) (span .from) (span .to)) (now (bytes .exit)) r) ⌝ }
+{
+    if plain::is_untouched(words::choices_in(ready), line, w, w.len(), span) {
+        lent_bytes::put_text(bytes, w);
+        return Spanned {
+            there: true,
+            numbers: as_edge(tail, w.len(), false, span.from, span.to, edge::UNTOUCHED),
+            len: w.len(),
+        };
+    }
+    let x = put_grown(
         rules,
         ready,
         code,
         line,
         places,
-        r,
+        rom::bytes_of(w),
         span,
+        bytes,
     );
-    put_first(bytes, &x.rom.bytes, x.rom.len);
-    Growing {
-        len: x.rom.len,
-        from: x.from,
-        to: x.to,
-        note: x.note,
+    Spanned {
+        there: true,
+        numbers: as_edge(tail, w.len(), false, x.from, x.to, x.note),
+        len: x.len,
     }
 }
 
-// The edge of a span with a romanization `w`: vowel step, then expansion. Where neither does anything, `w` is its text, and
-// neither is asked, as they pass their arrays by value.
+// The edge of a span with a romanization `w`: vowel step, then expansion.
 fn edge_of(
     rules: &[u8],
     ready: &[u32],
@@ -216,13 +278,8 @@ fn edge_of(
     ensures { λ r. ⌜ FindsEdge (now (rules .entry)) (now (ready .entry)) (now (vowels .entry)) (now (code .entry)) (now (line .entry))
         (now (places .entry)) (now (places .exit)) (λ D t v. edge-of D t v tail (now (w .entry)) (span .from) (span .to)) (now (bytes .exit)) r ⌝ }
 {
-    if plain::is_plain(words::choices_in(ready), vowels, line, w, span) {
-        lent_bytes::put_text(bytes, w);
-        return Spanned {
-            there: true,
-            numbers: as_edge(tail, w.len(), false, span.from, span.to, edge::UNTOUCHED),
-            len: w.len(),
-        };
+    if plain::is_voiceless(vowels, line, span) {
+        return voiceless_edge(rules, ready, code, line, places, w, tail, span, bytes);
     }
     let v = voiced(rules, ready, vowels, code, line, places, w, tail, span);
     let x = put_expanded(rules, ready, code, line, places, v.rom, span, bytes);

@@ -48,7 +48,7 @@ returns-5 c =
     λ e x g.
     let h : a .span .from ≤ length (x .text) + 1 = omega (arith, p .1, p .2, line-size g) in
     let k = script-here g (a .span .from) h (c .before .before .before .before .before .before .kind-at .ensures) (c .before .before .before .before .before .script .ensures) in
-    untouched x (choices-of (a .choices)) (take (a .n) (now (a .bytes))) (a .span .from) (a .span .to) (λ z. omega (arith, z)) (λ z. c .before .before .before .before .if2 .left (k ∙ z))
+    untouched x (a .span .from) (a .span .to) (choices-of (a .choices)) (take (a .n) (now (a .bytes))) (λ z. omega (arith, z)) (λ z. c .before .before .before .before .if2 .left (k ∙ z))
     (c .before .before .before .is-met .ensures (c .before .before .if3 .left) x g) (c .before .is-spaced .ensures (c .if4 .left))
 
 pub is-untouched-spec : {M : Type 1} → statement M

@@ -1,4 +1,4 @@
--- `spans::put_expanded`: what the expansion leaves as it is, or else what it makes with the choices that were made ready.
+-- `spans::put_expanded`: what the expansion leaves as it is, or else what it makes.
 use mathlib.Core.List.{List}
 use mathlib.Core.Path.{refl, ap, _∙_, subst}
 use Prim.Native.Nat.{ℕ}
@@ -9,13 +9,12 @@ use Rattle.definition.specs.Limits.{most-bytes}
 use Rattle.definition.specs.Tables.{Choices}
 use Rattle.definition.specs.Notes.{note-none}
 use Rattle.definition.specs.Edges.{M, ret}
-use Rattle.definition.specs.Expansion.{Work, work, expand}
+use Rattle.definition.specs.Expansion.{Work, work}
 use Rattle.edge_places.specs.Shows.{memory}
 use Rattle.rom.specs.Rom.{text, bytes-length}
-use Rattle.words.specs.Did.{did, did-by, Asked, asked-by, asked-none}
+use Rattle.words.specs.Did.{did, did-by, asked-none}
 use Rattle.words.specs.Given.{seen, size}
 use Rattle.rule_choice.specs.Lent.{lexicon-of}
-use Rattle.steps.specs.Works.{work-of}
 use Rattle.plain.specs.Plain.{Untouched}
 use Rattle.spans.proofs.Held.{held-text, held-clean}
 use borrow.Author.Needs.{needs}
@@ -53,17 +52,8 @@ returns c =
       held-clean (p .1) (now (a .bytes)) _ (p .5) e,
     )
 
-choices-in-requires-2 : tie.Need-choices-in-requires-2
-choices-in-requires-2 c κs = search needs
-
-expand-rom-with-special-chars-requires : tie.Need-expand-rom-with-special-chars-requires
-expand-rom-with-special-chars-requires c κs = search needs
-
-put-first-requires-2 : tie.Need-put-first-requires-2
-put-first-requires-2 c κs =
-    let p = c .before .before .before .before .before .before .before .before .before .before .before .before .before .before .before .before .before .before .before .before .before .pre in
-    let k = c .before .before .before .before .before .before .expand-rom-with-special-chars .ensures .1 in
-    (omega (arith, k .fits, bytes-length k), omega (arith, k .fits, ap length (p .5), length-replicate {A = ℕ} most-bytes 0))
+put-grown-requires : tie.Need-put-grown-requires
+put-grown-requires c κs = c .before .before .before .before .before .before .before .before .before .before .before .before .before .before .pre
 
 same-length-2 : tie.Need-same-length-2
 same-length-2 c = search needs
@@ -72,21 +62,7 @@ same-length-3 : tie.Need-same-length-3
 same-length-3 c = search needs
 
 returns-2 : tie.Need-returns-2
-returns-2 c =
-    let y = c .before .before .before .before .before .before .before .before .before in
-    let s = c .before .before .before .before .before .before .before .before .before .before .before .before .before .before .before .before .before .before .before .before .before .before .before .before in
-    let a = s .args in
-    let p = s .pre in
-    let k = c .before .before .before .before .before .before .before .before .before .before .before .choices-in2 in
-    let x = y .expand-rom-with-special-chars in
-    let z = x .result in
-    let e = c .before .before .put-first2 .ensures in (
-      λ u told lent.
-          asked-by (ap (λ (w : List ℕ). work w (z .from) (z .to) (z .note)) (held-text (x .ensures .1) (now (a .bytes)) _ (p .5) e))
-          (subst (λ (o : Choices). Asked u (expand (lexicon-of (now (a .rules)) u (now (a .code))) (u .text) (seen u) o (text (a .t6)) (a .span .from) (a .span .to))
-          (now (a .places)) (x .last .1 .1 .1 .1 .1 .0) (work-of z)) (k .ensures ∙ told .choices) (x .ensures .0 u told lent)),
-      held-clean (x .ensures .1) (now (a .bytes)) _ (p .5) e,
-    )
+returns-2 c = c .before .before .before .before .put-grown .ensures
 
 pub put-expanded-spec : {M : Type 1} → statement M
 put-expanded-spec =
@@ -97,9 +73,7 @@ put-expanded-spec =
     put-first-requires
     same-length
     returns
-    choices-in-requires-2
-    expand-rom-with-special-chars-requires
-    put-first-requires-2
+    put-grown-requires
     same-length-2
     same-length-3
     returns-2)
