@@ -153,8 +153,8 @@ typedef struct {
  * JETTYFIG_SHORT_CHARACTERS at most needs JETTYFIG_SHORT_STACK, and no more is touched for it. What is kept of a longer text are
  * 16 bytes for each of the most characters, 65,536 in all; the rest is the same for every text. */
 #define JETTYFIG_SHORT_CHARACTERS 512
-#define JETTYFIG_SHORT_STACK 24064
-#define JETTYFIG_STACK 81408
+#define JETTYFIG_SHORT_STACK 26624
+#define JETTYFIG_STACK 83968
 
 /* The call. Each slice is a pointer and a length in bytes. Rules, classes, vowels, decompositions, code and text are read only.
  * Slots and room are working rooms: what stands in them before is of no matter, and both are all zeros afterwards, whatever

@@ -150,8 +150,8 @@ pub const fn all_edges_for(n: usize) -> usize {
 /// Bytes of stack that are enough for a call, on x86-64 as the library is built there, whatever text and tables; a text of
 /// `SHORT_CHARACTERS` at most needs `SHORT_STACK`.
 pub const SHORT_CHARACTERS: usize = 512;
-pub const SHORT_STACK: usize = 24064;
-pub const STACK: usize = 81408;
+pub const SHORT_STACK: usize = 26624;
+pub const STACK: usize = 83968;
 
 /// What a call may choose; all of it is off by default.
 #[derive(Clone, Copy, Debug, Default, PartialEq, Eq)]
