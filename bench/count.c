@@ -2,17 +2,18 @@
  *
  *     count FOLDER LENGTH ROOMS MODE CAPITALS O_ANG READINGS TIMES
  *
- * FOLDER holds rules.bin, classes.bin, vowels.bin, decompositions.bin and labels.txt. The texts are so many labels, or with another LENGTH than 0 so
- * many texts of LENGTH characters, which are labels joined by spaces; `empty` in its place makes them empty. Rooms are ROOMS bytes
- * for slots, as many for texts, and four times as many for the output. All is read and laid out before the first call, for the
- * most texts that may be asked for, 32, or 4 of more than 512 characters: so two runs differ in their calls alone. */
+ * FOLDER holds rules.bin, classes.bin, vowels.bin, decompositions.bin and labels.txt. The texts are so many labels, or with another
+ * LENGTH than 0 so many texts of LENGTH characters, which are labels joined by spaces; `empty` in its place makes them empty. Rooms
+ * are ROOMS bytes for slots, as many for texts, and four times as many for the output. All is read and laid out before the first
+ * call, for the most texts that may be asked for, 400 labels, 32 texts, or 4 of more than 512 characters: so two runs differ in
+ * their calls alone. */
 #include <stdio.h>
 #include <stdlib.h>
 #include <string.h>
 
 #include "jettyfig.h"
 
-enum { MOST_TEXTS = 32, MOST_LONG_TEXTS = 4, LONG_TEXT = 512, MOST_BYTES = 1 << 20, WORDS = 9 };
+enum { MOST_LABELS = 400, MOST_TEXTS = 32, MOST_LONG_TEXTS = 4, LONG_TEXT = 512, MOST_BYTES = 1 << 20, WORDS = 9 };
 
 typedef struct {
     uint8_t bytes[MOST_BYTES];
@@ -25,8 +26,8 @@ typedef struct {
 } slice;
 
 static file rules, classes, vowels, decompositions, labels;
-static slice text[MOST_TEXTS];
-static size_t most_texts = MOST_TEXTS;
+static slice text[MOST_LABELS];
+static size_t most_texts;
 
 static void quit(const char *why) {
     fprintf(stderr, "count: %s\n", why);
@@ -58,7 +59,7 @@ static size_t end_of(size_t at, size_t characters) {
 
 static void lay_out(size_t characters) {
     size_t k, at = 0;
-    if (characters > LONG_TEXT) most_texts = MOST_LONG_TEXTS;
+    most_texts = !characters ? MOST_LABELS : characters > LONG_TEXT ? MOST_LONG_TEXTS : MOST_TEXTS;
     for (k = 0; k < most_texts; k++) {
         size_t end = end_of(at, characters);
         text[k].bytes = labels.bytes + at;

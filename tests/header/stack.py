@@ -1,8 +1,8 @@
 #!/usr/bin/env python3
 """How much stack can a call take? Follows the stack pointer through the library's machine code, whatever the inputs, along each
-chain of calls, and compares the deepest with JETTYFIG_STACK, and that of a text of few characters with JETTYFIG_SHORT_STACK. Fails too where that can't be told: on recursion, on a call through
-a pointer, where the stack pointer is set otherwise than by a constant or two ways meet at different depths, and on a call of
-anything but three functions of the C library.
+chain of calls, and compares the deepest with JETTYFIG_STACK, and that of a text of few characters with JETTYFIG_SHORT_STACK. Fails
+too where that can't be told: on recursion, on a call through a pointer, where the stack pointer is set otherwise than by a constant
+or two ways meet at different depths, and on a call of anything but three functions of the C library.
 
 usage: stack.py LIBRARY"""
 import pathlib
