@@ -20,20 +20,8 @@ use Rattle.definition.specs.Rules.{first_rule}
 use Rattle.definition.specs.Syllables.{vowel_test, syllable_at}
 use Rattle.definition.specs.Vowels.{vowel_row, before_yo, bare}
 use Rattle.definition.specs.Expansion.{Work, work, upper_case, capitalizes, doubled, small_tsu, double, framed, widen, around_by, around, pre_vowel, walk_start, o_ang_side, between, small_ya, small_target, trim_front, trim_back}
-use Rattle.definition.specs.Call.{Inputs, tables_of, tables, refusal}
-use Rattle.definition.specs.Accepted.{accepted_of}
-use Rattle.definition.specs.Risen.{vowels_scripted}
-use Rattle.definition.specs.Blank.{Blank, blank, blank_alpha, blank_mark}
+use Rattle.definition.specs.Blank.{Blank, blank_alpha, blank_mark}
 use Rattle.definition.specs.Outside.{char_at, char_before, read, at_read, prev-read, none-sign, none-lowercase, none-virama, none-pre, none-script-is, none-script_differs, none_space, stands-there}
-
--- What the laws take for granted of the space and of the vowel rows, an accepted call has
-pub accepted_blank : (i : Inputs) → refusal i ≡ none → Blank (class (tables i).classes the_space)
-unfolding tables tables_of
-accepted_blank i e = blank i.classes (accepted_of i e).classes
-
-pub accepted_scripted : (i : Inputs) → refusal i ≡ none → All (λ y. 1 ≤ y.script) (tables i).vowels
-unfolding tables tables_of
-accepted_scripted i e = vowels_scripted i.vowels (accepted_of i e).vowels
 
 -- The vowel step compares a neighbour's script with that of a vowel row, which is at least 1
 pub row_script : (vs : List Vowel) → All (λ y. 1 ≤ y.script) vs → (k : ℕ) (y : Vowel) → vowel_row vs k ≡ some y → 1 ≤ k

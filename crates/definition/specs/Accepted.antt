@@ -1,5 +1,5 @@
 -- What a call has checked when it refuses nothing of 1 to 8, 12 and 13: its tables' rows are right, and its text is short enough.
-use Rattle.std.specs.Prelude.{Bool, true, false, ◌≡◌, refl, List, [], ℕ, ◌≤◌, ◌<◌, length, drop}
+use Rattle.std.specs.Prelude.{Bool, true, false, ◌≡◌, refl, List, ℕ, ◌≤◌, ◌<◌, length, drop}
 use Rattle.std.proofs.Math.Option.{Option, none, some}
 use Rattle.std.proofs.Common.{arith, ltb-false, le-ltb}
 use Rattle.std.proofs.lemmas.Bool.{not-false}
@@ -9,21 +9,17 @@ use Rattle.base.specs.ListLaws.{or_none}
 use Rattle.base.specs.Rows.{Each, each_map}
 use Rattle.base.specs.Alls.{All, rows_all}
 use Rattle.definition.specs.Limits.{most_mode, most_choice, most_characters, most_rows, most_script}
-use Rattle.definition.specs.Texts.{Text}
 use Rattle.definition.specs.Utf8.{bad_sequence}
-use Rattle.definition.specs.Tables.{Rule, Class, Vowel}
+use Rattle.definition.specs.Tables.{Class, Vowel}
 use Rattle.definition.specs.Blocks.{head_bytes, offset_where}
-use Rattle.definition.specs.RuleRows.{rule_size, rule_source, rule_right, rule_of, rules_of}
-use Rattle.definition.specs.RuleFaults.{row_fault, rule_fault}
+use Rattle.definition.specs.RuleFaults.{rule_fault}
 use Rattle.definition.specs.ClassRows.{class_fault, class_size, class_next, class_right, class_of, classes_of}
 use Rattle.definition.specs.VowelRows.{vowel_fault, vowel_size, vowel_next, vowel_right, vowel_of, vowels_of}
 use Rattle.definition.specs.DecompositionRows.{decomposition_fault}
-use Rattle.definition.specs.Refusals.{refuse, refused_length, when, placed}
+use Rattle.definition.specs.Refusals.{when, placed}
 use Rattle.definition.specs.Call.{Inputs, characters, code_right, first_left_out, before_text, text_refusal, refusal}
 use Rattle.definition.specs.BlockTurns.{Chain, offset_tells, fault-none, chain-each, chain_few}
-use Rattle.definition.specs.Checked.{class-checked, vowel-checked}
-use Rattle.definition.specs.Places.{Placed, rule_placed}
-use Rattle.definition.specs.RuleTurns.{rule_moves, row_tells}
+use Rattle.definition.specs.Checked.{vowel-checked}
 
 -- A row has a size
 pub class_moves : (s : List ℕ) → 0 < class_size s
@@ -34,11 +30,6 @@ pub vowel_moves : (s : List ℕ) → 0 < vowel_size s
 unfolding vowel_size
 vowel_moves s = omega arith
 
--- A table without fault: each row right after the one before it
-pub rules-chain : (b : List ℕ) → rule_fault b ≡ none → Chain rule_size rule_source rule_right most_rows [] (drop head_bytes b)
-unfolding rule_fault
-rules-chain b e = fault-none rule_size rule_source rule_right rule_moves row_fault row_tells (refuse refused_length 0) most_rows [] b e
-
 pub classes-chain : (b : List ℕ) → class_fault b ≡ none → Chain class_size class_next class_right most_rows 0 (drop head_bytes b)
 unfolding class_fault
 classes-chain b e = fault-none class_size class_next class_right class_moves (offset_where class_right) (offset_tells class_right) 0 most_rows 0 b e
@@ -47,21 +38,9 @@ pub vowels-chain : (b : List ℕ) → vowel_fault b ≡ none → Chain vowel_siz
 unfolding vowel_fault
 vowels-chain b e = fault-none vowel_size vowel_next vowel_right vowel_moves (offset_where vowel_right) (offset_tells vowel_right) 0 most_script 1 b e
 
--- no more rows than allowed
-pub rules_few : (b : List ℕ) → rule_fault b ≡ none → length (rules_of b) ≤ most_rows
-unfolding rules_of
-rules_few b e = chain_few rule_size rule_source rule_right rule_moves rule_of (rules-chain b e)
-
 pub classes_few : (b : List ℕ) → class_fault b ≡ none → length (classes_of b) ≤ most_rows
 unfolding classes_of
 classes_few b e = chain_few class_size class_next class_right class_moves class_of (classes-chain b e)
-
--- each record has what a right row has
-pub rules-all : (Q : Rule → Type 0) → ((k : Text) (s : List ℕ) → rule_right k s ≡ true → Q (rule_of s))
-    → (b : List ℕ) → rule_fault b ≡ none → All Q (rules_of b)
-unfolding rules_of
-rules-all Q f b e = rows_all rule_of Q rule_moves (λ s q. f q.0 s q.1)
-    (chain-each rule_size rule_source rule_right (rules-chain b e))
 
 pub classes-all : (Q : Class → Type 0) → ((k : ℕ) (s : List ℕ) → class_right k s ≡ true → Q (class_of s))
     → (b : List ℕ) → class_fault b ≡ none → All Q (classes_of b)
@@ -74,16 +53,6 @@ pub vowels-all : (Q : Vowel → Type 0) → ((k : ℕ) (s : List ℕ) → vowel_
 unfolding vowels_of
 vowels-all Q f b e = rows_all vowel_of Q vowel_moves (λ s q. f q.0 s q.1)
     (chain-each vowel_size vowel_next vowel_right (vowels-chain b e))
-
--- and each row lies within its table
-pub rules-placed : (b : List ℕ) → rule_fault b ≡ none → Each Placed rule_size (drop head_bytes b)
-rules-placed b e =
-    each_map (λ s q. rule_placed q.0 s q.1) (chain-each rule_size rule_source rule_right (rules-chain b e))
-
-pub classes-placed : (b : List ℕ) → class_fault b ≡ none → Each (λ s. class_size s ≤ length s) class_size (drop head_bytes b)
-unfolding class_size
-classes-placed b e =
-    each_map (λ s q. (class-checked q.0 s q.1).inside) (chain-each class_size class_next class_right (classes-chain b e))
 
 pub vowels-placed : (b : List ℕ) → vowel_fault b ≡ none → Each (λ s. vowel_size s ≤ length s) vowel_size (drop head_bytes b)
 vowels-placed b e =

@@ -3,18 +3,13 @@
 use Rattle.std.specs.Prelude.{Bool, true, ◌&&◌, ◌≡◌, refl, List, [], ◌∷◌, ◌⊎◌, leb}
 use Rattle.std.proofs.Math.Bool.{false}
 use Rattle.std.proofs.Common.{inl, inr, eqb-true}
-use Rattle.std.proofs.Math.Option.{none}
-use Prim.Native.Nat.{ℕ, ◌+◌}
+use Prim.Native.Nat.{ℕ}
 use Rattle.std.proofs.Math.Dec.{eqb}
 use Rattle.base.specs.Pick.{pick}
-use Rattle.base.specs.Bits.{flagged, unflagged}
 use Rattle.base.specs.Alls.{All}
 use Rattle.definition.specs.Texts.{the_space, latin}
 use Rattle.definition.specs.Tables.{Class, category_other, category_letter, category_Mn, category_mark, category_Zs, script_none}
-use Rattle.definition.specs.ClassRows.{class_flags, class_right, class_by, class_of, class_fault, classes_of}
 use Rattle.definition.specs.Classes.{plain, class, alpha, mark, script}
-use Rattle.definition.specs.Checked.{class-checked}
-use Rattle.definition.specs.Accepted.{classes-all}
 
 pub record Blank (k : Class) : Type 0 where
   pub category : (k.category ≡ category_Zs) ⊎ (k.category ≡ category_other)
@@ -28,25 +23,7 @@ pub record Blank (k : Class) : Type 0 where
   pub pre : k.pre ≡ false
   pub lowercase : k.lowercase ≡ false
 
-blank_row : (low : ℕ) (s : List ℕ) → class_right low s ≡ true → (class_of s).char ≡ the_space → Blank (class_of s)
-unfolding class_of class_by
-blank_row low s e q =
-    let r = (class-checked low s e).space q in
-    let unset : (k : ℕ) → flagged (class_flags s) k ≡ false = λ k. rw r.2 (unflagged k) in
-    record {
-      category = inl r.0;
-      script = r.1;
-      sign = unset 0;
-      medial = unset 1;
-      subjoined = unset 2;
-      virama = unset 3;
-      vocalic = unset 4;
-      tone = unset 5;
-      pre = unset 6;
-      lowercase = unset 7;
-    }
-
-blank_in : (ks : List Class) → All (λ k. k.char ≡ the_space → Blank k) ks → Blank (class ks the_space)
+pub blank_in : (ks : List Class) → All (λ k. k.char ≡ the_space → Blank k) ks → Blank (class ks the_space)
 unfolding class plain latin pick
 blank_in [] h = record {
   category = inr refl;
@@ -66,9 +43,6 @@ blank_in (k ∷ ks) h = go (eqb k.char the_space) refl (blank_in ks h.1)
         → Blank (elim b [ true ↦ k | false ↦ class ks the_space ])
     go true e r = h.0 (eqb-true k.char the_space e)
     go false e r = r
-
-pub blank : (b : List ℕ) → class_fault b ≡ none → Blank (class (classes_of b) the_space)
-blank b e = blank_in (classes_of b) (classes-all (λ k. k.char ≡ the_space → Blank k) blank_row b e)
 
 -- in the words of the questions that are asked
 module _ (ks : List Class) (w : Blank (class ks the_space)) where

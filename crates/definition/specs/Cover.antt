@@ -1,6 +1,6 @@
 -- The path covers the text: its edges abut, from the text's start to its end.
 use Rattle.std.proofs.Math.Bool.{true≢false}
-use Rattle.std.specs.Prelude.{true, false, eqb, ltb, length}
+use Rattle.std.specs.Prelude.{true, eqb, ltb}
 use Rattle.std.proofs.Math.Path.{◌≡◌, refl}
 use Rattle.std.proofs.Common.{sym, subst, eqb-true}
 use mathlib.Core.List.{List, [], ◌∷◌}
@@ -10,23 +10,9 @@ use native.Mathlib.Omega.{arith}
 use Rattle.std.proofs.Math.Decide.{dec_lt}
 use Rattle.base.specs.Lists.{keep, any, best}
 use Rattle.base.specs.Alls.{All, All-put, All-best, Opt}
-use Rattle.definition.specs.Texts.{Text}
-use Rattle.definition.specs.Tables.{Tables}
-use Rattle.definition.specs.Edges.{Edge, State, starting, covered, right_best}
-use Rattle.definition.specs.Building.{fall, lattice_by}
-use Rattle.definition.specs.Paths.{join, next, path_from, path_of}
-use Rattle.definition.specs.Decomposing.{start, lattice, edges, path}
-use Rattle.definition.specs.Call.{Inputs, tables, decompositions, characters, refusal}
-use Rattle.definition.specs.Growth.{fall-grown}
-use Rattle.definition.specs.Covers.{each_covers, fall_covers}
+use Rattle.definition.specs.Edges.{Edge, starting, covered, right_best}
+use Rattle.definition.specs.Paths.{join, next, path_from}
 use Rattle.definition.specs.Bounds.{Formed}
-use Rattle.definition.specs.Promises.{formed_edges}
-
--- Every character is covered, whatever the first pass adds
-pub lattice_covers : (D : Tables) (t : Text) (step : ℕ → State → State) (p : ℕ) → p < length t → covered (lattice_by D t step).0 p ≡ true
-unfolding lattice_by
-lattice_covers D t step p l =
-    each_covers (fall D t) (λ p st. (fall-grown D t p st).added) (λ q. Unit {0}) (λ q st w. fall_covers D t q st) (length t) 0 _ p (omega arith) (omega arith) tt
 
 -- Some edges one after another, from `p` to `q`
 abbrev pub Abut : ℕ → ℕ → List Edge → Type 0
@@ -62,7 +48,7 @@ module _ (n : ℕ) (es : List Edge) (formed : All (Formed n) es) (cover : (p : �
       go none s h = h
       go (some x) s h = let a = s.0.forward in let b = s.0.inside in let c = s.1 in absurd (omega arith)
 
-  path_abuts : (k p : ℕ) → p ≤ n → n ≤ p + k → Abut p n (path_from k p es)
+  pub path_abuts : (k p : ℕ) → p ≤ n → n ≤ p + k → Abut p n (path_from k p es)
   unfolding path_from
   path_abuts zero p l m = omega arith
   path_abuts (suc k) p l m = go (dec_lt p n) (λ q a b. path_abuts k q a b)
@@ -76,12 +62,6 @@ module _ (n : ℕ) (es : List Edge) (formed : All (Formed n) es) (cover : (p : �
       go (yes d) f = step (right_best es p) refl (right-all (Formed n) p es formed) d f
       go (no d) f = subst (Abut p n) (sym (ended (suc k) p (omega arith))) (let e : p ≡ n = omega arith in e)
 
--- The path of an accepted text goes from its start to its end, each edge starting where the one before it ends
-pub path-whole : (i : Inputs) → refusal i ≡ none → Abut 0 (length (characters i)) (path (tables i) (decompositions i) (characters i))
-unfolding path path_of lattice edges
-path-whole i e = path_abuts (length (characters i)) (lattice (tables i) (decompositions i) (characters i)).0 (formed_edges i e)
-    (lattice_covers (tables i) (characters i) (start (tables i) (decompositions i) (characters i))) (length (characters i)) 0 (omega arith) (omega arith)
-
 -- so the widths sum to the text's length
 unfoldable pub widths : List Edge → ℕ
 widths [] = 0
@@ -91,8 +71,3 @@ pub widths_abut : (p q : ℕ) (l : List Edge) → Abut p q l → p + widths l �
 unfolding widths
 widths_abut p q [] e = omega arith
 widths_abut p q (x ∷ l) h = let a = h.0 in let b = h.1 in let r = widths_abut x.to q l h.2 in omega arith
-
-pub widths-whole : (i : Inputs) → refusal i ≡ none → widths (path (tables i) (decompositions i) (characters i)) ≡ length (characters i)
-widths-whole i e =
-    let r = widths_abut 0 (length (characters i)) (path (tables i) (decompositions i) (characters i)) (path-whole i e) in
-    omega arith

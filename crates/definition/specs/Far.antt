@@ -1,5 +1,5 @@
 -- The edge of a span ends where the span ends, or behind it: no step of the expansion moves the end to the left.
-use Rattle.std.specs.Prelude.{Bool, ℕ, ◌+◌, ◌-◌, ◌≤◌}
+use Rattle.std.specs.Prelude.{Bool, ℕ, ◌+◌, ◌≤◌}
 use Rattle.std.proofs.Math.Option.{Option, none, some}
 use native.Mathlib.Omega.{arith}
 use Rattle.base.specs.Pick.{pick_all}

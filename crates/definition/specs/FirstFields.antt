@@ -2,23 +2,19 @@
 -- the place of a fault is faulty.
 use Rattle.std.specs.Prelude.{Bool, not, ◌&&◌, ◌≡◌, leb}
 use Rattle.std.proofs.Math.Bool.{true, false}
-use Rattle.std.proofs.Math.Path.{refl, sym, ap}
-use Rattle.std.proofs.Common.{◌∙◌, leb-true}
+use Rattle.std.proofs.Math.Path.{refl, ap}
+use Rattle.std.proofs.Common.{leb-true}
 use mathlib.Core.List.{List, [], ◌∷◌, ◌++◌}
-use Prim.Native.Nat.{ℕ, zero, suc, ◌+◌, ◌*◌, ◌≤◌, ◌<◌}
+use Prim.Native.Nat.{ℕ, zero, suc, ◌+◌, ◌≤◌, ◌<◌}
 use native.Mathlib.Omega.{arith}
 use Rattle.std.proofs.Math.ListN.{get_or, drop}
-use Rattle.std.proofs.Math.Seq.{drop-drop}
 use Rattle.base.specs.Pick.{pick}
 use Rattle.base.specs.Alls.{All, All-map}
-use Rattle.base.specs.Lists.{holds}
 use Rattle.definition.specs.Limits.{most_source, most_codes, most_alternatives, most_target}
 use Rattle.definition.specs.Refusals.{refused_length, refused_range, refused_letter, refused_byte}
-use Rattle.definition.specs.RuleRows.{rule_size, rule_flag, zero_bit, target_bit, end_target_bit, source_count, codes_at, target_at, end_target_at, others_at, others_end, text_size, texts_size, past_text}
-use Rattle.definition.specs.RuleRows.{codes_count_from, target_from, end_target_from, others_from}
-use Rattle.definition.specs.RuleFields.{Cursor, next, wrong, and_then, field, fields, character_right, code_small, byte_right, read_text, read_texts}
-use Rattle.definition.specs.RuleFields.{read_text_if, read_flags, read_source, read_codes, read_others, read_end, read_tail, read_parts, read_row}
-use Rattle.definition.specs.There.{byte_there}
+use Rattle.definition.specs.RuleRows.{rule_flag, zero_bit, target_bit, end_target_bit, source_count, codes_at, target_at, end_target_at, others_at, others_end, text_size}
+use Rattle.definition.specs.RuleFields.{Cursor, next, wrong, and_then, field, character_right, code_small, byte_right}
+use Rattle.definition.specs.RuleFields.{read_end}
 
 -- A field: its offset in the row, its bytes, the number that refuses it, and whether it is right
 pub record Field : Type 0 where
@@ -85,7 +81,7 @@ unfoldable pub walk_to : Cursor → ℕ → List Field → Cursor
 walk_to c z [] = c
 walk_to c z (f ∷ l) = and_then (field z f.at f.size f.number f.right) (λ o. walk_to c z l)
 
-walk-append : (c : Cursor) (z : ℕ) (a b : List Field) → walk_to c z (a ++ b) ≡ walk_to (walk_to c z b) z a
+pub walk-append : (c : Cursor) (z : ℕ) (a b : List Field) → walk_to c z (a ++ b) ≡ walk_to (walk_to c z b) z a
 unfolding walk_to
 walk-append c z [] b = refl
 walk-append c z (f ∷ a) b =
@@ -96,160 +92,26 @@ unfoldable pub Abut : ℕ → List Field → ℕ → Type 0
 Abut o [] e = o ≡ e
 Abut o (f ∷ l) e = (f.at ≡ o) × (0 < f.size) × Abut (o + f.size) l e
 
-abut_append : (a b : List Field) (o m e : ℕ) → Abut o a m → Abut m b e → Abut o (a ++ b) e
+pub abut_append : (a b : List Field) (o m e : ℕ) → Abut o a m → Abut m b e → Abut o (a ++ b) e
 unfolding Abut
 abut_append [] b o m e h k = rw h k
 abut_append (f ∷ a) b o m e h k = (h.0, h.1, abut_append a b (o + f.size) m e h.2 k)
 
 -- A cursor that reads the fields of a list from `o` to `e`, whatever follows
-record Part (z : ℕ) (c : Cursor) (l : List Field) (o e : ℕ) : Type 0 where
-  reads : (h : ℕ → Cursor) → and_then c h ≡ walk_to (h e) z l
-  abut : Abut o l e
+pub record Part (z : ℕ) (c : Cursor) (l : List Field) (o e : ℕ) : Type 0 where
+  pub reads : (h : ℕ → Cursor) → and_then c h ≡ walk_to (h e) z l
+  pub abut : Abut o l e
 
-then-then : (c : Cursor) (f g : ℕ → Cursor) → and_then (and_then c f) g ≡ and_then c (λ o. and_then (f o) g)
+pub then-then : (c : Cursor) (f g : ℕ → Cursor) → and_then (and_then c f) g ≡ and_then c (λ o. and_then (f o) g)
 unfolding and_then
 then-then (next o) f g = refl
 then-then (wrong k o) f g = refl
 
 module _ (z : ℕ) where
-  none-part : (o e : ℕ) → o ≡ e → Part z (next o) [] o e
-  none-part o e i = record {
-    reads = λ h. unfold and_then walk_to in ap h i;
-    abut = unfold Abut in i;
-  }
-
-  field-part : (o n k : ℕ) (right : Bool) → 0 < n
-      → Part z (field z o n k right) (record { at = o; size = n; number = k; right = right } ∷ []) o (o + n)
-  unfolding walk_to field and_then pick
-  field-part o n k right p = record {
-    reads = λ h. go (leb (o + n) z) right h;
-    abut = unfold Abut in (refl, p, refl);
-  }
-    where
-      go : (a b : Bool) (h : ℕ → Cursor)
-          → and_then (pick a (pick b (next (o + n)) (wrong k o)) (wrong refused_length o)) h
-          ≡ and_then (pick a (pick b (next (o + n)) (wrong k o)) (wrong refused_length o)) (λ p. h (o + n))
-      go true true h = refl
-      go true false h = refl
-      go false b h = refl
-
-  then-part : (c : Cursor) (g : ℕ → Cursor) (a b : List Field) (o m e : ℕ) → Part z c a o m → Part z (g m) b m e
-      → Part z (and_then c g) (a ++ b) o e
-  then-part c g a b o m e p q = record {
-    reads = λ h.
-        then-then c g h ∙ p.reads (λ j. and_then (g j) h)
-        ∙ ap (λ d. walk_to d z a) (q.reads h) ∙ sym (walk-append (h e) z a b);
-    abut = abut_append a b o m e p.abut q.abut;
-  }
-
-  -- where a part ends, said otherwise
-  ends_at : (c : Cursor) (l : List Field) (o e d : ℕ) → Part z c l o e → e ≡ d → Part z c l o d
-  ends_at c l o e d p i = rw i at p
-
   module _ (s : List ℕ) where
-    fields-part : (right : List ℕ → Bool) (size k : ℕ) → 0 < size → (n o : ℕ)
-        → Part z (fields right size k z s n o) (run right size k s n o) o (o + size * n)
-    unfolding fields run
-    fields-part right size k p zero o = none-part o (o + size * 0) (omega arith)
-    fields-part right size k p (suc n) o =
-        let m : size * suc n ≡ size + size * n = omega arith in
-        ends_at _ _ o (o + size + size * n) (o + size * suc n)
-        (then-part _ _ _ _ o (o + size) (o + size + size * n) (field-part o size k (right (drop o s)) p)
-        (fields-part right size k p n (o + size)))
-        (omega arith)
-
-    text-part : (o : ℕ) → Part z (read_text z s o) (text_fields s o) o (o + text_size (drop o s))
-    unfolding read_text text_fields text_size
-    text-part o =
-        let b = byte_there s o in
-        ends_at _ _ o (o + 1 + 1 * get_or s o 0) (o + (1 + get_or (drop o s) 0 0))
-        (then-part _ _ _ _ o (o + 1) (o + 1 + 1 * get_or s o 0) (field-part o 1 _ _ (omega arith))
-        (fields-part byte_right 1 refused_byte (omega arith) (get_or s o 0) (o + 1)))
-        (omega arith)
-
-    texts-part : (n o : ℕ) → Part z (read_texts z s n o) (texts_fields s n o) o (o + texts_size n (drop o s))
-    unfolding read_texts texts_fields texts_size
-    texts-part zero o = none-part o (o + 0) (omega arith)
-    texts-part (suc n) o =
-        let t = text_size (drop o s) in
-        let d : drop t (drop o s) ≡ drop (o + t) s = drop-drop t o s in
-        ends_at _ _ o (o + t + texts_size n (drop (o + t) s)) (o + (t + texts_size n (drop t (drop o s))))
-        (then-part _ _ _ _ o (o + t) (o + t + texts_size n (drop (o + t) s)) (text-part o) (texts-part n (o + t)))
-        (rw d (omega arith))
-
-    text_if_part : (b : Bool) (o : ℕ) → Part z (read_text_if b z s o) (text_fields_if b s o) o (past_text b o s)
-    unfolding read_text_if text_fields_if past_text pick
-    text_if_part true o = text-part o
-    text_if_part false o = none-part o o refl
-
-    -- the parts of a row
-    flags_part : Part z (read_flags z s) (flag_fields s) 2 5
-    unfolding read_flags flag_fields
-    flags_part =
-        then-part _ _ _ _ 2 3 5 (field-part 2 1 _ _ (omega arith)) (field-part 3 2 _ _ (omega arith))
-
-    source-part : Part z (read_source z s 5) (source_fields s) 5 (codes_at s)
-    unfolding read_source source_fields source_count codes_at
-    source-part =
-        then-part _ _ _ _ 5 6 (6 + 3 * get_or s 5 0) (field-part 5 1 _ _ (omega arith))
-        (fields-part character_right 3 refused_letter (omega arith) (get_or s 5 0) 6)
-
-    codes-part : Part z (read_codes z s (codes_at s)) (codes_fields s (codes_at s)) (codes_at s) (target_at s)
-    unfolding read_codes codes_fields target_from codes_count_from
-    codes-part =
-        let o = codes_at s in
-        then-part _ _ _ _ o (o + 1) (o + 1 + 3 * get_or s o 0) (field-part o 1 _ _ (omega arith))
-        (fields-part code_small 3 refused_letter (omega arith) (get_or s o 0) (o + 1))
-
-    others-part : (o : ℕ) → Part z (read_others z s o) (others_fields s o) o (others_end o s)
-    unfolding read_others others_fields others_end
-    others-part o =
-        then-part _ _ _ _ o (o + 1) (o + 1 + texts_size (get_or s o 0) (drop (o + 1) s)) (field-part o 1 _ _ (omega arith))
-        (texts-part (get_or s o 0) (o + 1))
-
-    target-part : Part z (read_text_if (rule_flag s target_bit) z s (target_at s))
-        (text_fields_if (rule_flag s target_bit) s (target_at s)) (target_at s) (end_target_at s)
-    unfolding end_target_from
-    target-part = text_if_part (rule_flag s target_bit) (target_at s)
-
-    end_target-part : Part z (read_text_if (rule_flag s end_target_bit) z s (end_target_at s))
-        (text_fields_if (rule_flag s end_target_bit) s (end_target_at s)) (end_target_at s) (others_at s)
-    unfolding others_from
-    end_target-part = text_if_part (rule_flag s end_target_bit) (end_target_at s)
-
     -- The walk over a row is the walk over its fields, and then over what is left
-    abbrev rest : Cursor
+    abbrev pub rest : Cursor
     rest = read_end z (others_end (others_at s) s)
-
-    tail_walk : read_tail z s (target_at s) ≡ walk_to rest z (tail_fields s)
-    unfolding read_tail tail_fields
-    tail_walk =
-        let a = text_fields_if (rule_flag s target_bit) s (target_at s) in
-        let b = text_fields_if (rule_flag s end_target_bit) s (end_target_at s) in
-        let c = others_fields s (others_at s) in
-        target-part.reads _
-        ∙ ap (λ d. walk_to d z a) (end_target-part.reads _ ∙ ap (λ d. walk_to d z b) ((others-part (others_at s)).reads (read_end z))
-        ∙ sym (walk-append rest z b c))
-        ∙ sym (walk-append rest z a (b ++ c))
-
-    pub parts-walk : read_parts z s ≡ walk_to rest z (row_fields s)
-    unfolding read_parts row_fields
-    parts-walk =
-        let a = flag_fields s in
-        let b = source_fields s in
-        let c = codes_fields s (codes_at s) in
-        let t = tail_fields s in
-        flags_part.reads _
-        ∙ ap (λ d. walk_to d z a) (source-part.reads _ ∙ ap (λ d. walk_to d z b) (codes-part.reads (read_tail z s) ∙ ap (λ d. walk_to d z c) tail_walk
-        ∙ sym (walk-append rest z c t)) ∙ sym (walk-append rest z b (c ++ t)))
-        ∙ sym (walk-append rest z a (b ++ (c ++ t)))
-
-    pub fields_abut : Abut 2 (row_fields s) (others_end (others_at s) s)
-    unfolding row_fields tail_fields
-    fields_abut =
-        abut_append _ _ 2 5 _ flags_part.abut (abut_append _ _ 5 (codes_at s) _ source-part.abut
-        (abut_append _ _ (codes_at s) (target_at s) _ codes-part.abut (abut_append _ _ (target_at s) (end_target_at s) _ target-part.abut
-        (abut_append _ _ (end_target_at s) (others_at s) _ end_target-part.abut (others-part (others_at s)).abut))))
 
 -- Fields that begin at `o` or behind it
 not_before : (l : List Field) (o e : ℕ) → Abut o l e → All (λ f. o ≤ f.at) l
@@ -261,10 +123,10 @@ not_before (f ∷ l) o e h =
 
 -- No field before the place of a fault is faulty
 module _ (z : ℕ) (c : Cursor) (k p : ℕ) where
-  Before : Field → Type 0
+  unfoldable pub Before : Field → Type 0
   Before f = f.at < p → Sound z f
 
-  first_faulty : (l : List Field) (o e : ℕ) → Abut o l e → walk_to c z l ≡ wrong k p → All Before l
+  pub first_faulty : (l : List Field) (o e : ℕ) → Abut o l e → walk_to c z l ≡ wrong k p → All Before l
   unfolding Abut walk_to field and_then pick Before
   first_faulty [] o e h w = tt
   first_faulty (f ∷ l) o e h w = go (leb (f.at + f.size) z) f.right refl refl w (first_faulty l (o + f.size) e h.2)
@@ -281,12 +143,3 @@ module _ (z : ℕ) (c : Cursor) (k p : ℕ) where
       go true true r q w ih = (λ j. record { inside = leb-true (f.at + f.size) z r; good = q }, ih w)
       go true false r q w ih = later (let i : f.at ≡ p = cc in i)
       go false b r q w ih = later (let i : f.at ≡ p = cc in i)
-
--- Within a row that lies in the table no field before the place of its fault is faulty
-pub earliest : (s : List ℕ) (k p : ℕ) → holds (rule_size s) s ≡ true → read_row s ≡ wrong k p
-    → All (λ f. f.at < p → Sound (rule_size s) f) (row_fields s)
-unfolding read_row pick Before
-earliest s k p h e =
-    let z = rule_size s in
-    first_faulty z (rest z s) k p (row_fields s) 2 (others_end (others_at s) s) (fields_abut z s)
-    (sym (parts-walk z s) ∙ (rw h at e))

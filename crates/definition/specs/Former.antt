@@ -2,23 +2,18 @@
 -- table has (`rules_of`) no limit tells, so these are the same.
 use Rattle.std.specs.Prelude.{Bool, true, false, not, ◌&&◌, ◌||◌, ◌≡◌, List, [], ◌∷◌, leb, get_or, drop}
 use Rattle.std.proofs.Math.Path.{refl}
-use Rattle.std.proofs.Common.{sym, ap, ◌∙◌, arith}
-use Rattle.std.proofs.Math.Option.{none}
+use Rattle.std.proofs.Common.{ap, arith}
 use Prim.Native.Nat.{ℕ, zero, suc, ◌+◌, ◌≤◌}
 use borrow.Author.Tests.{leb-true, le-leb}
 use Rattle.base.specs.Bools.{and_left, and_right}
 use Rattle.base.specs.Lists.{all}
 use Rattle.base.specs.Alls.{conj-all}
 use Rattle.definition.specs.Limits.{most_rows, most_alternatives, most_target}
-use Rattle.definition.specs.Refusals.{refuse, refused_length}
 use Rattle.definition.specs.Texts.{Text}
 use Rattle.definition.specs.Blocks.{head_bytes, version_1, headed}
 use Rattle.definition.specs.RuleRows.{printable, text_size, text_of, text_right, texts_right, rule_flag, target_bit, end_target_bit, target_at, end_target_at, others_at}
 use Rattle.definition.specs.RuleRows.{rule_fits, source_right, codes_right, target_right_from, end_target_right_from, others_right, rule_right, rule_size, rule_source}
-use Rattle.definition.specs.RuleFaults.{row_fault, rule_fault}
-use Rattle.definition.specs.BlockTurns.{Chain, ended, linked, fault_sound, fault-headed}
-use Rattle.definition.specs.RuleTurns.{rule_moves, row_tells}
-use Rattle.definition.specs.Accepted.{rules-chain}
+use Rattle.definition.specs.BlockTurns.{Chain, ended, linked}
 
 -- Bytes of a target text, at most, before document 02's tenth request
 abbrev pub former_target : ℕ
@@ -50,7 +45,7 @@ unfolding texts_within texts_right text_within text_right
 texts_now zero s = refl
 texts_now (suc n) s = ap (λ (b : Bool). (leb (get_or s 0 0) most_target && all printable (text_of s)) && b) (texts_now n (drop (text_size s) s))
 
-row_now : (old : Text) (s : List ℕ) → rule_within most_target old s ≡ rule_right old s
+pub row_now : (old : Text) (s : List ℕ) → rule_within most_target old s ≡ rule_right old s
 unfolding rule_within rule_right text_within text_right target_right_from end_target_right_from others_right
 row_now old s = rw (texts_now (get_or s (others_at s) 0) (drop (others_at s + 1) s))
 
@@ -89,27 +84,7 @@ module _ (m n : ℕ) (l : m ≤ n) where
       (texts_wider (get_or s (others_at s) 0) (drop (others_at s + 1) s) (and_right (leb (get_or s (others_at s) 0) most_alternatives) _ others))
 
 -- rows of one kind are rows of another that asks no more
-chain_wider : (P Q : Text → List ℕ → Bool) → ((k : Text) (s : List ℕ) → P k s ≡ true → Q k s ≡ true)
+pub chain_wider : (P Q : Text → List ℕ → Bool) → ((k : Text) (s : List ℕ) → P k s ≡ true → Q k s ≡ true)
     → {n : ℕ} {k : Text} {s : List ℕ} → Chain rule_size rule_source P n k s → Chain rule_size rule_source Q n k s
 chain_wider P Q f (ended e) = ended e
 chain_wider P Q f (linked {n} {k} {s} p c) = linked (f k s p) (chain_wider P Q f c)
-
--- Accepted with the limit that there is now is accepted
-pub within_now : (b : List ℕ) → Accepted_within most_target b → rule_fault b ≡ none
-unfolding rule_fault
-within_now b a = fault_sound rule_size rule_source rule_right rule_moves row_fault row_tells (refuse refused_length 0) most_rows [] b a.header
-    (chain_wider (rule_within most_target) rule_right (λ k s p. sym (row_now k s) ∙ p) a.rows)
-
-pub now_within : (b : List ℕ) → rule_fault b ≡ none → Accepted_within most_target b
-unfolding rule_fault
-now_within b e = record {
-  header = fault-headed rule_size rule_source rule_right rule_moves row_fault row_tells (refuse refused_length 0) most_rows [] b e;
-  rows = chain_wider rule_right (rule_within most_target) (λ k s p. row_now k s ∙ p) (rules-chain b e);
-}
-
--- and what the former limit accepts is accepted
-pub old_tables : (b : List ℕ) → Accepted_within former_target b → rule_fault b ≡ none
-old_tables b a = within_now b (record {
-  header = a.header;
-  rows = chain_wider (rule_within former_target) (rule_within most_target) (row_wider former_target most_target (omega arith)) a.rows;
-})

@@ -1,39 +1,27 @@
 -- What a row's characters give inside a text is what they give as a text of their own: the call of them alone, in mode 0 and with
 -- no language code, under the same tables and choices.
-use Rattle.std.specs.Prelude.{true, ◌≡◌, eqb, take, replicate}
+use Rattle.std.specs.Prelude.{true, ◌≡◌, eqb, take}
 use Rattle.std.proofs.Math.Bool.{false}
-use Rattle.std.proofs.Common.{true≢false, sym, ◌∙◌, le-ltb}
-use Rattle.std.proofs.Math.Path.{refl, ap, subst}
+use Rattle.std.proofs.Common.{true≢false, ◌∙◌}
+use Rattle.std.proofs.Math.Path.{refl}
 use mathlib.Core.List.{List, [], ◌∷◌}
 use Rattle.std.proofs.Math.Option.{Option, none, some}
-use Prim.Native.Nat.{ℕ, zero, suc, ◌-◌, ◌/◌, ◌≤◌, ◌<◌}
+use Prim.Native.Nat.{ℕ, zero, suc, ◌≤◌, ◌<◌}
 use native.Mathlib.Omega.{arith}
 use Rattle.std.proofs.Math.ListN.{length}
-use Rattle.std.proofs.Math.Seq.{take-append_seam}
 use Rattle.base.specs.Pick.{pick}
-use Rattle.base.specs.Lists.{keep, any, has, maybe, same}
-use Rattle.base.specs.Alls.{All, All-at, All-map, Opt}
-use Rattle.definition.specs.Limits.{most_into, slot_bytes}
-use Rattle.definition.specs.Refusals.{Refusal}
-use Rattle.definition.specs.Texts.{Text, at, the_space, left_out}
+use Rattle.base.specs.Lists.{has, maybe}
+use Rattle.base.specs.Alls.{All}
+use Rattle.definition.specs.Limits.{most_into}
+use Rattle.definition.specs.Texts.{Text, left_out}
 use Rattle.definition.specs.Utf8.{scalar, encoded}
 use Rattle.definition.specs.Tables.{Decomposition, Tables, tag_other}
-use Rattle.definition.specs.Edges.{Edge, starting, covered}
-use Rattle.definition.specs.Building.{each, build, fall, lattice_by, rule_lattice}
+use Rattle.definition.specs.Edges.{Edge}
 use Rattle.definition.specs.DecompositionRows.{has_row}
-use Rattle.definition.specs.Decomposing.{row_of, stands_for, uncoded, inner_lattice, inner_string}
-use Rattle.definition.specs.Listing.{shown}
+use Rattle.definition.specs.Decomposing.{row_of, stands_for, inner_lattice, inner_string}
 use Rattle.definition.specs.Capacity.{misfit}
-use Rattle.definition.specs.Call.{Inputs, Called, tables_of, tables, decompositions, characters, code_right, refusal, refused, uncounted, written, within_room, unless_refused, called}
-use Rattle.definition.specs.Accepted.{Accepted, accepted_of, refusal_of}
-use Rattle.definition.specs.DecompositionLaws.{row_has, decompositions-all}
-use Rattle.definition.specs.Growth.{fall-grown}
-use Rattle.definition.specs.Covers.{fall_covers, each_covers}
-use Rattle.definition.specs.Bounds.{Bounded}
-use Rattle.definition.specs.Promises.{tables-bounded}
-use Rattle.definition.specs.Roundtrip.{decoded-encoded, encoded-right}
-use Rattle.definition.specs.Parts.{all-kept}
-use Rattle.definition.specs.FormsOff.{stands-all, by_rules_alone, accepted_off}
+use Rattle.definition.specs.Call.{Inputs, Called, tables, decompositions, refusal}
+use Rattle.definition.specs.DecompositionLaws.{row_has}
 
 -- The call of some characters alone, with its own slots, room and output
 unfoldable pub alone : Inputs → Text → ℕ → ℕ → ℕ → Inputs
@@ -68,17 +56,6 @@ pub record Final (ds : List Decomposition) (w : Text) : Type 0 where
   pub kept : All (λ c. left_out c ≡ false) w
   pub rowless : All (λ c. has_row ds c ≡ false) w
 
--- every row's characters are so, whatever its tag
-pub rows_final : (i : Inputs) → refusal i ≡ none → All (λ d. Final (decompositions i) d.into) (decompositions i)
-unfolding decompositions
-rows_final i e = All-map (λ d q. record { least = q.least; most = q.most; scalars = q.scalars; kept = q.kept; rowless = q.final })
-    (decompositions i) (decompositions-all i.decompositions (accepted_of i e).decompositions)
-
-pub stands_final : (i : Inputs) → refusal i ≡ none → (c : ℕ) (w : Text) → stands_for (decompositions i) c ≡ some w → Final (decompositions i) w
-stands_final i e c w q =
-    let ds = decompositions i in
-    subst (Opt (Final ds)) q (stands-all (Final ds) ds c (rows_final i e))
-
 -- A call that is done, and whose output is the string of some characters inside a text
 pub record ReadAlone (D : Tables) (w : Text) (r : Called) : Type 0 where
   pub number : r.number ≡ 0
@@ -88,109 +65,14 @@ pub record ReadAlone (D : Tables) (w : Text) (r : Called) : Type 0 where
   pub shows : take r.length r.output ≡ encoded (inner_string D w)
 
 module _ (i : Inputs) (ok : refusal i ≡ none) (w : Text) (f : Final (decompositions i) w) (slots room out : ℕ) where
-  abbrev own : Inputs
+  abbrev pub own : Inputs
   own = alone i w slots room out
 
-  abbrev D : Tables
+  abbrev pub D : Tables
   D = tables i
 
-  own-tables : tables own ≡ uncoded D
-  unfolding tables tables_of alone
-  own-tables = refl
-
-  own-characters : characters own ≡ w
-  unfolding characters alone
-  own-characters = decoded-encoded w f.scalars
-
-  own-accepted : refusal own ≡ none
-  own-accepted = refusal_of own (parts (accepted_of i ok))
-    where
-      parts : Accepted i → Accepted own
-      parts a = unfold alone in record {
-        mode = omega arith;
-        capitals = a.capitals;
-        o_ang = a.o_ang;
-        readings = a.readings;
-        rules = a.rules;
-        classes = a.classes;
-        vowels = a.vowels;
-        decompositions = a.decompositions;
-        code = unfold code_right same in refl;
-        text = encoded-right w f.scalars;
-        size = rw own-characters (let z = f.most in omega arith);
-        kept = rw own-characters (all-kept 0 w f.kept);
-      }
-
-  own-bounded : Bounded (uncoded D)
-  unfolding tables tables_of
-  own-bounded = let a = accepted_of i ok in
-      tables-bounded i.choices i.rules i.classes i.vowels [] a.rules a.classes a.vowels
-
-  -- Alone they are asked for the same edges, and answer with the same string
-  pub alone-called : called own ≡ within_room own (uncoded D) w (inner_lattice D w) (misfit (slots / slot_bytes) room (inner_lattice D w).0)
-  unfolding called unless_refused inner_lattice by_rules_alone alone decompositions
-  alone-called = rw (own-accepted, own-tables, own-characters)
-      (accepted_off own (uncoded D) w own-bounded (λ p l. rowless_stands (decompositions i) (at w p) (own_rowless p l)))
-    where
-      own_rowless : (p : ℕ) → p < length w → has_row (decompositions i) (at w p) ≡ false
-      own_rowless p l = unfold at in All-at (λ c. has_row (decompositions i) c ≡ false) w p the_space f.rowless l
-
-  -- where slots, room and output are enough, the call is done
-  pub alone-read : misfit (slots / slot_bytes) room (inner_lattice D w).0 ≡ none → length (encoded (inner_string D w)) ≤ out
-      → ReadAlone D w (called own)
-  unfolding inner_string
-  alone-read h l = subst (ReadAlone D w) (sym (alone-called ∙ ap (within_room own (uncoded D) w (inner_lattice D w)) h)) done
-    where
-      string : List ℕ
-      string = encoded (inner_string D w)
-
-      done : ReadAlone D w (within_room own (uncoded D) w (inner_lattice D w) none)
-      done = unfold within_room uncounted written shown alone pick in (rw (le-ltb out (length string) l) (record {
-        number = refl;
-        place = refl;
-        written = refl;
-        count = refl;
-        shows = take-append_seam string (replicate (out - length string) 0);
-      }))
-
-  -- and where they are not, it is refused as the character is that stands for them, but for the place
-  pub alone-refused : (x : Refusal) → misfit (slots / slot_bytes) room (inner_lattice D w).0 ≡ some x → called own ≡ refused own x
-  unfolding within_room
-  alone-refused x h = alone-called ∙ ap (within_room own (uncoded D) w (inner_lattice D w)) h
-
--- So it is with every character that stands for others in an accepted call
-pub stands_read : (i : Inputs) → refusal i ≡ none → (c : ℕ) (w : Text) → stands_for (decompositions i) c ≡ some w → (slots room out : ℕ)
-    → misfit (slots / slot_bytes) room (inner_lattice (tables i) w).0 ≡ none → length (encoded (inner_string (tables i) w)) ≤ out
-    → ReadAlone (tables i) w (called (alone i w slots room out))
-stands_read i ok c w q slots room out h l = alone-read i ok w (stands_final i ok c w q) slots room out h l
-
--- and with every row, whatever its tag
-pub rows-read : (i : Inputs) → refusal i ≡ none → (slots room out : ℕ)
-    → All (λ d. misfit (slots / slot_bytes) room (inner_lattice (tables i) d.into).0 ≡ none → length (encoded (inner_string (tables i) d.into)) ≤ out
-    → ReadAlone (tables i) d.into (called (alone i d.into slots room out))) (decompositions i)
-rows-read i ok slots room out =
-    All-map (λ d q h l. alone-read i ok d.into q slots room out h l) (decompositions i) (rows_final i ok)
-
--- Some edge they have, so where theirs find slots there is one: the edge of the character that stands for them is never refused one
-lattice_some : (D : Tables) (t : Text) → 0 < length t → 0 < length (rule_lattice D t).0
-unfolding rule_lattice lattice_by
-lattice_some D t l = go (rule_lattice D t).0
-    (each_covers (fall D t) (λ p st. (fall-grown D t p st).added) (λ p. Unit {0}) (λ p st u. fall_covers D t p st) (length t) 0
-    (each (build D t) (length t) 0 ([], replicate (length t) 0)) 0 (omega arith) (omega arith) tt)
-  where
-    go : (es : List Edge) → covered es 0 ≡ true → 0 < length es
-    go [] e = unfold covered starting keep any in absurd (true≢false (sym e))
-    go (x ∷ es) e = omega arith
-
-slot_left : (k r : ℕ) (es : List Edge) → 0 < length es → misfit k r es ≡ none → 0 < k
+pub slot_left : (k r : ℕ) (es : List Edge) → 0 < length es → misfit k r es ≡ none → 0 < k
 unfolding misfit
 slot_left k r [] l e = absurd (omega arith)
 slot_left zero r (x ∷ es) l e = absurd (let w : ◌≡◌ {A = ℕ} 0 1 = cc in omega arith)
 slot_left (suc k) r (x ∷ es) l e = omega arith
-
-pub stands-slot : (i : Inputs) → refusal i ≡ none → (c : ℕ) (w : Text) → stands_for (decompositions i) c ≡ some w → (k r : ℕ)
-    → misfit k r (inner_lattice (tables i) w).0 ≡ none → 0 < k
-unfolding inner_lattice
-stands-slot i ok c w q k r e =
-    let f = (stands_final i ok c w q).least in
-    slot_left k r (rule_lattice (uncoded (tables i)) w).0 (lattice_some (uncoded (tables i)) w (omega arith)) e

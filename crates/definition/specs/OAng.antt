@@ -64,15 +64,6 @@ module _ (t : Text) where
       go (yes e) f = ap (stretch_start t) e
       go (no e) f = by (eqb (at t p) the_space) l (omega arith) (f (omega arith))
 
--- So it is with the walk
-pub walk_same : (c : Choices) (t : Text) (q p : ℕ) → q ≤ p → walk_start c t p ≤ q → walk_start c t q ≡ walk_start c t p
-unfolding walk_start pick
-walk_same c t q p h l = go (eqb c.o_ang 1) l
-  where
-    go : (b : Bool) → pick b (stretch_start t p) 0 ≤ q → pick b (stretch_start t q) 0 ≡ pick b (stretch_start t p) 0
-    go true m = start-same t q p h m
-    go false m = refl
-
 -- by the choice
 pub walk-stretch : (c : Choices) (t : Text) (p : ℕ) → c.o_ang ≡ 1 → stretch_start t p ≡ walk_start c t p
 unfolding walk_start pick

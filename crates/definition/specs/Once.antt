@@ -1,24 +1,17 @@
 -- In mode 2 no two listed edges share span and text, whatever is chosen: an alternative is added only where none of its span has
 -- its text, and of the path each edge starts behind the one before.
-use Rattle.std.specs.Prelude.{Bool, true, ◌&&◌, ◌||◌, ◌≡◌, eqb, length}
+use Rattle.std.specs.Prelude.{Bool, true, ◌&&◌, ◌||◌, ◌≡◌, eqb}
 use Rattle.std.proofs.Math.Bool.{false, true≢false}
-use Rattle.std.proofs.Common.{sym, ap, ◌∙◌, subst, arith, eq-eqb}
+use Rattle.std.proofs.Common.{sym, ap, ◌∙◌, arith, eq-eqb}
 use mathlib.Core.List.{List, [], ◌∷◌, ◌++◌}
-use Rattle.std.proofs.Math.Option.{none}
 use Rattle.base.specs.Pick.{pick_ind}
 use Rattle.base.specs.Bools.{or_right}
 use Rattle.base.specs.Lists.{put, keep, any, same}
 use Rattle.base.specs.ListLaws.{same_refl}
 use Rattle.base.specs.Alls.{All, All-map, All-append, Ordered}
-use Rattle.definition.specs.Texts.{Text}
-use Rattle.definition.specs.Tables.{Lexicon, lexicon}
-use Rattle.definition.specs.Edges.{Edge, View, Mem, starting, new_in, view, ret, ◌>>=◌}
-use Rattle.definition.specs.Rules.{valids}
-use Rattle.definition.specs.Paths.{reads, path_from, akin, by_rules, by_edges, path_of, with_alternatives_of}
-use Rattle.definition.specs.Decomposing.{lattice, edges, with_alternatives}
-use Rattle.definition.specs.Call.{Inputs, tables, decompositions, characters, refusal}
-use Rattle.definition.specs.Promises.{formed_edges}
-use Rattle.definition.specs.Offers.{all_in, rules_in, all_offers, Before, path-rises}
+use Rattle.definition.specs.Edges.{Edge, starting, new_in}
+use Rattle.definition.specs.Paths.{akin}
+use Rattle.definition.specs.Offers.{all_in, Before}
 
 -- Two edges have one span and one text, or not
 abbrev pub Shares : Edge → Edge → Type 0
@@ -60,31 +53,12 @@ unfolding new_in
 once-new seen c o = pick_ind (Ordered Apart) _ seen (seen ++ c ∷ []) (λ e. o) (λ e. ordered_more seen c o (none-akin c seen e))
 
 -- What the rules of an edge add, and of each edge in turn
-once-all : (cs seen : List Edge) → Ordered Apart seen → Ordered Apart (all_in seen cs)
+pub once-all : (cs seen : List Edge) → Ordered Apart seen → Ordered Apart (all_in seen cs)
 unfolding all_in
 once-all [] seen o = o
 once-all (c ∷ cs) seen o = once-all cs (new_in akin seen c) (once-new seen c o)
 
-module _ (b : Bool) (L : Lexicon) (t : Text) (v : View) where
-  once-edges : (xs seen : List Edge) → Ordered Apart seen → (m : Mem) → Ordered Apart (by_edges b L t v xs seen m).0
-  unfolding by_edges ret ◌>>=◌
-  once-edges [] seen o m = o
-  once-edges (x ∷ xs) seen o m =
-      let rs = valids L t v x.from x.to m in
-      once-edges xs (by_rules b x rs.0 seen)
-      (subst (Ordered Apart) (sym (rules_in b x rs.0 seen)) (once-all (all_offers b x rs.0) seen o)) rs.1
-
 -- Edges that start one behind the other
-rises_apart : (l : List Edge) → Ordered Before l → Ordered Apart l
+pub rises_apart : (l : List Edge) → Ordered Before l → Ordered Apart l
 rises_apart [] o = tt
 rises_apart (x ∷ l) o = (All-map (λ y h s. let z = s.0 in omega arith) l o.0, rises_apart l o.1)
-
-pub listed-once : (i : Inputs) → refusal i ≡ none → Ordered Apart (with_alternatives (tables i) (decompositions i) (characters i))
-unfolding with_alternatives with_alternatives_of path_of edges
-listed-once i e =
-    let D = tables i in
-    let t = characters i in
-    let st = lattice D (decompositions i) t in
-    let xs = path_from (length t) 0 st.0 in
-    once-edges (reads D.choices) (lexicon D) t (view D.classes st.0) xs xs
-    (rises_apart xs (path-rises (length t) st.0 (formed_edges i e) (length t) 0)) st.1

@@ -1,15 +1,13 @@
 -- A part of an accepted text is an accepted text, with the same tables and code.
-use Rattle.std.specs.Prelude.{Bool, true, false, ◌&&◌, ◌≡◌, refl, List, [], ◌∷◌, ◌++◌, ℕ, zero, suc, ◌+◌, ◌-◌, leb, length, get_or, drop}
-use Rattle.std.proofs.Common.{ap, subst, arith, length-append, lt-ltb, ltb-true}
+use Rattle.std.specs.Prelude.{Bool, true, false, ◌&&◌, ◌≡◌, refl, List, [], ◌∷◌, ℕ, zero, suc, ◌+◌, leb, length, get_or, drop}
+use Rattle.std.proofs.Common.{arith, lt-ltb, ltb-true}
 use Rattle.std.proofs.Math.Option.{none, some}
 use Rattle.base.specs.Pick.{pick, pick_ind}
 use Rattle.base.specs.Bools.{and_right}
-use Rattle.base.specs.Alls.{All, All-left, All-right}
+use Rattle.base.specs.Alls.{All}
 use Rattle.definition.specs.Texts.{Text, left_out}
 use Rattle.definition.specs.Utf8.{Read, char, bad, checked, sequence, read, scalar, decode_by, decoded, encoded}
 use Rattle.definition.specs.Call.{Inputs, tables, decompositions, characters, first_left_out, refusal}
-use Rattle.definition.specs.Accepted.{Accepted, accepted_of, refusal_of}
-use Rattle.definition.specs.Roundtrip.{decoded-encoded, encoded-right}
 
 -- What is read is a scalar value
 abbrev Valid : Read → Type 0
@@ -46,7 +44,7 @@ unfolding characters decoded
 scalars i = decode_valid (length i.text) i.text
 
 -- No character that is left out
-kept-all : (p : ℕ) (t : Text) → first_left_out p t ≡ none → All (λ c. left_out c ≡ false) t
+pub kept-all : (p : ℕ) (t : Text) → first_left_out p t ≡ none → All (λ c. left_out c ≡ false) t
 unfolding first_left_out pick
 kept-all p [] e = tt
 kept-all p (c ∷ t) e = go (left_out c) refl e (kept-all (p + 1) t)
@@ -81,34 +79,3 @@ pub record Accepts (i : Inputs) (w : Text) : Type 0 where
   pub characters : characters (with_text i w) ≡ w
   pub tables : tables (with_text i w) ≡ tables i
   pub decompositions : decompositions (with_text i w) ≡ decompositions i
-
-pub part-accepted : (i : Inputs) → refusal i ≡ none → (x w y : Text) → characters i ≡ x ++ (w ++ y) → Accepts i w
-unfolding with_text tables decompositions
-part-accepted i e x w y q = record {
-  accepted = refusal_of (with_text i w) (kept (accepted_of i e));
-  characters = own;
-  tables = refl;
-  decompositions = refl;
-}
-  where
-    part : (P : ℕ → Type 0) → All P (characters i) → All P w
-    part P h = All-left P w y (All-right P x (w ++ y) (subst (All P) q h))
-
-    own : characters (with_text i w) ≡ w
-    own = unfold characters in decoded-encoded w (part (λ c. scalar c ≡ true) (scalars i))
-
-    kept : Accepted i → Accepted (with_text i w)
-    kept a = record {
-      mode = a.mode;
-      capitals = a.capitals;
-      o_ang = a.o_ang;
-      readings = a.readings;
-      rules = a.rules;
-      classes = a.classes;
-      vowels = a.vowels;
-      decompositions = a.decompositions;
-      code = a.code;
-      text = encoded-right w (part (λ c. scalar c ≡ true) (scalars i));
-      size = rw own (let z = a.size in let l = ap length q in omega (arith, length-append x (w ++ y), length-append w y));
-      kept = rw own (all-kept 0 w (part (λ c. left_out c ≡ false) (kept-all 0 (characters i) a.kept)));
-    }

@@ -1,33 +1,26 @@
 -- What document 01 says of every accepted call: its text has 4,096 characters at most, its lattice 17 edges for each,
 -- and each edge goes forward, lies within the text, and has a text of 606 bytes at most.
-use Rattle.std.specs.Prelude.{Bool, true, false, not, ◌&&◌, ◌||◌, ◌≡◌, List, ℕ, zero, suc, ◌*◌, ◌/◌, ◌≤◌, ◌<◌, leb, length, get_or, drop}
+use Rattle.std.specs.Prelude.{Bool, true, false, not, ◌&&◌, ◌||◌, ◌≡◌, List, ℕ, zero, suc, ◌/◌, ◌<◌, leb, get_or, drop}
 use Rattle.std.proofs.Math.Option.{none}
 use Rattle.std.proofs.Common.{arith, leb-true}
 use Rattle.base.specs.Pick.{pick}
 use Rattle.base.specs.Bools.{and_left, and_right}
 use Rattle.base.specs.ListLaws.{take-most}
 use Rattle.base.specs.Alls.{All, Opt, all-all}
-use Rattle.definition.specs.Limits.{most_characters, most_alternatives, most_target, most_vowel, most_edges, slot_bytes}
+use Rattle.definition.specs.Limits.{most_alternatives, most_target, most_vowel, slot_bytes}
 use Rattle.definition.specs.Texts.{Text}
 use Rattle.definition.specs.Blocks.{small}
 use Rattle.definition.specs.RuleRows.{end_target_right_from, target_right_from}
 use Rattle.definition.specs.RuleRows.{printable, text_of, text_right, texts_of, texts_right, rule_flag, target_bit, end_target_bit, target_at}
 use Rattle.definition.specs.RuleRows.{end_target_at, others_at, others_of, others_right, text_where, rule_right}
 use Rattle.definition.specs.RuleRows.{rule_of}
-use Rattle.definition.specs.RuleFaults.{rule_fault}
-use Rattle.definition.specs.ClassRows.{class_fault}
-use Rattle.definition.specs.VowelRows.{vowel_length, vowel_letters, vowel_right, vowel_fault, vowel_of}
-use Rattle.definition.specs.Decomposing.{edges, edge_count}
-use Rattle.definition.specs.Tables.{Choices}
+use Rattle.definition.specs.VowelRows.{vowel_length, vowel_letters, vowel_right, vowel_of}
+use Rattle.definition.specs.Decomposing.{edges}
 use Rattle.definition.specs.Capacity.{overflow}
-use Rattle.definition.specs.Call.{Inputs, tables_of, tables, decompositions, characters, refusal}
+use Rattle.definition.specs.Call.{Inputs, tables, decompositions, characters}
 use Rattle.definition.specs.Checked.{rule-checked, vowel-checked}
-use Rattle.definition.specs.Accepted.{Accepted, accepted_of, rules-all, vowels-all}
-use Rattle.definition.specs.Blank.{blank}
 use Rattle.definition.specs.Shorts.{Low, Short}
 use Rattle.definition.specs.ExpandBounds.{Spoken}
-use Rattle.definition.specs.Bounds.{Bounded, Formed, Sound}
-use Rattle.definition.specs.Decomposed.{lattice_few, lattice_formed, lattice_sound}
 
 -- Texts of a right row
 below_128 : (low high c : ℕ) → high < 128 → (leb low c && leb c high) ≡ true → Low c
@@ -60,7 +53,7 @@ rule_spoken old s e =
       others = texts-short _ _ (and_right (leb (get_or s (others_at s) 0) most_alternatives) _ c.others);
     }
 
-vowel-short : (low : ℕ) (s : List ℕ) → vowel_right low s ≡ true → Short most_vowel (vowel_of s).letters
+pub vowel-short : (low : ℕ) (s : List ℕ) → vowel_right low s ≡ true → Short most_vowel (vowel_of s).letters
 unfolding vowel_of vowel_letters small
 vowel-short low s e =
     let c = vowel-checked low s e in
@@ -69,36 +62,6 @@ vowel-short low s e =
       low = all-all Low small (λ x q. below_128 97 122 x (omega arith) q) _ c.letters;
     }
 
--- Tables without fault
-pub tables-bounded : (choices : Choices) (rules classes vowels code : List ℕ) → rule_fault rules ≡ none → class_fault classes ≡ none → vowel_fault vowels ≡ none
-    → Bounded (tables_of choices rules classes vowels code)
-unfolding tables_of
-tables-bounded choices rules classes vowels code a b c = record {
-  rules = rules-all Spoken rule_spoken rules a;
-  vowels = vowels-all (λ y. Short most_vowel y.letters) vowel-short vowels c;
-  virama = (blank classes b).virama;
-}
-
-pub bounded : (i : Inputs) → Accepted i → Bounded (tables i)
-unfolding tables
-bounded i a = tables-bounded i.choices i.rules i.classes i.vowels i.code a.rules a.classes a.vowels
-
--- Of a call that is not refused for its mode, tables, code or text
-pub few_characters : (i : Inputs) → refusal i ≡ none → length (characters i) ≤ most_characters
-few_characters i e = (accepted_of i e).size
-
-pub few_edges : (i : Inputs) → edge_count (tables i) (decompositions i) (characters i) ≤ most_edges * length (characters i)
-unfolding edge_count edges
-few_edges i = lattice_few (tables i) (decompositions i) (characters i)
-
-pub formed_edges : (i : Inputs) → refusal i ≡ none → All (Formed (length (characters i))) (edges (tables i) (decompositions i) (characters i))
-unfolding edges
-formed_edges i e = lattice_formed (tables i) (decompositions i) (characters i) (bounded i (accepted_of i e))
-
 -- and whose edges find room: nothing overflows
 abbrev pub Held : Inputs → Type 0
 Held i = overflow (tables i) (decompositions i) (characters i) (i.slots / slot_bytes) i.room (edges (tables i) (decompositions i) (characters i)) ≡ none
-
-pub sound_edges : (i : Inputs) → refusal i ≡ none → Held i → All (Sound (length (characters i))) (edges (tables i) (decompositions i) (characters i))
-unfolding edges
-sound_edges i e h = lattice_sound (tables i) (decompositions i) (characters i) (bounded i (accepted_of i e)) (i.slots / slot_bytes) i.room h

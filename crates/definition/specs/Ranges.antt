@@ -1,5 +1,5 @@
 -- What the engine relies on in accepted tables: sources of 1 to 16 characters, and vowel scripts of at least 1.
-use Rattle.std.specs.Prelude.{Bool, ◌≡◌, List, [], ◌∷◌, eqb, length, drop}
+use Rattle.std.specs.Prelude.{Bool, ◌≡◌, List, [], ◌∷◌, eqb, length}
 use Rattle.std.proofs.Math.Bool.{true, false}
 use Rattle.std.proofs.Math.Path.{refl}
 use Rattle.std.proofs.Common.{ap, ◌∙◌, ne_eqb}
@@ -7,34 +7,20 @@ use Rattle.std.proofs.Math.Option.{none}
 use Prim.Native.Nat.{ℕ, zero, suc, ◌+◌, ◌-◌, ◌≤◌, ◌<◌}
 use native.Mathlib.Omega.{arith}
 use Rattle.base.specs.Lists.{put, keep, head}
-use Rattle.base.specs.Rows.{counted-length}
 use Rattle.base.specs.Alls.{All, All-map}
 use Rattle.definition.specs.Limits.{most_source}
 use Rattle.definition.specs.Texts.{Text}
 use Rattle.definition.specs.Tables.{Rule, Vowel, Tables, script_none}
-use Rattle.definition.specs.RuleRows.{source_count, three_at, rule_source, rule_right, rule_of, rules_of}
-use Rattle.definition.specs.RuleFaults.{rule_fault}
 use Rattle.definition.specs.Edges.{State, view}
 use Rattle.definition.specs.Rules.{is_prefix}
 use Rattle.definition.specs.Vowels.{vowel_row}
 use Rattle.definition.specs.Building.{put_in, span_edge, rise, build}
-use Rattle.definition.specs.Checked.{rule-checked}
-use Rattle.definition.specs.Accepted.{rules-all}
 use Rattle.definition.specs.Within.{prefix_most}
 
 -- Sources
 pub record Sourced (r : Rule) : Type 0 where
   pub least : 1 ≤ length r.source
   pub most : length r.source ≤ most_source
-
-pub rules-sourced : (b : List ℕ) → rule_fault b ≡ none → All Sourced (rules_of b)
-rules-sourced b e = rules-all Sourced sourced b e
-  where
-    sourced : (old : Text) (s : List ℕ) → rule_right old s ≡ true → Sourced (rule_of s)
-    sourced old s e = unfold rule_of rule_source in (
-        let c = rule-checked old s e in
-        let n = counted-length three_at 3 (source_count s) (drop 6 s) in
-        record { least = let z = c.least in omega arith; most = let z = c.most in omega arith })
 
 -- so 16 rising ends are all: with more allowed, the same edges come
 module _ (D : Tables) (t : Text) (sourced : All Sourced D.rules) where

@@ -2,9 +2,9 @@
 -- (`best_right_neighbor_edge`, `best_left_neighbor_edge`): the definition asks for no rank.
 use Rattle.std.proofs.Math.Bool.{Bool, true, false}
 use Rattle.std.specs.Prelude.{◌&&◌, ◌≡◌, ℕ}
-use Rattle.std.proofs.Common.{true≢false, sym, ap, ◌∙◌, subst, arith}
+use Rattle.std.proofs.Common.{true≢false, sym, ap, ◌∙◌, arith}
 use Rattle.std.proofs.Math.Path.{refl}
-use mathlib.Core.List.{List, [], ◌∷◌, ◌++◌}
+use mathlib.Core.List.{List, [], ◌∷◌}
 use Rattle.std.proofs.Math.Option.{Option, none, some}
 use Rattle.std.proofs.Math.Dec.{eqb, ltb}
 use borrow.Author.Tests.{eq-eqb, ne_eqb, eqb-true, eqb-false, ltb-true, ltb-false, le-ltb}
@@ -12,11 +12,8 @@ use Rattle.base.specs.Pick.{pick}
 use Rattle.base.specs.Lists.{put, keep, head, best_of, best}
 use Rattle.base.specs.ListLaws.{keep_swap}
 use Rattle.base.specs.Alls.{All-best, All-kept, All-each, Opt, Opt-map}
-use Rattle.definition.specs.Texts.{Text}
-use Rattle.definition.specs.Tables.{Decomposition, Tables}
 use Rattle.definition.specs.Edges.{Edge, starting, ending, right_best, left_best}
-use Rattle.definition.specs.Decomposing.{lattice}
-use Rattle.definition.specs.Ranking.{spanning, ranked, Ranked, first-ranked, ranked_front, lattice-ranked}
+use Rattle.definition.specs.Ranking.{spanning, ranked, Ranked, first-ranked}
 
 -- A test of which of two numbers wins
 record Contest (over : ℕ → ℕ → Bool) : Type 0 where
@@ -141,14 +138,3 @@ module _ (es : List Edge) (h : Ranked es) where
           let there : Edge → Bool = λ y. eqb y.from z.from in
           taken z z.from p refl (eqb-true z.to p e)
           (unfold spanning in (ap head (sym (keep-both here there es) ∙ keep_swap here there es) ∙ k))
-
--- So it is in the lattice, and at any time while it is built
-module _ (D : Tables) (ds : List Decomposition) (t : Text) (es more : List Edge) (e : (lattice D ds t).0 ≡ es ++ more) where
-  so_far : Ranked es
-  so_far = ranked_front es more (subst Ranked e (lattice-ranked D ds t))
-
-  pub right-taken : (p : ℕ) → Opt (Taken es) (right_best es p)
-  right-taken p = right-ranked es so_far p
-
-  pub left-taken : (p : ℕ) → Opt (Taken es) (left_best es p)
-  left-taken p = left-ranked es so_far p

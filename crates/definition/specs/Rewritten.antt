@@ -1,13 +1,11 @@
 -- UTF-8 back again: where no sequence is bad, the bytes are those of the characters.
-use Rattle.std.specs.Prelude.{◌&&◌, ◌≡◌, refl, List, [], ◌∷◌, ◌++◌, ℕ, zero, suc, ◌+◌, ◌-◌, ◌*◌, ◌/◌, ◌%◌, ◌≤◌, ◌<◌, leb, ltb, length, get_or, drop}
-use Rattle.std.proofs.Common.{sym, ◌∙◌, arith, length-drop}
+use Rattle.std.specs.Prelude.{◌&&◌, ◌≡◌, refl, List, [], ◌∷◌, ◌++◌, ℕ, zero, suc, ◌+◌, ◌-◌, ◌*◌, ◌/◌, ◌%◌, ◌≤◌, ◌<◌, leb, ltb, get_or, drop}
+use Rattle.std.proofs.Common.{sym, ◌∙◌, arith}
 use Rattle.std.proofs.Math.Path.{ap}
-use Rattle.std.proofs.Math.Option.{none}
 use borrow.Author.Tests.{lt-ltb, le-ltb, ltb-true, ltb-false, leb-true, leb-false}
 use Rattle.base.specs.Pick.{pick, pick_ind}
 use Rattle.base.specs.Bools.{and_left, or_left, or_right}
-use Rattle.definition.specs.Utf8.{Read, char, bad, six, checked, sequence, read, scalar, bad_sequence, decoded, encode, encoded}
-use Rattle.definition.specs.Utf8Turns.{bad_at, bad_sequence-is, bad-here, bad-next, decoded-none, decoded-next, char-bytes}
+use Rattle.definition.specs.Utf8.{Read, char, bad, six, checked, sequence, read, scalar, encode}
 
 -- Six bits are only a continuation byte's, and tell it
 six-back : (b : ℕ) → six b < 64 → b ≡ 128 + six b
@@ -55,7 +53,7 @@ encode-four b x y z v e l i j h o =
     rw (le-ltb v 0x80 (omega arith), le-ltb v 0x800 (omega arith), le-ltb v 0x10000 o, p, q, r, t)
 
 -- Bytes that read as a character begin with its bytes, if there is one at all: no bytes read as the character 0
-abbrev Own : List ℕ → Read → Type 0
+abbrev pub Own : List ℕ → Read → Type 0
 Own s (char c n) = encode c ++ drop n s ≡ s
 Own s bad = Unit {0}
 
@@ -89,7 +87,7 @@ module _ (b : ℕ) (t : List ℕ) where
       ∙ ap (λ w. b ∷ (128 + X) ∷ (128 + Y) ∷ w) (sym (next 2 t h))
       ∙ ap (λ w. b ∷ (128 + X) ∷ w) (sym (next 1 t j)) ∙ ap (λ w. b ∷ w) (sym (next 0 t i)))
 
-  read_back : Own (b ∷ t) (read (b ∷ t))
+  pub read_back : Own (b ∷ t) (read (b ∷ t))
   unfolding read sequence
   read_back =
       pick_ind (Own (b ∷ t)) _ _ _ (λ e. ap (λ w. w ++ t) (encode_one b (ltb-true b 128 e))) (λ e.
@@ -103,24 +101,3 @@ module _ (b : ℕ) (t : List ℕ) where
       pick_ind (Own (b ∷ t)) _ _ _ (λ e. three_back m (ltb-true b 240 e) i j) (λ e.
       pick_ind (Own (b ∷ t)) _ _ _ (λ d. tt) (λ d.
       four-back (ltb-false b 240 e) i j (leb-false 64 Z (or_left (leb 64 Z) (leb 248 b) d))))))))
-
--- `f` bounds the length: each character takes a byte at least
-rewritten : (f o : ℕ) (s : List ℕ) → length s ≤ f → bad_at o s ≡ none → encoded (decoded s) ≡ s
-unfolding encoded
-rewritten zero o [] l e = ap encoded (decoded-none [] refl)
-rewritten zero o (b ∷ s) l e = absurd (omega arith)
-rewritten (suc f) o [] l e = ap encoded (decoded-none [] refl)
-rewritten (suc f) o (b ∷ s) l e = go (read (b ∷ s)) refl (read_back b s) (λ n. rewritten f (o + n) (drop n (b ∷ s)))
-  where
-    go : (r : Read) → read (b ∷ s) ≡ r → Own (b ∷ s) r
-        → ((n : ℕ) → length (drop n (b ∷ s)) ≤ f → bad_at (o + n) (drop n (b ∷ s)) ≡ none → encoded (decoded (drop n (b ∷ s))) ≡ drop n (b ∷ s))
-        → encoded (decoded (b ∷ s)) ≡ b ∷ s
-    go (char c n) q w h =
-        let m = char-bytes (b ∷ s) c n q in
-        let d = length-drop n (b ∷ s) in
-        ap encoded (decoded-next (b ∷ s) c n (omega arith) q)
-        ∙ ap (λ x. encode c ++ x) (h n (omega arith) (sym (bad-next o (b ∷ s) c n (omega arith) q) ∙ e)) ∙ w
-    go bad q w h = absurd (let x = sym (bad-here o (b ∷ s) (omega arith) q) ∙ e in let z : ◌≡◌ {A = ℕ} 0 1 = cc in omega arith)
-
-pub encoded-decoded : (s : List ℕ) → bad_sequence s ≡ none → encoded (decoded s) ≡ s
-encoded-decoded s e = rewritten (length s) 0 s (omega arith) (sym (bad_sequence-is s) ∙ e)

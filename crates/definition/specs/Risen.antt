@@ -1,19 +1,16 @@
 -- Rows of an accepted table rise: each rule's source is at most each later one's, characters and scripts strictly.
-use Rattle.std.specs.Prelude.{Bool, true, false, ◌&&◌, ◌||◌, ◌≡◌, refl, List, [], ◌∷◌, ℕ, ◌≤◌, ◌<◌, eqb, ltb}
+use Rattle.std.specs.Prelude.{Bool, true, ◌&&◌, ◌||◌, ◌≡◌, refl, List, [], ◌∷◌, ℕ, ◌≤◌, ◌<◌, eqb, ltb}
 use Rattle.std.proofs.Common.{true≢false, sym, ap, ◌∙◌, arith, ltb-true, eqb-true, lt-ltb, eq-eqb}
 use Rattle.std.proofs.Math.Bool.{or-true}
 use Rattle.std.proofs.Math.Option.{none}
 use Rattle.base.specs.Bools.{and_left, and_right, or_cases}
 use Rattle.base.specs.Alls.{All, Ordered}
 use Rattle.definition.specs.Texts.{Text}
-use Rattle.definition.specs.RuleRows.{rises, rule_size, rule_source, rule_right, rule_of, rules_of}
-use Rattle.definition.specs.RuleFaults.{rule_fault}
-use Rattle.definition.specs.ClassRows.{class_size, class_next, class_right, class_by, class_of, class_fault, classes_of}
+use Rattle.definition.specs.RuleRows.{rises}
 use Rattle.definition.specs.VowelRows.{vowel_size, vowel_next, vowel_right, vowel_of, vowel_fault, vowels_of}
 use Rattle.definition.specs.BlockTurns.{chain_ordered}
-use Rattle.definition.specs.Checked.{rule-checked, class-checked, vowel-checked}
-use Rattle.definition.specs.Accepted.{class_moves, vowel_moves, rules-chain, classes-chain, vowels-chain}
-use Rattle.definition.specs.RuleTurns.{rule_moves}
+use Rattle.definition.specs.Checked.{vowel-checked}
+use Rattle.definition.specs.Accepted.{vowel_moves, vowels-chain}
 
 -- The order of sources goes through
 first-lower : (x y : ℕ) (b : Bool) → x < y → (ltb x y || b) ≡ true
@@ -37,27 +34,8 @@ rises_trans (x ∷ a) (y ∷ b) (z ∷ c) p q =
     (λ k. let u = eqb-true x y (and_left _ _ l) in let v = eqb-true y z (and_left _ _ k) in
     first_equal x z a c (omega arith) (rises_trans a b c (and_right (eqb x y) _ l) (and_right (eqb y z) _ k))) q) p
 
--- Rules
-pub rules-rise : (b : List ℕ) → rule_fault b ≡ none
-    → Ordered (λ x y. rises x.source y.source ≡ true) (rules_of b)
-unfolding rules_of rule_of
-rules-rise b e = (chain_ordered rule_size rule_source rule_right rule_moves rule_of
-    (λ k y. rises k y.source ≡ true) (λ x y. rises x.source y.source ≡ true)
-    (λ k s p. (rule-checked k s p).risen)
-    (λ k s y p q. rises_trans k (rule_source s) y.source (rule-checked k s p).risen q)
-    (λ s y q. q) (rules-chain b e)).1
-
--- Classes
-pub classes-rise : (b : List ℕ) → class_fault b ≡ none → Ordered (λ x y. x.char < y.char) (classes_of b)
-unfolding classes_of class_next class_of class_by
-classes-rise b e = (chain_ordered class_size class_next class_right class_moves class_of
-    (λ k y. k ≤ y.char) (λ x y. x.char < y.char)
-    (λ k s p. (class-checked k s p).risen)
-    (λ k s y p q. let l = (class-checked k s p).risen in omega arith)
-    (λ s y q. omega arith) (classes-chain b e)).1
-
 -- Vowels: scripts, from 1 on
-vowels-after : (b : List ℕ) → vowel_fault b ≡ none
+pub vowels-after : (b : List ℕ) → vowel_fault b ≡ none
     → All (λ y. 1 ≤ y.script) (vowels_of b) × Ordered (λ x y. x.script < y.script) (vowels_of b)
 unfolding vowels_of vowel_next vowel_of
 vowels-after b e = chain_ordered vowel_size vowel_next vowel_right vowel_moves vowel_of
@@ -65,9 +43,3 @@ vowels-after b e = chain_ordered vowel_size vowel_next vowel_right vowel_moves v
     (λ k s p. (vowel-checked k s p).risen)
     (λ k s y p q. let l = (vowel-checked k s p).risen in omega arith)
     (λ s y q. omega arith) (vowels-chain b e)
-
-pub vowels-rise : (b : List ℕ) → vowel_fault b ≡ none → Ordered (λ x y. x.script < y.script) (vowels_of b)
-vowels-rise b e = (vowels-after b e).1
-
-pub vowels_scripted : (b : List ℕ) → vowel_fault b ≡ none → All (λ y. 1 ≤ y.script) (vowels_of b)
-vowels_scripted b e = (vowels-after b e).0

@@ -1,21 +1,17 @@
 -- UTF-8 there and back: the characters of a text's bytes are the text, and no sequence is bad.
-use Rattle.std.specs.Prelude.{Bool, true, false, ◌&&◌, ◌||◌, ◌≡◌, refl, List, [], ◌∷◌, ◌++◌, ℕ, ◌+◌, ◌-◌, ◌*◌, ◌/◌, ◌%◌, ◌≤◌, ◌<◌, leb, ltb, length, get_or}
-use Rattle.std.proofs.Common.{sym, ◌∙◌, ap, append_assoc, arith, length-append, le-leb, lt-ltb, le-ltb, ltb-true, ltb-false, leb-true}
-use Rattle.std.proofs.Math.Option.{none}
-use Rattle.std.proofs.Math.Seq.{drop-append_seam}
+use Rattle.std.specs.Prelude.{Bool, true, false, ◌&&◌, ◌||◌, ◌≡◌, refl, List, [], ◌∷◌, ◌++◌, ℕ, ◌+◌, ◌-◌, ◌*◌, ◌/◌, ◌%◌, ◌≤◌, ◌<◌, leb, ltb, get_or}
+use Rattle.std.proofs.Common.{sym, ◌∙◌, ap, append_assoc, arith, le-leb, lt-ltb, le-ltb, ltb-true, leb-true}
 use Rattle.std.proofs.lemmas.Bool.{lt-leb}
 use Rattle.base.specs.Pick.{pick}
 use Rattle.base.specs.Bools.{and_right}
-use Rattle.base.specs.Alls.{All}
 use Rattle.definition.specs.Texts.{Text}
-use Rattle.definition.specs.Utf8.{char, six, checked, sequence, read, scalar, bad_sequence, decoded, encode, encoded}
-use Rattle.definition.specs.Utf8Turns.{bad_at, bad_sequence-is, bad-none, bad-next, decoded-none, decoded-next, char-bytes}
+use Rattle.definition.specs.Utf8.{char, six, checked, sequence, read, scalar, encode, encoded}
 
-six_of : (m : ℕ) → m < 64 → six (128 + m) ≡ m
+pub six_of : (m : ℕ) → m < 64 → six (128 + m) ≡ m
 unfolding six pick
 six_of m l = let e : 128 + m - 128 ≡ m = omega arith in rw (le-leb 128 (128 + m) (omega arith), lt-ltb (128 + m) 192 (omega arith)) e
 
-checked-own : (low n v : ℕ) → low ≤ v → scalar v ≡ true → checked low n v ≡ char v n
+pub checked-own : (low n v : ℕ) → low ≤ v → scalar v ≡ true → checked low n v ≡ char v n
 unfolding checked pick
 checked-own low n v l e = rw (le-leb low v l, e)
 
@@ -24,7 +20,7 @@ unfolding sequence pick
 sequence-two q m y z l k = let e : 192 + q - 192 ≡ q = omega arith in
     rw (le-ltb (192 + q) 128 (omega arith), le-ltb (192 + q) 192 (omega arith), lt-leb 64 m k, lt-ltb (192 + q) 224 (omega arith), e)
 
-sequence-three : (q m n z : ℕ) → q < 16 → m < 64 → n < 64 → sequence (224 + q) m n z ≡ checked 0x800 3 (q * 4096 + m * 64 + n)
+pub sequence-three : (q m n z : ℕ) → q < 16 → m < 64 → n < 64 → sequence (224 + q) m n z ≡ checked 0x800 3 (q * 4096 + m * 64 + n)
 unfolding sequence pick
 sequence-three q m n z l k j = let e : 224 + q - 224 ≡ q = omega arith in
     rw (le-ltb (224 + q) 128 (omega arith), le-ltb (224 + q) 192 (omega arith), lt-leb 64 m k, le-ltb (224 + q) 224 (omega arith), lt-leb 64 n j, lt-ltb (224 + q) 240 (omega arith), e)
@@ -52,7 +48,7 @@ scalar_top c e = go (ltb c 0xD800) refl e
     go true p q = let z = ltb-true c 0xD800 p in omega arith
     go false p q = let z = leb-true c 0x10FFFF (and_right (leb 0xE000 c) _ q) in omega arith
 
-read-two : (c : ℕ) (r : List ℕ) → scalar c ≡ true → 0x80 ≤ c → c < 0x800 → read ((192 + c / 64) ∷ (128 + c % 64) ∷ r) ≡ char c 2
+pub read-two : (c : ℕ) (r : List ℕ) → scalar c ≡ true → 0x80 ≤ c → c < 0x800 → read ((192 + c / 64) ∷ (128 + c % 64) ∷ r) ≡ char c 2
 unfolding read
 read-two c r e l k =
     let v : c / 64 * 64 + c % 64 ≡ c = omega arith in
@@ -60,16 +56,7 @@ read-two c r e l k =
     ∙ sequence-two (c / 64) (c % 64) (six (get_or r 0 0)) (six (get_or r 1 0)) (omega arith) (omega arith)
     ∙ ap (checked 0x80 2) v ∙ checked-own 0x80 2 c l e
 
-read-three : (c : ℕ) (r : List ℕ) → scalar c ≡ true → 0x800 ≤ c → c < 0x10000 → read ((224 + c / 4096) ∷ (128 + c / 64 % 64) ∷ (128 + c % 64) ∷ r) ≡ char c 3
-unfolding read
-read-three c r e l k =
-    let v : c / 4096 * 4096 + c / 64 % 64 * 64 + c % 64 ≡ c = omega arith in
-    ap (λ x. sequence (224 + c / 4096) x (six (128 + c % 64)) (six (get_or r 0 0))) (six_of (c / 64 % 64) (omega arith))
-    ∙ ap (λ x. sequence (224 + c / 4096) (c / 64 % 64) x (six (get_or r 0 0))) (six_of (c % 64) (omega arith))
-    ∙ sequence-three (c / 4096) (c / 64 % 64) (c % 64) (six (get_or r 0 0)) (omega arith) (omega arith) (omega arith)
-    ∙ ap (checked 0x800 3) v ∙ checked-own 0x800 3 c l e
-
-read-four : (c : ℕ) (r : List ℕ) → scalar c ≡ true → 0x10000 ≤ c → read ((240 + c / 262144) ∷ (128 + c / 4096 % 64) ∷ (128 + c / 64 % 64) ∷ (128 + c % 64) ∷ r) ≡ char c 4
+pub read-four : (c : ℕ) (r : List ℕ) → scalar c ≡ true → 0x10000 ≤ c → read ((240 + c / 262144) ∷ (128 + c / 4096 % 64) ∷ (128 + c / 64 % 64) ∷ (128 + c % 64) ∷ r) ≡ char c 4
 unfolding read
 read-four c r e l =
     let t = scalar_top c e in
@@ -80,44 +67,9 @@ read-four c r e l =
     ∙ sequence-four (c / 262144) (c / 4096 % 64) (c / 64 % 64) (c % 64) (omega arith) (omega arith) (omega arith) (omega arith)
     ∙ ap (checked 0x10000 4) v ∙ checked-own 0x10000 4 c l e
 
-read_one : (c : ℕ) (r : List ℕ) → c < 0x80 → read (c ∷ r) ≡ char c 1
+pub read_one : (c : ℕ) (r : List ℕ) → c < 0x80 → read (c ∷ r) ≡ char c 1
 unfolding read sequence pick
 read_one c r l = rw (lt-ltb c 128 l)
-
--- a character's bytes are read as the character
-pub read-encode : (c : ℕ) (r : List ℕ) → scalar c ≡ true → read (encode c ++ r) ≡ char c (length (encode c))
-unfolding encode pick
-read-encode c r e = go (ltb c 0x80) (ltb c 0x800) (ltb c 0x10000) refl refl refl
-  where
-    go : (a b d : Bool) → ltb c 0x80 ≡ a → ltb c 0x800 ≡ b → ltb c 0x10000 ≡ d
-        → (let w = pick a (c ∷ []) (pick b ((192 + c / 64) ∷ (128 + c % 64) ∷ [])
-        (pick d ((224 + c / 4096) ∷ (128 + c / 64 % 64) ∷ (128 + c % 64) ∷ [])
-        ((240 + c / 262144) ∷ (128 + c / 4096 % 64) ∷ (128 + c / 64 % 64) ∷ (128 + c % 64) ∷ []))) in read (w ++ r) ≡ char c (length w))
-    go true b d x y z = read_one c r (ltb-true c 0x80 x)
-    go false true d x y z = read-two c r e (ltb-false c 0x80 x) (ltb-true c 0x800 y)
-    go false false true x y z = read-three c r e (ltb-false c 0x800 y) (ltb-true c 0x10000 z)
-    go false false false x y z = read-four c r e (ltb-false c 0x10000 z)
-
--- and so is a text
-long : (c : ℕ) (r : List ℕ) → scalar c ≡ true → 0 < length (encode c ++ r)
-long c r e = let m = char-bytes (encode c ++ r) c (length (encode c)) (read-encode c r e) in omega (arith, length-append (encode c) r)
-
-pub decoded-encoded : (w : Text) → All (λ c. scalar c ≡ true) w → decoded (encoded w) ≡ w
-unfolding encoded
-decoded-encoded [] h = decoded-none [] refl
-decoded-encoded (c ∷ w) h =
-    decoded-next (encode c ++ encoded w) c (length (encode c)) (long c (encoded w) h.0) (read-encode c (encoded w) h.0)
-    ∙ ap (λ s. c ∷ decoded s) (drop-append_seam (encode c) (encoded w)) ∙ ap (λ l. c ∷ l) (decoded-encoded w h.1)
-
-bad-encoded : (o : ℕ) (w : Text) → All (λ c. scalar c ≡ true) w → bad_at o (encoded w) ≡ none
-unfolding encoded
-bad-encoded o [] h = bad-none o [] refl
-bad-encoded o (c ∷ w) h =
-    bad-next o (encode c ++ encoded w) c (length (encode c)) (long c (encoded w) h.0) (read-encode c (encoded w) h.0)
-    ∙ ap (bad_at (o + length (encode c))) (drop-append_seam (encode c) (encoded w)) ∙ bad-encoded (o + length (encode c)) w h.1
-
-pub encoded-right : (w : Text) → All (λ c. scalar c ≡ true) w → bad_sequence (encoded w) ≡ none
-encoded-right w h = bad_sequence-is (encoded w) ∙ bad-encoded 0 w h
 
 -- The bytes of two texts, one behind the other
 pub encoded-append : (u w : Text) → encoded (u ++ w) ≡ encoded u ++ encoded w

@@ -1,5 +1,5 @@
 -- Choosing a rule (`rules.rs`).
-use Rattle.std.specs.Prelude.{Bool, true, false, not, ◌&&◌, ◌||◌, List, [], ◌∷◌, ℕ, ◌+◌, ◌-◌, eqb, leb, ltb, length}
+use Rattle.std.specs.Prelude.{Bool, true, false, not, ◌&&◌, ◌||◌, List, [], ◌∷◌, ℕ, ◌+◌, ◌-◌, eqb, ltb, length}
 use Rattle.std.proofs.Math.Option.{Option}
 use Rattle.base.specs.Pick.{pick}
 use Rattle.base.specs.Lists.{put, keep, any, head, or_else, has, bind, best, same}

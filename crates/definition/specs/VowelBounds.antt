@@ -13,7 +13,7 @@ use Rattle.base.specs.Lists.{put, all, head, tail, is, front, after, same, start
 use Rattle.base.specs.ListLaws.{front-after}
 use Rattle.base.specs.Alls.{All, All-after, All_getD, All-keep, All-head, Opt, maybe-all}
 use Rattle.definition.specs.Limits.{most_target, most_vowel}
-use Rattle.definition.specs.Texts.{Text, at, consonants, vowels, latin, last_is, letter_a, letter_o, letter_y, hyphen}
+use Rattle.definition.specs.Texts.{Text, consonants, vowels, latin, last_is, letter_a, letter_o, letter_y, hyphen}
 use Rattle.definition.specs.Tables.{Vowel, Lexicon}
 use Rattle.definition.specs.Edges.{View}
 use Rattle.definition.specs.Boundaries.{word_start}

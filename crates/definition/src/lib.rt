@@ -1,1 +1,2 @@
 // Nothing to run: document 01 as mathematics is in specs/.
+#![tactic(auto)]

@@ -17,23 +17,20 @@ use Rattle.base.specs.Bools.{eqb_alike}
 use Rattle.base.specs.ListLaws.{map_uncons}
 use Rattle.definition.specs.Notes.{note_alt, note_alt2, note_alt3}
 use Rattle.definition.specs.Texts.{Text, the_space, at}
-use Rattle.definition.specs.Tables.{Rule, Decomposition, Choices, Lexicon, Tables}
+use Rattle.definition.specs.Tables.{Rule, Choices, Lexicon}
 use Rattle.definition.specs.Edges.{Edge, new_in, View, Mem, ret, ◌>>=◌}
 use Rattle.definition.specs.Rules.{valids}
-use Rattle.definition.specs.Paths.{akin, other, also_all, cored, reads, by_target, by_reading, by_end_target, by_rule, by_rules, by_edges, with_alternatives_of}
-use Rattle.definition.specs.Decomposing.{lattice, path, with_alternatives}
-use Rattle.definition.specs.Alternatives.{Gives, gives-any, by_rules-added}
-use Rattle.stretches.specs.Demand.{First_if, within, shift}
-use Rattle.stretches.specs.Given.{Fair, FairTables, Stretch, Span, at_outside}
+use Rattle.definition.specs.Paths.{akin, other, also_all, cored, by_target, by_reading, by_end_target, by_rule, by_rules, by_edges}
+use Rattle.definition.specs.Alternatives.{Gives, gives-any}
+use Rattle.definition.proofs.Alternatives.{by_rules-added}
+use Rattle.stretches.specs.Demand.{within, shift}
+use Rattle.stretches.specs.Given.{Fair, Stretch, Span, at_outside}
 use Rattle.stretches.specs.Windows.{window, Apart, Agree}
 use Rattle.stretches.specs.Texts.{space_at_end, space_before-start, left-part, right_part}
 use Rattle.stretches.specs.Boundaries.{See, see_moved}
 use Rattle.stretches.specs.Rules.{valids-inside, valids_space}
 use Rattle.stretches.specs.Building.{Inside}
 use Rattle.stretches.specs.Edges.{Outside, left, right, Clear, inside, outside, clear_goes, within-inside, within_outside, Same, new-inside, added_outside}
-use Rattle.stretches.specs.Walks.{see_edges}
-use Rattle.stretches.specs.Lattice.{lattice-inside}
-use Rattle.stretches.specs.Path.{path_inside}
 
 akin-moved : (a : ℕ) (x y : Edge) → akin (shift a x) (shift a y) ≡ akin x y
 unfolding akin shift
@@ -156,7 +153,7 @@ module _ {L : Lexicon} (fair : Fair L) {T st : Text} {a : ℕ} (h : Stretch T st
       → Agree a (length st) (List Rule) (valids L T W (a + x.from) (a + x.to)) (valids L st v x.from x.to)
   own-inside x b = valids-inside fair h g (omega arith)
 
-  by_edges-inside : (b : Bool) (XS xs S s : List Edge) (K k : Mem) → Same a (length st) XS xs → Same a (length st) S s
+  pub by_edges-inside : (b : Bool) (XS xs S s : List Edge) (K k : Mem) → Same a (length st) XS xs → Same a (length st) S s
       → window a (length st) K ≡ k → Same a (length st) (by_edges b L T W XS S K).0 (by_edges b L st v xs s k).0
   unfolding by_edges keep ◌>>=◌ ret shift
   by_edges-inside b [] [] S s K k e r w = r
@@ -191,15 +188,3 @@ module _ {L : Lexicon} (fair : Fair L) {T st : Text} {a : ℕ} (h : Stretch T st
           subst (λ Z. Same a n (by_edges b L T W (Z ∷ XS) S K).0 (by_edges b L st v xs s k).0) (sym z.3)
           (subst (λ zs. Same a n (by_edges b L T W (shift a z.0 ∷ XS) S K).0 (by_edges b L st v zs s k).0)
           (sym z.2) (own z.0 z.1 z.4 (subst (All (Inside 0 n)) z.2 e.full) f))
-
--- Mode 2's list
-pub listed-inside : {D : Tables} {ds : List Decomposition} → FairTables D ds → {T st : Text} {a : ℕ} → Stretch T st a
-    → First_if D.choices st
-    → keep (within a (length st)) (with_alternatives D ds T) ≡ map (shift a) (with_alternatives D ds st)
-unfolding with_alternatives with_alternatives_of path
-listed-inside {D} {ds} fair {T} {st} {a} h first =
-    let r = lattice-inside fair h first in
-    let p = path_inside fair h first in
-    let g = see_edges fair h first r.edges in
-    (by_edges-inside fair.lexicon h g (reads D.choices) (path D ds T) (path D ds st) (path D ds T) (path D ds st)
-    (lattice D ds T).1 (lattice D ds st).1 p p r.memory).cut

@@ -6,22 +6,18 @@ use Rattle.std.proofs.Common.{true≢false, sym, ◌∙◌, ap, arith, eq-eqb}
 use Prim.Native.String.{String}
 use Rattle.base.specs.Lists.{keep, all, tail}
 use Rattle.base.specs.Alls.{All_getD, all-all}
-use Rattle.definition.specs.Notes.{note_rom, note_core, note_exp, note_single, note_Zs, note_orig, note_alt2, note_decomp}
 use Rattle.definition.specs.Texts.{Text, chars, the_space, o_ang, at}
 use Rattle.definition.specs.Utf8.{encoded}
 use Rattle.definition.specs.Tables.{Choices}
 use Rattle.definition.specs.Edges.{Edge}
-use Rattle.definition.specs.Building.{single}
 use Rattle.definition.specs.Paths.{joined}
-use Rattle.definition.specs.Decomposing.{edges, path, alternatives}
+use Rattle.definition.specs.Decomposing.{path}
 use Rattle.definition.specs.Listing.{block}
 use Rattle.definition.specs.Call.{Inputs, tables, decompositions, characters}
 use Rattle.definition.specs.Compute.{compute}
 use Rattle.definition.specs.Sample.{sample_rules, sample_classes_by, sample_classes, capitals_by, o_ang_by, readings_by, as_port, lower_case, sample_with, sample}
 use Rattle.definition.specs.SampleReadings.{ended}
-use Rattle.definition.specs.Parts.{Accepts}
-use Rattle.stretches.specs.Demand.{spaceless, spaceless_if, spaceless_rule, Taken, has_row, space_edge, over, Before, start, After, end, First, First_if, within, shift, Alone}
-use Rattle.stretches.specs.Proved.{demand}
+use Rattle.stretches.specs.Demand.{spaceless, spaceless_if, spaceless_rule, Taken, Before, After, end, First, First_if, within, shift, Alone}
 
 -- U+0E2D only first, by computation
 pub first_by : (st : Text) → all (λ c. not (eqb c o_ang)) (tail st) ≡ true → First st
@@ -42,86 +38,32 @@ pub free_by : (c : Choices) (st : Text) → c.o_ang ≡ 1 → First_if c st
 free_by c st e z = absurd (omega arith)
 
 -- A line of two words
-abbrev line : Inputs
+abbrev pub line : Inputs
 line = sample 2 "" "कत क्त"
 
 pub line_taken : Taken line
 unfolding compute spaceless spaceless_if spaceless_rule
 line_taken = record { accepted = refl; no_space = refl }
 
-pub first_word : Alone (tables line) (decompositions line) (characters line) (chars "कत") 0 × Accepts line (chars "कत")
-unfolding compute
-first_word = (demand line line_taken).stretches [] (chars "कत") (chars " क्त") refl start (After.space (chars "क्त"))
-    (λ z. first_by (chars "कत") refl)
-
-pub second_word : Alone (tables line) (decompositions line) (characters line) (chars "क्त") 3
-    × Accepts line (chars "क्त")
-unfolding compute
-second_word = (demand line line_taken).stretches (chars "कत ") (chars "क्त") [] refl (Before.space (chars "कत")) end
-    (λ z. first_by (chars "क्त") refl)
-
--- the space between them
-pub line_space : keep (over 2) (edges (tables line) (decompositions line) (characters line))
-    ≡ single 2 note_Zs (chars " ") ∷ []
-unfolding compute has_row space_edge
-line_space = (demand line line_taken).spaces 2 (omega arith) refl
-
--- The edges of the second word in the line are those of the word alone, moved by 3
-pub second-edges :
-    keep (within 3 3) (edges (tables line) (decompositions line) (characters line))
-    ≡ map (shift 3) (edges (tables line) (decompositions line) (chars "क्त"))
-second-edges = second_word.0.edges
-
 -- so they are these: क with its virama, the virama, त with its vowel, and क by itself
-abbrev edge : ℕ → ℕ → ℕ → ℕ → String → Edge
+abbrev pub edge : ℕ → ℕ → ℕ → ℕ → String → Edge
 edge s e n c w = record { from = s; to = e; note = n; core = c; text = chars w }
 
-pub second-edges_are : keep (within 3 3) (edges (tables line) (decompositions line) (characters line))
-    ≡ edge 3 5 note_exp 0 "k" ∷ edge 4 5 note_rom 0 "" ∷ edge 5 6 note_core 1 "ta" ∷ edge 3 4 note_single 0 "k" ∷ []
-unfolding compute shift
-second-edges_are = second-edges
-
 -- Capitals chosen, where ж is lower case
-abbrev capital_line : Inputs
+abbrev pub capital_line : Inputs
 capital_line = sample_with 2 (capitals_by 1) sample_rules (sample_classes_by lower_case) "" "ж Жж ж"
 
 pub capital_taken : Taken capital_line
 unfolding compute spaceless spaceless_if spaceless_rule
 capital_taken = record { accepted = refl; no_space = refl }
 
-pub capital_word : Alone (tables capital_line) (decompositions capital_line) (characters capital_line) (chars "Жж") 2
-    × Accepts capital_line (chars "Жж")
-unfolding compute
-capital_word = (demand capital_line capital_taken).stretches (chars "ж ") (chars "Жж") (chars " ж") refl
-    (Before.space (chars "ж")) (After.space (chars "ж")) (λ z. first_by (chars "Жж") refl)
-
--- The word's edges alone, moved by 2: Ж before a lower-case letter is "Zh"
-pub capital-edges :
-    keep (within 2 2) (edges (tables capital_line) (decompositions capital_line) (characters capital_line))
-    ≡ edge 2 3 note_rom 0 "Zh" ∷ edge 3 4 note_rom 0 "zh" ∷ []
-unfolding compute shift
-capital-edges = capital_word.0.edges
-
 -- Readings chosen: the rule's target is "k", its end-of-syllable target "t"
-abbrev reading_line : Inputs
+abbrev pub reading_line : Inputs
 reading_line = sample_with 2 (readings_by 1) (block (ended 0 "ж" "k" "t" [])) sample_classes "" "ж ж"
 
 pub reading_taken : Taken reading_line
 unfolding compute spaceless spaceless_if spaceless_rule
 reading_taken = record { accepted = refl; no_space = refl }
-
-pub reading_word : Alone (tables reading_line) (decompositions reading_line) (characters reading_line) (chars "ж") 2
-    × Accepts reading_line (chars "ж")
-unfolding compute
-reading_word = (demand reading_line reading_taken).stretches (chars "ж ") (chars "ж") [] refl (Before.space (chars "ж")) end
-    (λ z. first_by (chars "ж") refl)
-
--- The word's alternatives alone, moved by 2: that reading
-pub reading-alternatives :
-    keep (within 2 1) (alternatives (tables reading_line) (decompositions reading_line) (characters reading_line))
-    ≡ edge 2 3 note_alt2 0 "t" ∷ []
-unfolding compute shift
-reading-alternatives = reading_word.0.alternatives
 
 -- ½ stands for 1, the fraction slash and 2; ½ and 1 are numbers. There is no rule
 abbrev pub halves : ℕ → String → Inputs
@@ -139,24 +81,12 @@ halves mode text = record {
   out = 100;
 }
 
-abbrev half_line : Inputs
+abbrev pub half_line : Inputs
 half_line = halves 2 "1 ½1"
 
 pub half_taken : Taken half_line
 unfolding compute spaceless spaceless_if spaceless_rule
 half_taken = record { accepted = refl; no_space = refl }
-
-pub half_word : Alone (tables half_line) (decompositions half_line) (characters half_line) (chars "½1") 2
-    × Accepts half_line (chars "½1")
-unfolding compute
-half_word = (demand half_line half_taken).stretches (chars "1 ") (chars "½1") [] refl (Before.space (chars "1")) end
-    (λ z. first_by (chars "½1") refl)
-
--- The word's edges alone, moved by 2: ½ is parted from the number beside it, and not from the one beyond the space
-pub half-edges : keep (within 2 2) (edges (tables half_line) (decompositions half_line) (characters half_line))
-    ≡ edge 2 3 note_decomp 0 "1/2 " ∷ edge 3 4 note_orig 0 "1" ∷ []
-unfolding compute shift
-half-edges = half_word.0.edges
 
 -- What document 01 has run, with the choice of O ang 0: ก, space, U+0E48, อ, ก gives "k ok", while U+0E48, อ, ก alone
 -- gives "k"
@@ -188,25 +118,12 @@ o_ang_needed every =
     omega arith
 
 -- With the choice 1 the walk back from อ ends at the space: the statement holds of this line too, with nothing asked
-abbrev o_ang_line : Inputs
+abbrev pub o_ang_line : Inputs
 o_ang_line = sample_with 1 (o_ang_by 1) sample_rules sample_classes "" "ก ่อก"
 
 pub o_ang_taken : Taken o_ang_line
 unfolding compute spaceless spaceless_if spaceless_rule
 o_ang_taken = record { accepted = refl; no_space = refl }
-
-pub o_ang_word : Alone (tables o_ang_line) (decompositions o_ang_line) (characters o_ang_line) (chars "่อก") 2
-    × Accepts o_ang_line (chars "่อก")
-unfolding compute
-o_ang_word = (demand o_ang_line o_ang_taken).stretches (chars "ก ") (chars "่อก") [] refl (Before.space (chars "ก")) end
-    (free_by (o_ang_by 1) (chars "่อก") refl)
-
--- In the line the word gives what it gives alone, "k"; the whole is "k k"
-pub o_ang-path :
-    joined (keep (within 2 3) (path (tables o_ang_line) (decompositions o_ang_line) (characters o_ang_line)))
-    ≡ chars "k"
-unfolding compute shift
-o_ang-path = ap joined o_ang_word.0.path
 
 pub o_ang-whole : joined (path (tables o_ang_line) (decompositions o_ang_line) (characters o_ang_line)) ≡ chars "k k"
 unfolding compute

@@ -11,17 +11,14 @@ use Rattle.definition.specs.Texts.{Text, the_space, at}
 use Rattle.definition.specs.Tables.{Decomposition, Choices, Lexicon, Tables}
 use Rattle.definition.specs.Edges.{Edge, View, M, ret}
 use Rattle.definition.specs.Expansion.{Work}
-use Rattle.definition.specs.Building.{is_tail, without_plus, as_edge, single, fallback_by, fallback_edge, edge_of, span_edge}
+use Rattle.definition.specs.Building.{is_tail, without_plus, as_edge, single, fallback_by, fallback_edge}
 use Rattle.definition.specs.Decomposing.{stands_for, decomp_text, decomp_edge}
 use Rattle.stretches.specs.Demand.{shift}
-use Rattle.stretches.specs.Given.{Ink, Solid, Fair, FairTables, Stretch, Span}
-use Rattle.stretches.specs.Windows.{Sim, sim_ret-by, sim_ret, sim_pick, sim_maybe, sim_bind}
+use Rattle.stretches.specs.Given.{Ink, Solid, Fair, Stretch}
+use Rattle.stretches.specs.Windows.{Sim, sim_ret-by, sim_pick, sim_bind}
 use Rattle.stretches.specs.Boundaries.{See}
 use Rattle.stretches.specs.Rules.{simple-inside}
-use Rattle.stretches.specs.Syllables.{full-inside}
-use Rattle.stretches.specs.Vowels.{vowel_step-inside}
 use Rattle.stretches.specs.Works.{move, Held}
-use Rattle.stretches.specs.Expansion.{expand-inside}
 
 -- An edge inside the stretch of length `n` from `a` on; of the stretch by itself, from 0 on
 pub record Inside (a n : ℕ) (x : Edge) : Type 0 where
@@ -37,12 +34,12 @@ shift-inside a n x i = omega arith
 abbrev pub Finds : ℕ → ℕ → M (Option Edge) → M (Option Edge) → Type 0
 Finds a n f g = Sim a n (Option Edge) (map (shift a)) (Opt (Inside 0 n)) f g
 
-as_edge-moved : (a : ℕ) (b : Bool) (rom new : Text) (x : Work)
+pub as_edge-moved : (a : ℕ) (b : Bool) (rom new : Text) (x : Work)
     → as_edge b rom new (move a x) ≡ shift a (as_edge b rom new x)
 unfolding as_edge move shift
 as_edge-moved a b rom new x = refl
 
-as_edge-held : (n p : ℕ) (b : Bool) (rom new : Text) (x : Work) → Held n p x → Inside 0 n (as_edge b rom new x)
+pub as_edge-held : (n p : ℕ) (b : Bool) (rom new : Text) (x : Work) → Held n p x → Inside 0 n (as_edge b rom new x)
 unfolding as_edge
 as_edge-held n p b rom new x y = omega arith
 
@@ -54,28 +51,9 @@ single-held : (m p n : ℕ) (w : Text) → p < m → Inside 0 m (single p n w)
 unfolding single
 single-held m p n w l = omega arith
 
-plus_solid : (w : Text) → Solid w → Solid (without_plus w)
+pub plus_solid : (w : Text) → Solid w → Solid (without_plus w)
 unfolding without_plus
 plus_solid w s = pick_all Solid (is_tail w) {x = tail w} {y = w} (All-tail Ink w s) s
-
--- The edge of a span
-module _ {D : Tables} {ds : List Decomposition} (fair : FairTables D ds) {T st : Text} {a : ℕ} (h : Stretch T st a)
-    {W v : View} (g : See D.choices T st a W v) where
-  edge_of-inside : (b : Bool) (rom : Text) {P E p e : ℕ} → Span a (length st) P E p e → e ≤ length st → Solid rom
-      → Sim a (length st) Edge (shift a) (Inside 0 (length st)) (edge_of D T W b rom P E) (edge_of D st v b rom p e)
-  unfolding edge_of
-  edge_of-inside b rom {p = p} z l s =
-      sim_bind _ (vowel_step-inside fair.lexicon h g D.vowels fair.vowels b rom z l s)
-      (λ new q. sim_bind _ (expand-inside fair.lexicon h g new z l q)
-      (λ x y. sim_ret-by _ _ (as_edge-moved a b rom new x) (as_edge-held (length st) p b rom new x y)))
-
-  pub span_edge-inside : {P E p e : ℕ} → Span a (length st) P E p e → e ≤ length st
-      → Finds a (length st) (span_edge D T W P E) (span_edge D st v p e)
-  unfolding span_edge
-  span_edge-inside z l = sim_bind _ (full-inside fair.lexicon h g z l)
-      (λ o q. sim_maybe Solid o q (sim_ret none tt)
-      (λ w s. sim_bind _ (edge_of-inside (is_tail w) (without_plus w) z l (plus_solid w s))
-      (λ x y. sim_ret (some x) y)))
 
 -- The fallback
 module _ {L : Lexicon} (fair : Fair L) {T st : Text} {a : ℕ} (h : Stretch T st a) {c : Choices} {W v : View}

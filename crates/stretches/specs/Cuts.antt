@@ -1,7 +1,7 @@
 -- A text's bytes cut at a space: each part is UTF-8 where the whole is, and the characters are those of the parts.
 use Rattle.std.proofs.Common.{true≢false, sym, ◌∙◌, ap, subst, append-nil, arith, length-drop}
 use Rattle.std.proofs.Math.Bool.{or-true}
-use Rattle.std.specs.Prelude.{◌≡◌, refl, List, [], ◌∷◌, ◌++◌, map, ℕ, zero, suc, ◌+◌, ◌-◌, ◌≤◌, ◌<◌, ltb, length, get_or, drop}
+use Rattle.std.specs.Prelude.{◌≡◌, refl, List, [], ◌∷◌, ◌++◌, map, ℕ, zero, suc, ◌+◌, ◌≤◌, ◌<◌, ltb, length, get_or, drop}
 use Rattle.std.proofs.Math.Option.{Option, none, some}
 use Rattle.std.proofs.Math.Decide.{ℕ_discrete}
 use Rattle.std.proofs.lemmas.List.{drop-append-le}
@@ -152,7 +152,7 @@ pub record Cuts (ws : List (List ℕ)) : Type 0 where
   pub each : All (λ w. bad_sequence w ≡ none) ws
   pub characters : decoded (line_of ws) ≡ line_of (map decoded ws)
 
-cuts-from : (w : List ℕ) (ws : List (List ℕ)) → bad_sequence (w ++ spaced ws) ≡ none → Cuts (w ∷ ws)
+pub cuts-from : (w : List ℕ) (ws : List (List ℕ)) → bad_sequence (w ++ spaced ws) ≡ none → Cuts (w ∷ ws)
 unfolding spaced line_of
 cuts-from w [] e = record {
   each = (subst Right (append-nil w) e, tt);
@@ -165,11 +165,6 @@ cuts-from w (v ∷ vs) e =
       each = (c.left, r.each);
       characters = c.characters ∙ ap (λ t. decoded w ++ the_space ∷ t) r.characters;
     }
-
-pub cuts : (ws : List (List ℕ)) → bad_sequence (line_of ws) ≡ none → Cuts ws
-unfolding line_of
-cuts [] e = record { each = tt; characters = decoded-none [] refl }
-cuts (w ∷ ws) e = cuts-from w ws e
 
 -- Every text is words without a space, joined by single spaces
 pub record Words (s : List ℕ) : Type 0 where

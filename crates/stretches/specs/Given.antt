@@ -1,9 +1,8 @@
 -- What the premises of demand 3 give, in the form that the proof takes.
-use Rattle.std.specs.Prelude.{Bool, true, false, not, ◌&&◌, ◌||◌, ◌≡◌, refl, List, [], ◌∷◌, ◌++◌, ℕ, zero, suc, ◌+◌, ◌≤◌, ◌<◌, eqb, length, get_or}
-use Rattle.std.proofs.Common.{true≢false, sym, ◌∙◌, ap, append_assoc, arith, length-append, get_or-append-add, leb-true, eq-eqb, eqb-true}
+use Rattle.std.specs.Prelude.{Bool, true, false, not, ◌&&◌, ◌||◌, ◌≡◌, refl, List, [], ◌∷◌, ◌++◌, ℕ, suc, ◌+◌, ◌≤◌, ◌<◌, eqb, length}
+use Rattle.std.proofs.Common.{true≢false, sym, ◌∙◌, ap, append_assoc, arith, length-append, leb-true, eq-eqb, eqb-true}
 use Rattle.std.proofs.Math.Option.{Option, none, some}
-use Rattle.std.proofs.Math.Decide.{dec_lt}
-use Rattle.std.proofs.Math.ListN.{get_or-append, get_or-eq_default}
+use Rattle.std.proofs.Math.ListN.{get_or-eq_default}
 use Rattle.std.proofs.Math.Seq.{get_or-append_seam}
 use Rattle.base.specs.Pick.{pick}
 use Rattle.base.specs.Bools.{and_left, and_right}
@@ -14,15 +13,12 @@ use Rattle.definition.specs.Texts.{Text, the_space, at, prev, latin}
 use Rattle.definition.specs.Tables.{Rule, Class, Decomposition, Lexicon, Tables, lexicon, category_other, category_Zs}
 use Rattle.definition.specs.Blocks.{small}
 use Rattle.definition.specs.VowelRows.{vowel_letters, vowel_of, vowel_right}
-use Rattle.definition.specs.ClassRows.{class_right, class_by, class_of, classes_of}
+use Rattle.definition.specs.ClassRows.{class_right, class_by, class_of}
 use Rattle.definition.specs.Classes.{plain, class}
 use Rattle.definition.specs.Decomposing.{stands_for}
-use Rattle.definition.specs.Call.{Inputs, tables_of, tables, decompositions}
 use Rattle.definition.specs.Checked.{class-checked, vowel-checked}
-use Rattle.definition.specs.Accepted.{classes-all, vowels-all, accepted_of}
-use Rattle.definition.specs.Blank.{Blank, blank}
-use Rattle.definition.specs.DecompositionLaws.{space_stands}
-use Rattle.stretches.specs.Demand.{spaceless, spaceless_if, spaceless_rule, Taken, has_row, Before, start, After, end}
+use Rattle.definition.specs.Blank.{Blank}
+use Rattle.stretches.specs.Demand.{spaceless, spaceless_if, spaceless_rule, has_row, Before, start, After, end}
 
 -- No space in a text; in a rule's source and targets
 abbrev pub Ink : ℕ → Type 0
@@ -79,7 +75,7 @@ three_tests x y z e =
     let f = and_left (x && y) z e in
     (and_left x y f, and_right x y f, and_right (x && y) z e)
 
-solid_rule : (r : Rule) → spaceless_rule r ≡ true → SolidRule r
+pub solid_rule : (r : Rule) → spaceless_rule r ≡ true → SolidRule r
 unfolding spaceless_rule
 solid_rule r e =
     let t = three_tests _ _ _ e in
@@ -90,14 +86,14 @@ solid_rule r e =
     }
 
 -- a row for U+0020 says that it is a space, and without a row it is of no category
-abbrev SpaceRow : Class → Type 0
+abbrev pub SpaceRow : Class → Type 0
 SpaceRow k = k.char ≡ the_space → k.category ≡ category_Zs
 
-space_checked : (low : ℕ) (s : List ℕ) → class_right low s ≡ true → SpaceRow (class_of s)
+pub space_checked : (low : ℕ) (s : List ℕ) → class_right low s ≡ true → SpaceRow (class_of s)
 unfolding class_of class_by
 space_checked low s e q = ((class-checked low s e).space q).0
 
-space_row : (ks : List Class) → All SpaceRow ks
+pub space_row : (ks : List Class) → All SpaceRow ks
     → (class ks the_space).category ≡ pick (has_row ks the_space) category_Zs category_other
 unfolding class plain latin pick has_row any
 space_row [] h = refl
@@ -111,25 +107,10 @@ space_row (k ∷ ks) h = go (eqb k.char the_space) refl (space_row ks h.1)
     go false e r = r
 
 -- a vowel's letters are a to z
-solid_vowel : (low : ℕ) (s : List ℕ) → vowel_right low s ≡ true → Solid (vowel_of s).letters
+pub solid_vowel : (low : ℕ) (s : List ℕ) → vowel_right low s ≡ true → Solid (vowel_of s).letters
 unfolding vowel_of small
 solid_vowel low s e = all-all Ink small (λ c q z. let l = leb-true 97 c (and_left _ _ q) in omega arith)
     (vowel_letters s) (vowel-checked low s e).letters
-
-pub fair_tables : (i : Inputs) → Taken i → FairTables (tables i) (decompositions i)
-unfolding tables tables_of decompositions
-fair_tables i t =
-    let a = accepted_of i t.accepted in
-    record {
-      lexicon = record {
-        blank = blank i.classes a.classes;
-        row = space_row (classes_of i.classes) (classes-all SpaceRow space_checked i.classes a.classes);
-        rules = all-all SolidRule spaceless_rule solid_rule (tables i).rules t.no_space;
-      };
-      vowels = vowels-all (λ y. Solid y.letters) solid_vowel i.vowels a.vowels;
-      itself = space_stands i.decompositions a.decompositions;
-      o_ang = a.o_ang;
-    }
 
 -- From here on capital letters are positions of the whole text `T`, small ones of the stretch `st`: `P ≡ a + p`.
 -- The stretch stands in the text from `a` on: up to its end each character, and the one before it, is read alike.
@@ -170,30 +151,10 @@ space_before x r =
     let e : length (x ++ the_space ∷ []) ≡ suc (length x) = omega (arith, length-append x (the_space ∷ [])) in
     rw (append_assoc, e, prev_suc) (get_or-append_seam x the_space r the_space)
 
-at_after : (st : Text) {y : Text} → After y → at (st ++ y) (length st) ≡ the_space
+pub at_after : (st : Text) {y : Text} → After y → at (st ++ y) (length st) ≡ the_space
 at_after st end = at_outside (st ++ []) (length st) (omega (arith, length-append st []))
 at_after st (After.space y) = space_after st y
 
-prev-before : {x : Text} (r : Text) → Before x → prev (x ++ r) (length x) ≡ the_space
+pub prev-before : {x : Text} (r : Text) → Before x → prev (x ++ r) (length x) ≡ the_space
 prev-before r start = prev_zero r
 prev-before r (Before.space x) = space_before x r
-
-pub stretch : (x st y : Text) → Before x → After y → Stretch (x ++ (st ++ y)) st (length x)
-unfolding at
-stretch x st y b c =
-    record { look = look; back = back; room = omega (arith, length-append x (st ++ y), length-append st y) }
-  where
-    look : (P p : ℕ) → P ≡ length x + p → p ≤ length st → at (x ++ (st ++ y)) P ≡ at st p
-    look P p i l = rw (i, get_or-append-add x (st ++ y) p the_space) (go (dec_lt p (length st)))
-      where
-        go : Dec (p < length st) → get_or (st ++ y) p the_space ≡ get_or st p the_space
-        go (yes k) = get_or-append st y the_space p k
-        go (no k) =
-            let e : p ≡ length st = omega arith in
-            rw e (at_after st c ∙ sym (at_outside st (length st) (omega arith)))
-
-    back : (P p : ℕ) → P ≡ length x + p → p ≤ length st → prev (x ++ (st ++ y)) P ≡ prev st p
-    back P zero i l = let e : P ≡ length x = omega arith in rw e (prev-before (st ++ y) b ∙ sym (prev_zero st))
-    back P (suc p) i l =
-        let e : P ≡ suc (length x + p) = omega arith in
-        rw (e, prev_suc (x ++ (st ++ y)) (length x + p), prev_suc st p) (look (length x + p) p refl (omega arith))

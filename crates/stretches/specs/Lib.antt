@@ -18,7 +18,6 @@ pub mod Edges
 pub mod Walks
 pub mod States
 pub mod Elsewhere
-pub mod Lattice
 -- the lists
 pub mod Path
 pub mod Alternatives

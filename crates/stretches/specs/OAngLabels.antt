@@ -2,7 +2,6 @@
 -- character, behind a word that ends in a consonant. (With the choice 0 the theorem does not speak of them: Labels,
 -- `firsts_needed`.)
 use Rattle.std.specs.Prelude.{◌≡◌, refl, List, [], ◌∷◌, map}
-use Rattle.std.proofs.Common.{◌∙◌, ap}
 use Prim.Native.String.{String}
 use Rattle.definition.specs.Texts.{chars}
 use Rattle.definition.specs.Utf8.{encoded}
@@ -10,24 +9,22 @@ use Rattle.definition.specs.Call.{Inputs, called}
 use Rattle.definition.specs.Compute.{compute}
 use Rattle.definition.specs.Sample.{sample_rules, sample_classes, o_ang_by, sample_with}
 use Rattle.stretches.specs.Demand.{spaceless, spaceless_if, spaceless_rule}
-use Rattle.stretches.specs.Driver.{spaced, line_of, WordCall, Line, Spaceless, Firsts, wrote}
-use Rattle.stretches.specs.Driven.{driven}
-use Rattle.stretches.specs.Applied.{free_by}
+use Rattle.stretches.specs.Driver.{spaced, line_of, WordCall, Line, Spaceless, wrote}
 use Rattle.stretches.specs.Labels.{word_call}
 
 -- Calls in mode 0 with document 01's sample tables and the choice 1
 abbrev call : String → Inputs
 call w = sample_with 0 (o_ang_by 1) sample_rules sample_classes "" w
 
-spaceless-call : (w : String) → Spaceless (call w)
+pub spaceless-call : (w : String) → Spaceless (call w)
 unfolding compute spaceless spaceless_if spaceless_rule
 spaceless-call w = refl
 
 -- Two words, for which the promise fails with the choice 0
-abbrev o_ang_label : Inputs
+abbrev pub o_ang_label : Inputs
 o_ang_label = call "ก ่อก"
 
-abbrev o_ang_words : List Inputs
+abbrev pub o_ang_words : List Inputs
 o_ang_words = call "ก" ∷ call "่อก" ∷ []
 
 pub o_ang_label-line : Line o_ang_label o_ang_words
@@ -36,23 +33,15 @@ o_ang_label-line =
     let c : (w : String) → WordCall o_ang_label (call w) = λ w. word_call o_ang_label (encoded (chars w)) in
     record { mode = refl; done = refl; text = refl; calls = (c "ก", (c "่อก", tt)) }
 
-pub o_ang_label_firsts : Firsts o_ang_label o_ang_words
-o_ang_label_firsts = (free_by (o_ang_by 1) _ refl, (free_by (o_ang_by 1) _ refl, tt))
-
-o_ang_outputs : map (λ j. wrote (called j)) o_ang_words ≡ chars "k" ∷ chars "k" ∷ []
+pub o_ang_outputs : map (λ j. wrote (called j)) o_ang_words ≡ chars "k" ∷ chars "k" ∷ []
 unfolding compute wrote
 o_ang_outputs = refl
 
-pub o_ang_label-output : wrote (called o_ang_label) ≡ chars "k k"
-unfolding line_of spaced
-o_ang_label-output = (driven o_ang_label o_ang_words o_ang_label-line (spaceless-call "ก ่อก") o_ang_label_firsts).output
-    ∙ ap line_of o_ang_outputs
-
 -- Three words, two of them such
-abbrev long_label : Inputs
+abbrev pub long_label : Inputs
 long_label = call "ก ่อก ่อก"
 
-abbrev long_words : List Inputs
+abbrev pub long_words : List Inputs
 long_words = call "ก" ∷ call "่อก" ∷ call "่อก" ∷ []
 
 pub long-line : Line long_label long_words
@@ -61,14 +50,6 @@ long-line =
     let c : (w : String) → WordCall long_label (call w) = λ w. word_call long_label (encoded (chars w)) in
     record { mode = refl; done = refl; text = refl; calls = (c "ก", (c "่อก", (c "่อก", tt))) }
 
-pub long_firsts : Firsts long_label long_words
-long_firsts = (free_by (o_ang_by 1) _ refl, (free_by (o_ang_by 1) _ refl, (free_by (o_ang_by 1) _ refl, tt)))
-
-long_outputs : map (λ j. wrote (called j)) long_words ≡ chars "k" ∷ chars "k" ∷ chars "k" ∷ []
+pub long_outputs : map (λ j. wrote (called j)) long_words ≡ chars "k" ∷ chars "k" ∷ chars "k" ∷ []
 unfolding compute wrote
 long_outputs = refl
-
-pub long-output : wrote (called long_label) ≡ chars "k k k"
-unfolding line_of spaced
-long-output = (driven long_label long_words long-line (spaceless-call "ก ่อก ่อก") long_firsts).output
-    ∙ ap line_of long_outputs

@@ -1,10 +1,10 @@
 -- Mode 3's order inside the stretch is that of the stretch, moved.
 use Rattle.std.proofs.Math.Bool.{Bool}
-use Rattle.std.specs.Prelude.{false, ◌≡◌, length}
+use Rattle.std.specs.Prelude.{false, ◌≡◌}
 use Rattle.std.proofs.Math.Path.{refl, sym, ap}
 use Rattle.std.proofs.Common.{◌∙◌}
 use mathlib.Core.List.{List, [], ◌++◌, map, map-append}
-use Prim.Native.Nat.{ℕ, zero, suc, ◌+◌, ◌-◌, ◌≤◌, ◌<◌}
+use Prim.Native.Nat.{ℕ, zero, suc, ◌+◌, ◌≤◌, ◌<◌}
 use native.Mathlib.Omega.{arith}
 use Rattle.std.proofs.Math.Dec.{eqb}
 use borrow.Author.Tests.{ne_eqb}
@@ -12,15 +12,10 @@ use Rattle.base.specs.Lists.{keep}
 use Rattle.base.specs.ListLaws.{keep_append, keep-none, keep-map, keep_swap}
 use Rattle.base.specs.Alls.{All, All-keep, All-each}
 use Rattle.base.specs.Bools.{eqb_alike}
-use Rattle.definition.specs.Texts.{Text}
-use Rattle.definition.specs.Tables.{Decomposition, Tables}
 use Rattle.definition.specs.Edges.{Edge, starting}
-use Rattle.definition.specs.Paths.{longer, sorted, all_edges_of}
-use Rattle.definition.specs.Decomposing.{lattice, all_edges}
-use Rattle.stretches.specs.Demand.{First_if, within, shift}
-use Rattle.stretches.specs.Given.{FairTables, Stretch}
+use Rattle.definition.specs.Paths.{longer, sorted}
+use Rattle.stretches.specs.Demand.{shift}
 use Rattle.stretches.specs.Building.{Inside}
-use Rattle.stretches.specs.Lattice.{lattice-inside}
 
 -- Keeping before ordering, or after it
 longer-keep : (q : Edge → Bool) (es : List Edge) (p k : ℕ) → keep q (longer es p k) ≡ longer (keep q es) p k
@@ -33,7 +28,7 @@ longer-keep q es p (suc k) =
     ∙ ap (λ l. l ++ keep q (longer es p k)) (keep_swap q t (keep f es) ∙ ap (keep t) (keep_swap q f es))
     ∙ ap (λ l. keep t (keep f (keep q es)) ++ l) (longer-keep q es p k)
 
-sorted-keep : (q : Edge → Bool) (es : List Edge) (k p : ℕ) → keep q (sorted es k p) ≡ sorted (keep q es) k p
+pub sorted-keep : (q : Edge → Bool) (es : List Edge) (k p : ℕ) → keep q (sorted es k p) ≡ sorted (keep q es) k p
 unfolding sorted keep
 sorted-keep q es zero p = refl
 sorted-keep q es (suc k) p = keep_append q (longer es p (suc k)) (sorted es k (p + 1))
@@ -113,7 +108,7 @@ module _ (a n : ℕ) (es : List Edge) (full : All (Inside 0 n) es) where
       (sorted-inside k j K (P + 1) (p + 1) (omega arith) (omega arith) (omega arith))
       ∙ sym (map-append (shift a) (longer es p (suc k)) (sorted es k (p + 1)))
 
-  sorted_toward : (d j P : ℕ) → P + d ≡ a → sorted (moved a es) (d + (j + n)) P ≡ map (shift a) (sorted es n 0)
+  pub sorted_toward : (d j P : ℕ) → P + d ≡ a → sorted (moved a es) (d + (j + n)) P ≡ map (shift a) (sorted es n 0)
   unfolding sorted
   sorted_toward zero j P e =
       let z : 0 + (j + n) ≡ j + n = omega arith in
@@ -123,16 +118,3 @@ module _ (a n : ℕ) (es : List Edge) (full : All (Inside 0 n) es) where
       rw z (ap (λ l. l ++ sorted (moved a es) (d + (j + n)) (P + 1))
       (longer-none (moved a es) P (suc (d + (j + n))) (starting_early P (omega arith)))
       ∙ sorted_toward d j (P + 1) (omega arith))
-
-pub all_edges-inside : {D : Tables} {ds : List Decomposition} → FairTables D ds → {T st : Text} {a : ℕ}
-    → Stretch T st a → First_if D.choices st
-    → keep (within a (length st)) (all_edges D ds T) ≡ map (shift a) (all_edges D ds st)
-unfolding all_edges all_edges_of
-all_edges-inside {D} {ds} fair {T} {st} {a} h first =
-    let r = (lattice-inside fair h first).edges in
-    let j = length T - (a + length st) in
-    let e : length T ≡ a + (j + length st) = omega arith in
-    sorted-keep (within a (length st)) (lattice D ds T).0 (length T) 0
-    ∙ ap (λ es. sorted es (length T) 0) r.cut
-    ∙ ap (λ k. sorted (map (shift a) (lattice D ds st).0) k 0) e
-    ∙ sorted_toward a (length st) (lattice D ds st).0 r.full a j 0 (omega arith)

@@ -1,5 +1,5 @@
 -- The path inside the stretch is the path of the stretch, moved.
-use Rattle.std.specs.Prelude.{Bool, ◌≡◌, eqb, length}
+use Rattle.std.specs.Prelude.{Bool, ◌≡◌, eqb}
 use Rattle.std.proofs.Math.Path.{refl}
 use Rattle.std.proofs.Common.{sym, ◌∙◌, ap, arith, eqb-true}
 use mathlib.Core.List.{List, [], ◌∷◌, map}
@@ -9,17 +9,11 @@ use Prim.Native.Nat.{ℕ, zero, suc, ◌+◌, ◌≤◌, ◌<◌}
 use Rattle.std.proofs.Math.Decide.{dec_lt, ℕ_discrete}
 use Rattle.base.specs.Lists.{keep}
 use Rattle.base.specs.Alls.{All, All-map, Opt, All-best, All-kept}
-use Rattle.definition.specs.Texts.{Text}
-use Rattle.definition.specs.Tables.{Decomposition, Tables}
 use Rattle.definition.specs.Edges.{Edge, starting, right_best}
-use Rattle.definition.specs.Paths.{join, next, path_from, path_of}
-use Rattle.definition.specs.Decomposing.{lattice, path}
-use Rattle.definition.specs.Alternatives.{path_sound}
-use Rattle.stretches.specs.Demand.{First_if, within, shift}
-use Rattle.stretches.specs.Given.{FairTables, Stretch}
+use Rattle.definition.specs.Paths.{join, next, path_from}
+use Rattle.stretches.specs.Demand.{within, shift}
 use Rattle.stretches.specs.Building.{Inside, shift-inside}
 use Rattle.stretches.specs.Edges.{left, right, Clear, inside, outside, clear_goes, within-inside, within_outside, Same, right_best-inside}
-use Rattle.stretches.specs.Lattice.{lattice-inside}
 
 -- the longest edge that starts at `p` does
 right_best-is : (P : Edge → Type 0) (es : List Edge) (p : ℕ) → All P es
@@ -81,7 +75,7 @@ module _ {a n : ℕ} {ES es : List Edge} (h : Same a n ES es) where
       go (no d) f = beyond (suc K) P (omega arith) ∙ ap (map (shift a)) (sym (ended (suc k) p (omega arith)))
 
   -- From the text's start it comes to the stretch's start: no edge reaches over that
-  toward : (K P : ℕ) → P ≤ a → a + n ≤ P + K
+  pub toward : (K P : ℕ) → P ≤ a → a + n ≤ P + K
       → keep (within a n) (path_from K P ES) ≡ map (shift a) (path_from n 0 es)
   unfolding path_from keep
   toward zero P l m = along zero n P 0 (omega arith) (omega arith) (omega arith) (omega arith)
@@ -100,16 +94,3 @@ module _ {a n : ℕ} {ES es : List Edge} (h : Same a n ES es) where
       go : Dec (P ≡ a) → Rest → keep (within a n) (path_from (suc K) P ES) ≡ map (shift a) (path_from n 0 es)
       go (yes e) f = along (suc K) n P 0 (omega arith) (omega arith) (omega arith) (omega arith)
       go (no e) f = step (right_best ES P) (right_best-is (Clear a n) ES P h.clear) f (omega arith)
-
--- As edges of both
-pub path_inside : {D : Tables} {ds : List Decomposition} → FairTables D ds → {T st : Text} {a : ℕ} → Stretch T st a
-    → First_if D.choices st
-    → Same a (length st) (path D ds T) (path D ds st)
-unfolding path path_of
-path_inside {D} {ds} fair {T} {st} {a} h first =
-    let r = (lattice-inside fair h first).edges in
-    record {
-      cut = toward r (length T) 0 (omega arith) (omega arith);
-      clear = path_sound (Clear a (length st)) (length T) 0 (lattice D ds T).0 r.clear;
-      full = path_sound (Inside 0 (length st)) (length st) 0 (lattice D ds st).0 r.full;
-    }

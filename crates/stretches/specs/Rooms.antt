@@ -19,7 +19,7 @@ use Rattle.definition.specs.Tables.{Decomposition, Tables}
 use Rattle.definition.specs.Edges.{Edge}
 use Rattle.definition.specs.Capacity.{bytes, misfit, placed_at, inner_edges, before_edge, overflow}
 use Rattle.definition.specs.Growth.{all_bytes}
-use Rattle.definition.specs.Decomposed.{overflow-parts, parts-overflow}
+use Rattle.definition.proofs.Decomposed.{overflow-parts, parts-overflow}
 use Rattle.stretches.specs.Demand.{shift}
 
 -- What is something where a test fails: where it is nothing, the test has held

@@ -26,11 +26,13 @@ use Rattle.stretches.specs.Windows.{window, window_zero}
 use Rattle.stretches.specs.Texts.{space_at_end, space_before-start, left-part, right_part}
 use Rattle.stretches.specs.Boundaries.{See}
 use Rattle.stretches.specs.Rules.{prefix_inside}
-use Rattle.stretches.specs.Building.{Inside, span_edge-inside, fallback_inside, decomp_inside, decomp_held}
+use Rattle.stretches.specs.Building.{Inside, fallback_inside, decomp_inside, decomp_held}
+use Rattle.stretches.proofs.Building.{span_edge-inside}
 use Rattle.stretches.specs.Edges.{Outside, left, right, covered-inside, Same, add-inside}
 use Rattle.stretches.specs.Walks.{see_edges}
 use Rattle.stretches.specs.States.{Rel, rel_pick, put_in-inside, rel_outside, pass}
-use Rattle.stretches.specs.Elsewhere.{Near, Stays, start_stays, fall_stays, start_space, fallback_space}
+use Rattle.stretches.specs.Elsewhere.{Near, Stays, start_space, fallback_space}
+use Rattle.stretches.proofs.Elsewhere.{start_stays, fall_stays}
 
 -- Steps inside the stretch
 module _ {D : Tables} {ds : List Decomposition} (fair : FairTables D ds) {T st : Text} {a : ℕ}

@@ -1,0 +1,17 @@
+pub mod Alternatives
+pub mod Applied
+pub mod Building
+pub mod Cuts
+pub mod Driven
+pub mod Elsewhere
+pub mod Expansion
+pub mod Given
+pub mod Labels
+pub mod Lattice
+pub mod OAngLabels
+pub mod Order
+pub mod Path
+pub mod Proved
+pub mod Spaces
+pub mod Strings
+pub mod Thai
