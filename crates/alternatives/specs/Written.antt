@@ -7,7 +7,8 @@ use Rattle.definition.specs.Edges.{Edge}
 use Rattle.definition.specs.Paths.{reads, path_from}
 use Rattle.definition.specs.Recalled.{Recalls}
 use Rattle.definition.specs.Bounds.{Sound}
-use Rattle.definition.specs.Offers.{news, found_all}
+use Rattle.definition.specs.Offers.{news}
+use Rattle.definition.specs.Offers.{found_all}
 use Rattle.edge.specs.declared.Numbers.{Numbers}
 use Rattle.edge.specs.declared.BestEdge.{BestEdge}
 use Rattle.edge.specs.Slots.{edge_by, edges_of}

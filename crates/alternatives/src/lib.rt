@@ -1,6 +1,8 @@
 // Alternatives (paths.rs, `add_alternatives`), written one behind the other where they fit, or counted: what the rules of
 // each edge of the path offer, where its text is new. They take no slot. Text room that is free keeps a filter of what
 // was offered, so that most texts are known as new without asking the rows before again.
+#![tactic(auto)]
+
 ghost use Rattle.std.specs.Prelude.{not, true, [], ◌∷◌, ◌++◌, ◌≡◌, ◌+◌, ◌≤◌, ◌<◌, take, drop};
 ghost use Rattle.base.specs.Lists.{put, any, same};
 ghost use Rattle.base.specs.Alls.{All};
@@ -31,7 +33,7 @@ const FEW_ROWS: usize = 8;
 const ROW_CELLS: usize = 256;
 
 // Where a listing stands, and how many edges there are and how much text room they take.
-#[derive(Drop)]
+#[derive(Clone, Copy)]
 pub struct Listed {
     pub at: usize,
     pub count: usize,

@@ -1,5 +1,7 @@
 // Bytes and big-endian numbers of lent slices. Past the end a byte is 0, as the definition reads it, so that no reader
 // has to ask for the length.
+#![tactic(auto)]
+
 ghost use Rattle.std.specs.Prelude.{◌≡◌, ◌+◌, ◌<◌, length, get_or, drop};
 ghost use Rattle.base.specs.Big.{offset_limit, be2, be3, be4};
 ghost use Rattle.base.specs.Bits.{flagged};

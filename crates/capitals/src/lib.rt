@@ -1,5 +1,7 @@
 // When the capitalizing step of the expansion acts (romanize.rs), as the Python has it: over one character before a
 // lower-case one, on a romanization in upper case. What it does is `rom::make_small`.
+#![tactic(auto)]
+
 ghost use Rattle.std.specs.Prelude.{◌≡◌, ◌+◌, ◌/◌, ◌<◌, ◌≤◌, length};
 ghost use Rattle.base.specs.Bits.{flagged};
 ghost use Rattle.definition.specs.Expansion.{upper_case, capitalizes};

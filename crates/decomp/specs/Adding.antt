@@ -9,7 +9,7 @@ use Rattle.definition.specs.Texts.{Text, last_is}
 use Rattle.definition.specs.Tables.{Class}
 use Rattle.definition.specs.Classes.{alpha}
 use Rattle.definition.specs.Utf8.{decoded}
-use Rattle.definition.specs.Roundtrip.{decoded-encoded}
+use Rattle.definition.proofs.Roundtrip.{decoded-encoded}
 use Rattle.definition.specs.Edges.{Edge, State, add}
 use Rattle.definition.specs.Building.{single}
 use Rattle.utf8.specs.Encodings.{TextBytes, encoded-bytes}

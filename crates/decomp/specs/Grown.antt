@@ -16,7 +16,7 @@ use Rattle.definition.specs.Refusals.{Refusal, refuse, refused_slots, refused_ro
 use Rattle.definition.specs.Capacity.{misfit, before_edge, overflow}
 use Rattle.definition.specs.DecompositionRows.{decompositions_of}
 use Rattle.definition.specs.Growth.{all_bytes, misfit-after}
-use Rattle.definition.specs.Decomposed.{overflow-after, overflow-ruled}
+use Rattle.definition.proofs.Decomposed.{overflow-after, overflow-ruled}
 use Rattle.definition.specs.Call.{tables_of}
 use Rattle.edge.specs.declared.Filled.{Filled}
 use Rattle.noting.specs.Keeps.{Keeps}

@@ -1,5 +1,7 @@
 // The edge of a character that stands for others (`decomp_rom`): the engine runs a second time, on the row's characters as a
 // line of their own, in the free parts of slots and room. These are free again when its text is told.
+#![tactic(auto)]
+
 ghost use Rattle.std.specs.Prelude.{◌≡◌, List, ℕ, ◌+◌, ◌<◌, ◌≤◌, length, drop};
 ghost use Rattle.definition.specs.Limits.{most_bytes};
 ghost use Rattle.definition.specs.Texts.{prev};
@@ -35,7 +37,7 @@ const NO_ROOM: u8 = 10;
 const NUMBER: u32 = 4;
 
 // What was read of a row: its text; or what it lacks, slots or room, by the refusal's number. 0 is nothing.
-#[derive(Drop)]
+#[derive(Clone, Copy)]
 pub struct RowText {
     pub spelling: Spelling,
     pub lack: u8,
@@ -43,7 +45,7 @@ pub struct RowText {
 
 // What a start did: how many edges there are now and how much room they take; or the edge, with its start, that found no
 // slot, or a slot but not enough room, or whose text would be too long.
-#[derive(Drop)]
+#[derive(Clone, Copy)]
 pub enum Grew {
     Fits { count: usize, used: usize },
     NoSlot(usize),

@@ -1,4 +1,6 @@
 // The characters of a decomposition row as a text of their own: as a line with their classes, and as bytes.
+#![tactic(auto)]
+
 ghost use Rattle.std.specs.Prelude.{◌++◌, ◌≡◌, ◌+◌, ◌*◌, ◌<◌, ◌≤◌, length, take, drop};
 ghost use Rattle.definition.specs.Limits.{most_into};
 ghost use Rattle.definition.specs.Utf8.{encode, encoded};

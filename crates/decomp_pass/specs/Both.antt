@@ -11,8 +11,9 @@ use Rattle.definition.specs.Decomposing.{start, lattice}
 use Rattle.definition.specs.Refusals.{Refusal}
 use Rattle.definition.specs.Capacity.{misfit, overflow}
 use Rattle.definition.specs.Growth.{Added, each-added, each-grown, fall-grown}
-use Rattle.definition.specs.Bounds.{Bounded, Ruled, fall-ruled}
-use Rattle.definition.specs.Decomposed.{overflow-grown}
+use Rattle.definition.specs.Bounds.{Bounded, Ruled}
+use Rattle.definition.proofs.Bounds.{fall-ruled}
+use Rattle.definition.proofs.Decomposed.{overflow-grown}
 use Rattle.edge.specs.declared.Added.TheVariants as added
 use Rattle.passes.specs.Reached.{Reached}
 use Rattle.decomp.specs.declared.Grew.TheVariants.{Fits}

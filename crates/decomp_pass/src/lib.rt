@@ -1,5 +1,7 @@
 // The first pass of building the lattice (romanize.rs), where characters may stand for others: from each start the edges of
 // its spans, then the edge of its character. The first edge that finds no slot or no room, or is too long, ends it.
+#![tactic(auto)]
+
 ghost use Rattle.words.specs.Given.{size_in, line_in};
 ghost use Rattle.decomp_pass.specs.Passes.{PassReady, Passes, Begins};
 

@@ -1,5 +1,7 @@
 // What a character reads that stands for others (`decomp_rom`): the string of their lattice's path, a number's with slashes
 // and parted from the numbers beside it.
+#![tactic(auto)]
+
 ghost use Rattle.std.specs.Prelude.{false, List, [], ◌++◌, ◌≡◌, ℕ, ◌<◌, length, drop};
 ghost use Rattle.base.specs.Pick.{pick};
 ghost use Rattle.definition.specs.Limits.{most_bytes};
@@ -30,7 +32,7 @@ const FRACTION_SLASH: u32 = 0x2044;
 
 // Of a text that grows in an array: how many bytes it has, whether it ends in a letter or mark, and whether it is too long. Of
 // one that is, only this is told.
-#[derive(Drop)]
+#[derive(Clone, Copy)]
 pub struct Spelling {
     pub len: usize,
     pub letter: bool,
@@ -38,7 +40,7 @@ pub struct Spelling {
 }
 
 // Is a character a number, and are those before and after it?
-#[derive(Drop)]
+#[derive(Clone, Copy)]
 pub struct Beside {
     pub number: bool,
     pub before: bool,

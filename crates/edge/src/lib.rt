@@ -1,4 +1,6 @@
 // Edges in lent slots, their texts in lent text room (edge.rs, lattice/mod.rs): reading and adding them.
+#![tactic(auto)]
+
 ghost use Rattle.std.specs.Prelude.{◌≡◌, false, ◌&&◌, ◌+◌, ◌≤◌, ◌<◌, eqb, length, drop};
 ghost use Rattle.definition.specs.Limits.{slot_bytes};
 ghost use Rattle.definition.specs.Edges.{alike};
@@ -64,7 +66,7 @@ const NOTE: usize = 10;
 const CORE_LEN: usize = 11;
 
 // An edge without its text: start, end, annotation and core length.
-#[derive(Drop)]
+#[derive(Clone, Copy)]
 pub struct Numbers {
     pub from: usize,
     pub to: usize,
@@ -74,7 +76,7 @@ pub struct Numbers {
 
 // How many edges there are and how much room they take; and how many of the first can't equal a new one, since they all
 // start elsewhere: it is compared only with those behind them.
-#[derive(Drop)]
+#[derive(Clone, Copy)]
 pub struct Filled {
     pub count: usize,
     pub used: usize,
@@ -83,7 +85,7 @@ pub struct Filled {
 
 // What adding an edge did: how many edges there are now and how much room they take; or the edge, with its start, found
 // no slot, or a slot but not enough room.
-#[derive(Drop)]
+#[derive(Clone, Copy)]
 pub enum Added {
     Fits { count: usize, used: usize },
     NoSlot(usize),
@@ -91,7 +93,7 @@ pub enum Added {
 }
 
 // The slot of an edge, where there is one.
-#[derive(Drop)]
+#[derive(Clone, Copy)]
 pub enum BestEdge {
     At(usize),
     Nothing,

@@ -1,6 +1,8 @@
 // What is asked of the edges so far, kept by position: `places` has an entry for each of 0 to n, so that a question is
 // one read. Adding an edge notes it at its end and, over one character, at its start; and a start of word is remembered
 // here. The layout of an entry is in specs/Entry.
+#![tactic(auto)]
+
 ghost use Rattle.std.specs.Prelude.{◌≡◌, ◌<◌, ◌-◌, length, get_or};
 ghost use Rattle.base.specs.Bits.{bit};
 ghost use Rattle.base.specs.Pick.{pick};
@@ -10,7 +12,7 @@ ghost use Rattle.edge_places.specs.Behind.{spoken_in, step_in};
 
 // How the text of an edge ends: in a letter or mark; in a consonant, w and y not counted; in one beside which O ang is
 // spoken; and whether it is empty.
-#[derive(Drop)]
+#[derive(Clone, Copy)]
 pub struct Ending {
     pub letter: bool,
     pub closed: bool,

@@ -1,5 +1,5 @@
 -- The chosen form beside the romanization: how long it is, and whether only vowels were added, which needs no comparison.
-use Rattle.std.specs.Prelude.{ℕ, ◌+◌, ◌-◌, ◌<◌, ◌≤◌, Bool, not, ◌&&◌, ◌≡◌, take}
+use Rattle.std.specs.Prelude.{ℕ, ◌+◌, ◌<◌, ◌≤◌, Bool, not, ◌&&◌, ◌≡◌, take}
 use mathlib.Core.List.{[], ◌++◌, append-nil}
 use Rattle.std.proofs.Math.Bool.{true, false, and-false}
 use Rattle.std.proofs.Math.Path.{refl, ap}

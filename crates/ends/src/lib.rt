@@ -1,4 +1,6 @@
 // What the vowel step asks of a romanization's bytes: where its two patterns lie, as positions, and the form chosen by them.
+#![tactic(auto)]
+
 ghost use Rattle.std.specs.Prelude.{◌≡◌, [], ◌∷◌, ◌+◌, ◌≤◌, eqb, length, take};
 ghost use Rattle.std.proofs.Math.Seq.{slice};
 ghost use Rattle.base.specs.Lists.{any};
@@ -12,7 +14,7 @@ ghost use Rattle.ends.specs.Shown.{Within, unmatched, shown, form_means};
 
 // The three forms as positions: the romanization is the first `rom` bytes, the base stands from `from` to `to`, the
 // base with its vowel from `from` to `end`; where `add`, the script's vowel comes behind it.
-#[derive(Drop)]
+#[derive(Clone, Copy)]
 pub struct Forms {
     pub rom: usize,
     pub from: usize,
@@ -22,7 +24,7 @@ pub struct Forms {
 }
 
 // One of the three forms of a romanization.
-#[derive(Drop)]
+#[derive(Clone, Copy)]
 pub enum Which {
     Rom,
     Base,

@@ -1,4 +1,6 @@
 // The expansion (`expand_rom_with_special_chars`): its steps in the file's order.
+#![tactic(auto)]
+
 ghost use Rattle.std.specs.Prelude.{true, ◌∷◌, ◌++◌, ◌≡◌, ◌+◌, ◌<◌, ◌≤◌, length, take};
 ghost use Rattle.base.specs.Lists.{has, is};
 ghost use Rattle.definition.specs.Limits.{most_bytes, most_target, most_vowel};
@@ -398,12 +400,22 @@ pub fn expand_rom_with_special_chars(
     ensures { Answers rules.now ready.now code.now line.now places.old places.new
         (λ L t v. expand L t v (choices_of choices) (text r) span.from span.to) (work_of result) × Clean result.rom }
 {
-    let mut bytes = r.bytes;
+    let mut rom = r;
+    let n = rom.len;
     let g = all_steps(
-        choices, rules, ready, code, line, places, &mut bytes, r.len, span,
+        choices,
+        rules,
+        ready,
+        code,
+        line,
+        places,
+        &mut rom.bytes,
+        n,
+        span,
     );
+    rom.len = g.len;
     Work {
-        rom: Rom { bytes, len: g.len },
+        rom,
         from: g.from,
         to: g.to,
         note: g.note,

@@ -9,8 +9,9 @@ use Rattle.definition.specs.Limits.{most_characters, most_bytes}
 use Rattle.definition.specs.Texts.{Text}
 use Rattle.definition.specs.Edges.{View, Mem}
 use Rattle.definition.specs.Shorts.{Short}
-use Rattle.definition.specs.Bounds.{Bounded, Sound, Spelt}
-use Rattle.definition.specs.Bounds as bounds
+use Rattle.definition.specs.Bounds.{Bounded, Sound}
+use Rattle.definition.specs.Bounds.{Spelt}
+use Rattle.definition.proofs.Bounds as bounds
 use Rattle.definition.specs.Near.{Near}
 use Rattle.definition.specs.Near as nearness
 use Rattle.definition.specs.Building.{span_edge}

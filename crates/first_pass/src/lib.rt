@@ -1,5 +1,7 @@
 // The first pass of building the lattice (romanize.rs, lattice/mod.rs): from each start the edges of its spans. The first
 // edge that finds no slot or no room ends it.
+#![tactic(auto)]
+
 ghost use Rattle.std.specs.Prelude.{◌≡◌, ◌+◌, ◌*◌, ltb, ◌||◌};
 ghost use Rattle.definition.specs.Limits.{most_source, most_bytes};
 ghost use Rattle.definition.specs.Building.{build};
@@ -132,7 +134,7 @@ fn add_from(
 }
 
 // A stretch of starts, and how many edges there are and how much room they take when the search comes to it.
-#[derive(Drop)]
+#[derive(Clone, Copy)]
 pub struct Stretch {
     pub count: usize,
     pub used: usize,

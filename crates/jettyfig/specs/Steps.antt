@@ -33,7 +33,6 @@ use Rattle.decomp_pass.specs.Passes.{Begins}
 use Rattle.output.specs.declared.Built.{Built}
 use Rattle.jettyfig.specs.declared.Asked.{Asked}
 use Rattle.jettyfig.specs.declared.SetUp.{SetUp}
-use Rattle.jettyfig.specs.declared.SetUp.TheVariants as SetUp
 use Rattle.jettyfig.specs.Verdicts.{given}
 
 -- characters of a short text, at most

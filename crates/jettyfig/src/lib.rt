@@ -1,5 +1,7 @@
 // The call: a text romanized by four lent tables and a language code, in lent slots and text room, into a lent output; or
 // one numbered refusal. Nothing is assumed of what is lent.
+#![tactic(auto)]
+
 ghost use Rattle.std.specs.Prelude.{List, ◌≡◌, ℕ, ◌+◌, ◌*◌, ◌≤◌, length, take, replicate};
 ghost use Rattle.std.proofs.Math.Option.{none};
 ghost use Rattle.definition.specs.Limits.{most_characters};
@@ -91,7 +93,7 @@ const REFUSED_OUTPUT: u64 = 11;
 
 // What a call returns: 0, the output's length and the number of edges; or a refusal's number and its place.
 #[repr(C)]
-#[derive(Drop)]
+#[derive(Clone, Copy)]
 pub struct Answer {
     pub number: u64,
     pub place: u64,
@@ -100,7 +102,7 @@ pub struct Answer {
 }
 
 // What a call is asked besides tables and text: its mode, and its choices.
-#[derive(Drop)]
+#[derive(Clone, Copy)]
 pub struct Asked {
     pub mode: u32,
     pub capitals: u32,
@@ -109,14 +111,14 @@ pub struct Asked {
 }
 
 // What was found of the tables and the code: nothing, or a refusal.
-#[derive(Drop)]
+#[derive(Clone, Copy)]
 pub enum Verdict {
     Accepted,
     Refused(u64, u64),
 }
 
 // What was found of the text too: all is ready for so many characters, or a refusal.
-#[derive(Drop)]
+#[derive(Clone, Copy)]
 pub enum SetUp {
     Ready(usize),
     Refused(u64, u64),
@@ -174,6 +176,7 @@ fn check_code(code: &[u8]) -> Verdict
 }
 
 // What is refused of mode and choices, in this order.
+#[tactic(auto, using(crate::proofs::Told::mode_refused))]
 fn check_asked(asked: Asked) -> Verdict
     ensures { verdict_means result ≡ by_asked asked.mode (chosen asked) }
 {
@@ -656,6 +659,7 @@ fn respond_long<'a>(
 
 // The whole call, but for clearing the rooms, in arrays that the text needs. Its characters are counted only where its bytes don't
 // tell enough of them.
+#[tactic(auto, using(crate::proofs::Told::few_decoded, crate::proofs::Told::length_of_zeros))]
 fn respond<'a>(
     asked: Asked,
     rules: &'a [u8],

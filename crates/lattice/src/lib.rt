@@ -1,5 +1,7 @@
 // Building the lattice (romanize.rs, lattice/mod.rs): from each start the edges of its spans, then a fallback for each
 // character that no edge covers. The first edge that finds no slot or no room ends it.
+#![tactic(auto)]
+
 ghost use Rattle.second_pass.specs.Starts.{Standing};
 ghost use Rattle.lattice.specs.Lattice.{Lattice, Buildable};
 

@@ -1,4 +1,6 @@
 // Lent bytes: a text put at a place, a part, two parts compared, and clearing.
+#![tactic(auto)]
+
 ghost use Rattle.std.specs.Prelude.{◌≡◌, ◌++◌, ◌+◌, ◌-◌, ◌≤◌, length, take, drop, replicate};
 ghost use Rattle.base.specs.Lists.{same};
 ghost use Rattle.lent_bytes.specs.Puts.{put_at};

@@ -1,5 +1,5 @@
 -- A string as output: the texts of some edges, each put behind those before it.
-use Rattle.std.specs.Prelude.{ℕ, ◌+◌, List, [], ◌∷◌, ◌++◌, ◌≡◌, length}
+use Rattle.std.specs.Prelude.{ℕ, List, [], ◌∷◌, ◌++◌, ◌≡◌, length}
 use Rattle.std.proofs.Common.{append_assoc, append-nil, sym, ap, ◌∙◌, arith}
 use Rattle.definition.specs.Utf8.{encoded}
 use Rattle.definition.specs.Edges.{Edge}

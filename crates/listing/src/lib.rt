@@ -1,4 +1,6 @@
 // The bytes of an output: a listing's header and its rows, or the texts of a string.
+#![tactic(auto)]
+
 ghost use Rattle.std.specs.Prelude.{◌≡◌, ◌∷◌, ◌+◌, ◌≤◌, length, drop};
 ghost use Rattle.base.specs.Big.{four};
 ghost use Rattle.definition.specs.Utf8.{encoded};

@@ -1,5 +1,7 @@
 // A filter of texts in lent bytes, a cell each: a text that was marked has three cells at 1, so one that has a cell at 0
 // was never marked. Without cells every text may have been. A text's cells come from one hash of it.
+#![tactic(auto)]
+
 ghost use Rattle.std.specs.Prelude.{◌≡◌, false, List, [], ◌∷◌, ◌++◌, ◌/◌, ◌%◌, ◌<◌, eqb, length, get_or, set};
 ghost use Rattle.base.specs.Lists.{any, same};
 ghost use Rattle.definition.specs.Texts.{Text};

@@ -1,4 +1,6 @@
 // `add_edge` with places: the one writer of what they tell of edges.
+#![tactic(auto)]
+
 ghost use Rattle.std.specs.Prelude.{◌≡◌, List, ◌<◌, length};
 ghost use Rattle.definition.specs.Texts.{last_is};
 ghost use Rattle.definition.specs.Utf8.{decoded};
@@ -27,6 +29,7 @@ pub fn ending_of(text: &[u8], letter: bool) -> Ending
 }
 
 // `add_edge`: one more edge, unless one equal to it is there; where one was added, places note it.
+#[tactic(auto, using(crate::proofs::Added::noted_where_more, crate::proofs::Added::same_where_none_more))]
 pub fn add_edge(
     slots: &mut [u8],
     room: &mut [u8],

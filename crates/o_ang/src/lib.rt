@@ -1,5 +1,7 @@
 // O ang: whether the Thai letter U+0E2D is silent (romanize.rs). It is unless it stands between consonants, and for the one
 // before it the edges are walked back over what is silent too.
+#![tactic(auto)]
+
 ghost use Rattle.std.specs.Prelude.{◌&&◌, [], ◌∷◌, ◌≡◌, ◌≤◌, eqb, ltb};
 ghost use Rattle.base.specs.Lists.{is};
 ghost use Rattle.definition.specs.Texts.{Text, last_is, at, prev};

@@ -110,6 +110,11 @@ at_target o k h z l = go o.reading refl
 unfoldable pub offering : Rule → Bool
 offering r = has r.end_target || ltb 0 (length r.others)
 
+picked : (c : Bool) → pick {A = List Edge} c [] [] ≡ []
+unfolding pick
+picked true = refl
+picked false = refl
+
 pub offers-none : (b : Bool) (x : Edge) (r : Rule) → offering r ≡ false → offers b x r ≡ []
 unfolding offering
 offers-none b x r e = go r.target refl
@@ -127,10 +132,6 @@ offers-none b x r e = go r.target refl
         not_some : (l : List Text) → length l ≤ 0 → l ≡ []
         not_some [] h = refl
         not_some (u ∷ l) h = absurd (omega arith)
-
-    picked : (c : Bool) → pick {A = List Edge} c [] [] ≡ []
-    picked true = unfold pick in refl
-    picked false = unfold pick in refl
 
     by_target : (w : Text) → target_offers x r w ≡ []
     by_target w = unfold target_offers in

@@ -1,5 +1,7 @@
 // What rules offer as alternatives of an edge (paths.rs, `add_alternatives`), and whether a text was offered before.
 // Nothing is kept of what was found: whether an alternative is new is asked again of the rows before it.
+#![tactic(auto)]
+
 ghost use Rattle.std.specs.Prelude.{Bool, ◌&&◌, ◌++◌, ◌≡◌, ◌≤◌, ◌<◌, length, take, drop};
 ghost use Rattle.base.specs.Lists.{any, has, is, same};
 ghost use Rattle.definition.specs.Limits.{most_alternative};
@@ -24,7 +26,7 @@ pub const MOST_OFFER: usize = 204;
 
 // What was asked of an edge's span: is it at a start of word, at an end of word, and which row of the rule table is its
 // first? And are end-of-syllable readings chosen?
-#[derive(Drop)]
+#[derive(Clone, Copy)]
 pub struct Asked {
     pub start: bool,
     pub end: bool,
@@ -34,7 +36,7 @@ pub struct Asked {
 
 // What a row offers for an edge: how many of its alternatives, with the edge's vowel behind them or not; its end-of-syllable
 // target, as a reading, where its target was taken; and its target where its end-of-syllable target was.
-#[derive(Drop)]
+#[derive(Clone, Copy)]
 pub struct Offers {
     pub others: usize,
     pub cored: bool,

@@ -13,7 +13,8 @@ use Rattle.definition.specs.Tables.{Tables, lexicon}
 use Rattle.definition.specs.Utf8.{encoded}
 use Rattle.definition.specs.Edges.{Edge, Mem, State, view}
 use Rattle.definition.specs.Paths.{joined, reads, path_from, sorted, path_of, with_alternatives_of, all_edges_of}
-use Rattle.definition.specs.Offers.{found_all, alternatives_are}
+use Rattle.definition.specs.Offers.{found_all}
+use Rattle.definition.proofs.Offers.{alternatives_are}
 use Rattle.definition.specs.Bounds.{Sound, sound_formed}
 use Rattle.definition.specs.Listing.{edge_rows, block, listing, shown}
 use Rattle.lent_bytes.specs.Puts.{put_at, put-from, put-length}

@@ -1,5 +1,7 @@
 // What a call shows of a built lattice, by its mode: the path's string, or a listing of edges. It is written where it
 // fits; how much it needs is told in any case.
+#![tactic(auto)]
+
 ghost use Rattle.std.specs.Prelude.{◌∷◌, ◌≡◌, ◌-◌, ◌≤◌, leb, length};
 ghost use Rattle.base.specs.Pick.{pick};
 ghost use Rattle.base.specs.Big.{four};
@@ -9,7 +11,7 @@ ghost use Rattle.output.specs.Whole.{Whole, RowsPut, ShownPut};
 use alternatives::Listed;
 
 // What is shown of a lattice: its mode; and how many edges it has, and how much text room they take.
-#[derive(Drop)]
+#[derive(Clone, Copy)]
 pub struct Built {
     pub mode: u8,
     pub count: usize,

@@ -1,4 +1,6 @@
 // What both passes of building the lattice (romanize.rs, lattice/mod.rs) share.
+#![tactic(auto)]
+
 ghost use Rattle.std.specs.Prelude.{◌≡◌};
 ghost use Rattle.passes.specs.Endings.{last_letter};
 

@@ -1,5 +1,7 @@
 // The path and all edges in order (paths.rs), written one behind the other where they fit, or counted. The edges of a
 // start are looked for only where they may stand (crate standing): in its stretch of the slots, and as its fallback.
+#![tactic(auto)]
+
 ghost use Rattle.std.specs.Prelude.{◌≡◌, true, List, [], ◌∷◌, ℕ, ◌+◌, ◌-◌, ◌*◌, ◌≤◌, ◌<◌, length, drop};
 ghost use Rattle.definition.specs.Limits.{most_characters, most_edges, slot_bytes};
 ghost use Rattle.definition.specs.Paths.{next, path_from, longer, sorted};

@@ -1,5 +1,7 @@
 // Is a text left as it is? For most spans neither the vowel step nor the expansion does anything: their script has no vowel of its
 // own, and nothing stands around them that the expansion asks for. `false` is no answer: the step is to be asked then.
+#![tactic(auto)]
+
 ghost use Rattle.std.specs.Prelude.{true, false, ◌≡◌, ◌<◌, ◌≤◌, length, take};
 ghost use Rattle.std.proofs.Math.Option.{none};
 ghost use Rattle.definition.specs.VowelRows.{vowels_of};

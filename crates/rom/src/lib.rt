@@ -1,4 +1,6 @@
 // A growing romanization, questions about lent bytes, and sets of small letters.
+#![tactic(auto)]
+
 ghost use Rattle.std.specs.Prelude.{◌≡◌, ◌++◌, ◌∷◌, ◌+◌, ◌<◌, ◌≤◌, length, take, get_or};
 ghost use Rattle.std.proofs.Math.Seq.{slice};
 ghost use Rattle.base.specs.Lists.{any, all, starts};
@@ -33,7 +35,7 @@ pub const PLUS_BEFORE: u32 = 0x23040;
 pub const MOST_BYTES: usize = 606;
 
 // The text is the first `len` bytes; zeros stand behind it.
-#[derive(Drop)]
+#[derive(Clone, Copy)]
 pub struct Rom {
     pub bytes: [u8; MOST_BYTES],
     pub len: usize,
@@ -147,6 +149,7 @@ pub fn starts_with(s: &[u8], w: &[u8]) -> bool
 }
 
 // Is a character in a set?
+#[tactic(auto, using(crate::proofs::Past::past_z))]
 pub fn is_in(set: u32, c: u32) -> bool
     ensures { result ≡ member set c }
 {

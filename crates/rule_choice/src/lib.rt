@@ -1,4 +1,6 @@
 // Choosing a rule (rules.rs).
+#![tactic(auto)]
+
 ghost use Rattle.std.specs.Prelude.{◌≡◌, ◌||◌, List, ℕ, ◌<◌, ◌≤◌, drop};
 ghost use Rattle.base.specs.Pick.{pick};
 ghost use Rattle.base.specs.Lists.{has, bind};
@@ -16,14 +18,14 @@ ghost use Rattle.rule_choice.specs.Chosen.{choice_means, Rowed, chosen_means, Sa
 use words::{Look, Span};
 
 // The row of the rule that wins a span, if there is one.
-#[derive(Drop)]
+#[derive(Clone, Copy)]
 pub enum Choice {
     Matched(usize),
     Nothing,
 }
 
 // The stretch of the rule table that a search answers: the target of a row, its end-of-syllable target, or none.
-#[derive(Drop)]
+#[derive(Clone, Copy)]
 pub enum Chosen {
     Target(usize),
     EndTarget(usize),
@@ -166,6 +168,7 @@ pub fn holds(rules: &[u8], code: &[u8], row: usize, start: bool, end: bool) -> b
 
 // Is the rule in a row valid for a span? The start of a word is asked only where a flag asks it, but then also under a
 // foreign language code: it is remembered.
+#[tactic(auto, using(crate::proofs::Asking::valid_where_asked, crate::proofs::Asking::valid_where_none_asked))]
 pub fn cand_is_valid(
     rules: &[u8],
     ready: &[u32],

@@ -1,11 +1,13 @@
 // What the faults of a rule table are called. Every program that tells of one says it by these words.
+#![tactic(auto)]
+
 ghost use Rattle.std.specs.Prelude.{◌≡◌};
 ghost use Rattle.rule_fault_words.specs.Called.{fault_words};
 
 use rule_row_faults::Fault;
 
 // Words: `len` bytes of them, and blanks behind these.
-#[derive(Drop)]
+#[derive(Clone, Copy)]
 pub struct Words {
     pub bytes: [u8; 48],
     pub len: usize,

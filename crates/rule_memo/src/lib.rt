@@ -1,6 +1,8 @@
 // What the rule table has of single characters, looked up once. Most spans are one character, and a text has each of its
 // characters again and again: behind the index 256 places keep what a look-up told, each that of the character that was
 // put there last of those with the same lowest eight bits. A character that is not there is looked up.
+#![tactic(auto)]
+
 ghost use Rattle.std.proofs.Math.Option.{none};
 ghost use Rattle.std.specs.Prelude.{◌≡◌, ◌+◌, ◌*◌, ◌%◌, ◌<◌, ◌≤◌, length, take, drop, replicate};
 ghost use Rattle.definition.specs.RuleFaults.{rule_fault};
@@ -68,6 +70,7 @@ fn fits(c: u32, found: Found) -> bool
 }
 
 // The note of a character.
+#[tactic(auto, using(crate::proofs::Notes::note_longer, crate::proofs::Notes::note_last))]
 fn note_of(c: u32, found: Found) -> u32
     requires { (c < character_limit) × (found.count < count_limit) }
     ensures { result ≡ note_of c found }

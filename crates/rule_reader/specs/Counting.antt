@@ -17,7 +17,8 @@ use Rattle.definition.specs.RuleRows.{rule_size, rule_source, rule_right}
 use Rattle.definition.specs.RuleFaults.{row_fault, rule_fault}
 use Rattle.definition.specs.Checking.{walk_at, halted}
 use Rattle.definition.specs.Checked.{rule-checked}
-use Rattle.definition.specs.RuleTurns.{rule_moves, row_tells, rules_from, rules-begun, rules_unheaded, rules-done, rules-onward}
+use Rattle.definition.specs.RuleTurns.{rule_moves, rules_from}
+use Rattle.definition.proofs.RuleTurns.{row_tells, rules-begun, rules_unheaded, rules-done, rules-onward}
 use Rattle.rule_reader.specs.Rows.{next_row, past_rows, rights, right_rows}
 use Rattle.rule_reader.specs.Here.{right-next, right-inside}
 

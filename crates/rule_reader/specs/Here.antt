@@ -9,7 +9,7 @@ use Rattle.definition.specs.Refusals.{refuse}
 use Rattle.definition.specs.RuleRows.{rule_size, rule_right, source_count, target_at, end_target_at, others_at}
 use Rattle.definition.specs.Checked.{rule-checked}
 use Rattle.definition.specs.RuleFields.{next, read_row}
-use Rattle.definition.specs.FieldsWithin.{ends}
+use Rattle.definition.proofs.FieldsWithin.{ends}
 use Rattle.definition.specs.RuleTurns.{rule_moves}
 use Rattle.rule_row_faults.specs.Kinds.{fault_number}
 use Rattle.rule_row_faults.specs.Row.{row_means, Parted}

@@ -20,9 +20,10 @@ use Rattle.definition.specs.BlockTurns.{Chain, ended, linked}
 use Rattle.definition.specs.RuleRows.{rule_size, rule_source, rule_right, rule_of, rules_of}
 use Rattle.definition.specs.RuleFaults.{rule_fault}
 use Rattle.definition.specs.Checking.{from, started, over, next, spent, wrong}
-use Rattle.definition.specs.Accepted.{rules-chain}
+use Rattle.definition.proofs.Accepted.{rules-chain}
 use Rattle.definition.specs.RuleTurns.{rule_moves}
-use Rattle.definition.specs.FaultLaws.{first_row, fault_placed}
+use Rattle.definition.specs.FaultLaws.{first_row}
+use Rattle.definition.proofs.FaultLaws.{fault_placed}
 use Rattle.rule_reader.specs.Rows.{next_row, past_rows, rights, right_rows}
 use Rattle.rule_reader.specs.Here.{right-next, right-inside}
 use Rattle.rule_reader.specs.Counting.{by_first, rights-none, rights-wrong, rights-over, right_some, no_table}

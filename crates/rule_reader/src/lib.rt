@@ -3,6 +3,8 @@
 // A function over such a reader is proved by a walk of its code by hand. So each is thin: what decides anything is a function
 // over the plain table and offset (`row_at`, `next_at`, `left_at`). `start`, `read_at` and `step_from` make the reader
 // inside, so that whoever calls them, as `walk_rules` does, needs no walk.
+#![tactic(auto)]
+
 ghost use Rattle.std.specs.Prelude.{◌≡◌, ◌-◌, length};
 ghost use Rattle.definition.specs.Blocks.{head_bytes};
 ghost use Rattle.definition.specs.RuleFaults.{rule_fault};
@@ -21,14 +23,14 @@ const FIRST: u32 = 0;
 const LATER: u32 = 1;
 
 // A rule table, and the offset of a row.
-#[derive(Drop)]
+#[derive(Clone, Copy)]
 pub struct RuleReader<'a> {
     pub table: &'a [u8],
     pub at: usize,
 }
 
 // What stands at a reader's offset: a row's parts, its first fault with the offset in the table, or the table's end.
-#[derive(Drop)]
+#[derive(Clone, Copy)]
 pub enum RowHere {
     Row(RowParts),
     Wrong(Fault, usize),
@@ -37,7 +39,7 @@ pub enum RowHere {
 
 // What the walk over a table finds: how many rows are right one after another, where the row behind them stands, and what is
 // wrong with it, if anything. A faulty header is a fault before any row.
-#[derive(Drop)]
+#[derive(Clone, Copy)]
 pub struct Walked {
     pub rows: usize,
     pub at: usize,

@@ -1,4 +1,6 @@
 // One row of the rule table (dicts/model.rs): its fields and its texts.
+#![tactic(auto)]
+
 ghost use Rattle.std.specs.Prelude.{◌≡◌, true, ◌+◌, ◌<◌, ◌≤◌, ltb, length, get_or, drop, []};
 ghost use Rattle.base.specs.Big.{offset_limit};
 ghost use Rattle.definition.specs.RuleRows.{rises, rule_size, rule_flag, rule_count, rule_source, source_count};

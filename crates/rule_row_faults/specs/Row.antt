@@ -3,7 +3,8 @@ use Rattle.std.specs.Prelude.{◌≡◌, List, ℕ, ◌+◌, ◌≤◌, length, 
 use Rattle.std.proofs.Common.{sym, ap, ◌∙◌, arith, length-drop}
 use Rattle.definition.specs.RuleRows.{source_count, target_at, end_target_at, others_at}
 use Rattle.definition.specs.RuleFields.{Cursor, next, wrong, read_row}
-use Rattle.definition.specs.FieldsWithin.{place, field-inside}
+use Rattle.definition.specs.FieldsWithin.{place}
+use Rattle.definition.proofs.FieldsWithin.{field-inside}
 use Rattle.rule_row_faults.specs.declared.Fault.{Fault}
 use Rattle.rule_row_faults.specs.declared.RowRead.{RowRead}
 use Rattle.rule_row_faults.specs.declared.RowRead.TheVariants.{Parts, Wrong}

@@ -1,4 +1,6 @@
 // A row of the rule table read field by field (dicts/model.rs): its parts, or the first field that is faulty.
+#![tactic(auto)]
+
 ghost use Rattle.std.specs.Prelude.{◌≡◌, true, ◌&&◌, ◌+◌, ◌<◌, ◌≤◌, leb, length, drop, get_or};
 ghost use Rattle.definition.specs.Refusals.{refused_range};
 ghost use Rattle.definition.specs.RuleRows.{printable, source_count};
@@ -21,7 +23,7 @@ const ZERO_BIT: u32 = 7;
 
 // What is wrong with a rule table: its header or a length, a flag or count out of its range, a character of a source or a
 // language code, a byte of a target text, the order of rows, or too many rows. The last two are no row's by itself.
-#[derive(Drop)]
+#[derive(Clone, Copy)]
 pub enum Fault {
     Length,
     Range,
@@ -45,7 +47,7 @@ pub const REFUSED_ORDER: u64 = 24;
 pub const REFUSED_ROWS: u64 = 25;
 
 // The fields that come several at a time: characters of a source, language codes, bytes of a text.
-#[derive(Drop)]
+#[derive(Clone, Copy)]
 pub enum Kind {
     Character,
     Code,
@@ -54,7 +56,7 @@ pub enum Kind {
 
 // The parts of a row: its size, the characters of its source, and where its target, the one for the end of a syllable and its
 // alternatives begin, each in the row.
-#[derive(Drop)]
+#[derive(Clone, Copy)]
 pub struct RowParts {
     pub size: usize,
     pub source: usize,
@@ -64,14 +66,14 @@ pub struct RowParts {
 }
 
 // What is read of a row: its parts, or the first fault and its field's offset in the row.
-#[derive(Drop)]
+#[derive(Clone, Copy)]
 pub enum RowRead {
     Parts(RowParts),
     Wrong(Fault, usize),
 }
 
 // Where the next field of a row begins, or the first fault and its field's offset in the row.
-#[derive(Drop)]
+#[derive(Clone, Copy)]
 pub enum Cursor {
     Next(usize),
     Wrong(Fault, usize),

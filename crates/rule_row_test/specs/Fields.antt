@@ -16,8 +16,8 @@ use Rattle.definition.specs.Utf8.{scalar}
 use Rattle.definition.specs.Blocks.{small}
 use Rattle.definition.specs.RuleRows.{codes_count_from, codes_from, codes_right_from, end_target_from, end_target_right_from, fits_from, others_from, target_from, target_right_from}
 use Rattle.definition.specs.RuleRows.{text_size, text_right, texts_size, texts_right, rule_size, rule_flag, target_bit, end_target_bit}
-use Rattle.definition.specs.RuleRows.{source_count, codes_at, codes_count, target_at, past_text, end_target_at, others_at, others_end, others_right}
-use Rattle.definition.specs.RuleRows.{three_at, code_of, rule_source, rule_codes, rises, rule_fits, source_right, codes_right, target_right, end_target_right}
+use Rattle.definition.specs.RuleRows.{source_count, codes_at, codes_count, target_at, past_text, others_at, others_end, others_right}
+use Rattle.definition.specs.RuleRows.{three_at, code_of, rule_source, rule_codes, rises, source_right, codes_right, target_right, end_target_right}
 use Rattle.definition.specs.RuleRows.{rule_right}
 use Rattle.definition.specs.Checked.{RuleChecked, rule-checked}
 use Rattle.definition.specs.Places.{Placed, rule_placed}

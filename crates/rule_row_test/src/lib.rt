@@ -1,5 +1,7 @@
 // Whether the fields of a rule row are right: yes or no, each field found by the end of the one before it, with no word on
 // what is wrong. Where all bytes of a field are known to lie in the table, none of them is asked for its place.
+#![tactic(auto)]
+
 ghost use Rattle.std.specs.Prelude.{◌≡◌, [], ◌+◌, ◌-◌, ◌*◌, ◌/◌, ◌<◌, ◌≤◌, length, get_or, take, drop};
 ghost use Rattle.base.specs.Lists.{all};
 ghost use Rattle.base.specs.Rows.{counted};

@@ -12,7 +12,7 @@ use Rattle.definition.specs.RuleRows.{rises, rule_size, rule_source, rule_right,
 use Rattle.definition.specs.RuleFaults.{rule_fault}
 use Rattle.definition.specs.BlockTurns.{Chain, ended, linked, chain_ordered}
 use Rattle.definition.specs.Checked.{rule-checked}
-use Rattle.definition.specs.Accepted.{rules-chain}
+use Rattle.definition.proofs.Accepted.{rules-chain}
 use Rattle.definition.specs.RuleTurns.{rule_moves}
 use Rattle.definition.specs.Places.{Placed, rule_placed}
 use Rattle.definition.specs.Risen.{rises_trans}

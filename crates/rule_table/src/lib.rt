@@ -1,4 +1,6 @@
 // The rule table as a whole (dicts/mod.rs): its sparse index, and the door to its rows. Its check is in crates/rule_table_check.
+#![tactic(auto)]
+
 ghost use Rattle.std.specs.Prelude.{◌≡◌, ◌+◌, ◌<◌, ◌≤◌, length, get_or, drop};
 ghost use Rattle.definition.specs.RuleRows.{rule_source, rules_of};
 ghost use Rattle.rule_table.specs.Order.{compared, First};
@@ -14,7 +16,7 @@ const INDEX_STEP: usize = 16;
 pub const INDEX_ENTRIES: usize = 512;
 
 // How a source stands to what is looked for.
-#[derive(Drop)]
+#[derive(Clone, Copy)]
 pub enum Order {
     Below,
     Equal,
@@ -23,7 +25,7 @@ pub enum Order {
 
 // What the table has of a text: the rows with this source, where the first is and how many; and whether a longer source
 // starts with it.
-#[derive(Drop)]
+#[derive(Clone, Copy)]
 pub struct Found {
     pub first: usize,
     pub count: usize,

@@ -1,5 +1,5 @@
 -- The mark that a row's order is asked of: the source before it, or none before the first.
-use Rattle.std.specs.Prelude.{Bool, ◌&&◌, ◌≡◌, ℕ, zero, suc, ◌+◌, ◌-◌, ◌<◌, ◌≤◌, eqb, length, drop}
+use Rattle.std.specs.Prelude.{Bool, ◌&&◌, ◌≡◌, ℕ, zero, suc, ◌+◌, ◌<◌, ◌≤◌, eqb, length, drop}
 use Rattle.std.proofs.Math.Bool.{true, false}
 use Rattle.std.proofs.Math.Path.{refl, sym}
 use Rattle.std.proofs.Common.{ap, ◌∙◌, subst, arith, length-drop, lt-ltb, ne_eqb}
@@ -13,7 +13,8 @@ use Rattle.definition.specs.Checked.{rule-checked}
 use Rattle.definition.specs.Places.{rule_placed}
 use Rattle.definition.specs.There.{three-there}
 use Rattle.definition.specs.RuleFields.{read_row}
-use Rattle.definition.specs.FieldsRight.{rightly, row_rightly}
+use Rattle.definition.specs.FieldsRight.{rightly}
+use Rattle.definition.proofs.FieldsRight.{row_rightly}
 
 unfoldable pub mark_of : List ℕ → ℕ → Bool → Text
 mark_of b old first = pick first [] (rule_source (drop old b))

@@ -16,7 +16,7 @@ use Rattle.definition.specs.Utf8.{scalar}
 use Rattle.definition.specs.RuleRows.{codes_count_from, codes_from, codes_right_from, end_target_from, end_target_right_from, fits_from, others_from, target_from, target_right_from}
 use Rattle.definition.specs.RuleRows.{printable, text_size, text_of, text_right, texts_size, texts_right, rule_size, rule_flag, zero_bit, target_bit}
 use Rattle.definition.specs.RuleRows.{end_target_bit, source_count, codes_at, codes_count, target_at, past_text, end_target_at, others_at, others_end, others_right}
-use Rattle.definition.specs.RuleRows.{rule_source, rule_codes, rule_fits, source_right, codes_right, target_right, end_target_right, rule_right}
+use Rattle.definition.specs.RuleRows.{rule_source, rule_fits, source_right, codes_right, target_right, end_target_right, rule_right}
 use Rattle.rule_table_check.specs.Marks.{Rising, Past, past-right}
 use Rattle.table_blocks.specs.Held.{held}
 use Rattle.definition.specs.There.{three-there, byte_there}

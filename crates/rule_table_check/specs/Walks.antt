@@ -1,9 +1,9 @@
 -- A walk over rows that has come to a row: what is left of it finds the fault that the whole finds.
-use Rattle.std.specs.Prelude.{Bool, ◌≡◌, List, [], drop, leb}
+use Rattle.std.specs.Prelude.{Bool, ◌≡◌, List, drop, leb}
 use Rattle.std.proofs.Math.Bool.{true, false}
 use Rattle.std.proofs.Common.{true≢false, sym, ◌∙◌, arith}
 use Rattle.std.proofs.Math.Path.{refl, ap}
-use Rattle.std.proofs.Math.Option.{Option, none, some}
+use Rattle.std.proofs.Math.Option.{Option}
 use Prim.Native.Nat.{ℕ, zero, suc, ◌+◌, ◌-◌, ◌<◌, ◌≤◌}
 use Rattle.std.proofs.Math.ListN.{length}
 use borrow.Author.Tests.{eq-eqb, ne_eqb, lt-ltb, le-ltb, leb-true, leb-false}
@@ -20,7 +20,8 @@ use Rattle.definition.specs.Blocks.{Walk, version_1, headed}
 use Rattle.definition.specs.BlockTurns.{fine}
 use Rattle.definition.specs.FieldsRight.{rightly}
 use Rattle.definition.specs.Checking.{walk_at}
-use Rattle.definition.specs.RuleTurns.{fine-by, rules_from, rules-begun, rules-done, rules-onward, rules_halted}
+use Rattle.definition.specs.RuleTurns.{rules_from}
+use Rattle.definition.proofs.RuleTurns.{fine-by, rules-begun, rules-done, rules-onward, rules_halted}
 use Rattle.rule_table_check.specs.Told.{told_of, stopped_at}
 use Rattle.rule_table_check.specs.Marks.{mark_at, no_mark, Rising, mark-after, rising_after, Past}
 

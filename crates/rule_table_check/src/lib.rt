@@ -1,4 +1,6 @@
 // The check of the rule table: what is wrong with it first and where, or nothing.
+#![tactic(auto)]
+
 ghost use Rattle.std.specs.Prelude.{◌≡◌, not, ◌<◌, ◌≤◌, eqb, length, drop};
 ghost use Rattle.base.specs.Lists.{or_else};
 ghost use Rattle.definition.specs.RuleRows.{rule_source, rises, rule_right};
@@ -14,7 +16,7 @@ ghost use Rattle.rule_table_check.specs.Plain.{Plain};
 use rule_row_faults::{Fault, RowRead};
 
 // What the check finds: nothing, or a fault and its offset in the table.
-#[derive(Drop)]
+#[derive(Clone, Copy)]
 pub enum RulesRead {
     Valid,
     Wrong(Fault, usize),
@@ -104,7 +106,7 @@ fn row_past(rules: &[u8], row: usize, old: usize, low: u32) -> usize
 
 // Where the check of a rule table stands: at a row, with as many rows left, after the row at `old`. From `low` on a first
 // character rises; 0 tells the first row.
-#[derive(Drop)]
+#[derive(Clone, Copy)]
 pub struct Walk {
     pub at: usize,
     pub left: u32,

@@ -15,7 +15,7 @@ use Rattle.definition.specs.Limits.{most_characters, most_target}
 use Rattle.definition.specs.Notes.{note_none, note_single, note_Mn, note_Cf, note_Co, note_Zs, note_orig}
 use Rattle.definition.specs.Texts.{Text, the_space, at}
 use Rattle.definition.specs.Utf8.{encode, encoded, decoded, scalar}
-use Rattle.definition.specs.Roundtrip.{decoded-encoded}
+use Rattle.definition.proofs.Roundtrip.{decoded-encoded}
 use Rattle.definition.specs.Tables.{Lexicon, category_Mn, category_Cf, category_Co, category_Zs}
 use Rattle.definition.specs.Classes.{class}
 use Rattle.definition.specs.Shorts.{Low, Short, short-wide, short-tail, encode-length}

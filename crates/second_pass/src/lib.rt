@@ -1,5 +1,7 @@
 // The second pass of building the lattice (romanize.rs, lattice/mod.rs): a fallback for each character that no edge
 // covers. The first that finds no slot or no room ends it.
+#![tactic(auto)]
+
 ghost use Rattle.std.specs.Prelude.{◌≡◌, List, ℕ, ◌+◌, ◌<◌};
 ghost use Rattle.base.specs.Pick.{pick};
 ghost use Rattle.base.specs.Lists.{has};
@@ -19,7 +21,7 @@ use rule_choice::Chosen;
 use words::Span;
 
 // A position of the text, and where its bytes begin.
-#[derive(Drop)]
+#[derive(Clone, Copy)]
 pub struct Here {
     pub p: usize,
     pub at: usize,

@@ -1,5 +1,7 @@
 // The edge of a span (`add_romanization`): what full search answers, through vowel step and expansion; and the text of
 // a fallback (`get_fallback_rom_and_annot`), a part of the rule table or of the text itself.
+#![tactic(auto)]
+
 ghost use Rattle.std.specs.Prelude.{List, ◌++◌, ◌≡◌, ℕ, ◌+◌, ◌<◌, ◌≤◌, length, take, drop, replicate};
 ghost use Rattle.definition.specs.Limits.{most_bytes, most_target, most_vowel};
 ghost use Rattle.definition.specs.Texts.{Text};
@@ -30,7 +32,7 @@ const PLUS: u32 = 43;
 const LETTER_N: u32 = 110;
 
 // The edge of a span, where there is one: its text is the first `len` bytes of an array that is lent.
-#[derive(Drop)]
+#[derive(Clone, Copy)]
 pub struct Spanned {
     pub there: bool,
     pub numbers: Numbers,

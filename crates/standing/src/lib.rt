@@ -3,6 +3,8 @@
 // how many edges there were when the search began there, and which fallback it got; and in its last entry, that of the
 // text's end, how many edges the first pass has made. Then the edges of a start stand in a short stretch of the slots,
 // and its fallback is known.
+#![tactic(auto)]
+
 ghost use Rattle.std.specs.Prelude.{◌≡◌, List, ℕ, ◌+◌, ◌-◌, ◌*◌, ◌≤◌, ◌<◌, length, get_or, drop, set};
 ghost use Rattle.base.specs.Lists.{best};
 ghost use Rattle.definition.specs.Limits.{slot_bytes};
@@ -19,7 +21,7 @@ use edge::BestEdge;
 const BEGUN: u32 = 131072;
 
 // Some edges by number, from `first` to before `end`.
-#[derive(Drop)]
+#[derive(Clone, Copy)]
 pub struct Stretch {
     pub first: usize,
     pub end: usize,

@@ -1,4 +1,6 @@
 // Steps of the expansion (`expand_rom_with_special_chars`) that ask the text and the rule table alone: they remember nothing.
+#![tactic(auto)]
+
 ghost use Rattle.std.specs.Prelude.{true, ◌∷◌, ◌++◌, reverse, ◌≡◌, ℕ, ◌+◌, ◌-◌, ◌/◌, ◌%◌, ◌<◌, ◌≤◌, take};
 ghost use Rattle.base.specs.Bits.{flagged};
 ghost use Rattle.base.specs.Lists.{has};
@@ -32,7 +34,7 @@ const SPACE: u32 = 0x20;
 const LONG_MARK: u32 = 0x30FC;
 
 // What the expansion makes: a romanization, its span, and its annotation, 0 while nothing was expanded.
-#[derive(Drop)]
+#[derive(Clone, Copy)]
 pub struct Work {
     pub rom: Rom,
     pub from: usize,
@@ -41,7 +43,7 @@ pub struct Work {
 }
 
 // The same while the steps are at it: the romanization is the first `len` bytes of one array, which is lent to each step.
-#[derive(Drop)]
+#[derive(Clone, Copy)]
 pub struct Growing {
     pub len: usize,
     pub from: usize,
@@ -50,7 +52,7 @@ pub struct Growing {
 }
 
 // What came of a try: all as it was where it was not done.
-#[derive(Drop)]
+#[derive(Clone, Copy)]
 pub struct Tried {
     pub growing: Growing,
     pub done: bool,

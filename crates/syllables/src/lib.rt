@@ -1,4 +1,6 @@
 // End of syllable (word_boundaries.rs), and the full search that asks it (rules.rs).
+#![tactic(auto)]
+
 ghost use Rattle.std.specs.Prelude.{◌≡◌, ◌+◌, ◌/◌, ◌≤◌, length};
 ghost use Rattle.base.specs.Pick.{pick};
 ghost use Rattle.base.specs.Bits.{flagged};

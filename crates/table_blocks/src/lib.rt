@@ -1,4 +1,6 @@
 // What the three tables share: the answer of a check, the block's header, and tests of a character or a letter.
+#![tactic(auto)]
+
 ghost use Rattle.std.specs.Prelude.{◌≡◌, ◌-◌, ◌≤◌, length, take, drop};
 ghost use Rattle.base.specs.Lists.{all};
 ghost use Rattle.definition.specs.Texts.{latin};
@@ -14,7 +16,7 @@ const VERSION_1: u32 = 1;
 pub const MOST_ROWS: u32 = 8192;
 
 // A table is valid, or has its first fault at this row's offset (0 for the header).
-#[derive(Drop)]
+#[derive(Clone, Copy)]
 pub enum TableRead {
     Valid,
     Fault(usize),

@@ -1,5 +1,5 @@
 -- What the answers of this crate's functions say, in the definition's terms.
-use Rattle.std.specs.Prelude.{ℕ, zero, suc, ◌+◌, ◌-◌, ◌*◌, ◌≤◌, ◌<◌, List, [], ◌∷◌, map, ◌≡◌}
+use Rattle.std.specs.Prelude.{ℕ, zero, suc, ◌+◌, ◌*◌, ◌≤◌, ◌<◌, List, [], ◌∷◌, map, ◌≡◌}
 use Rattle.std.proofs.Math.Option.{none}
 use Rattle.base.specs.Bits.{bit}
 use Rattle.definition.specs.Limits.{most_script, ascii_characters}

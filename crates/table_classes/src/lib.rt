@@ -1,4 +1,6 @@
 // The class table (dicts/model.rs, dicts/mod.rs): its check, and what it says of a character.
+#![tactic(auto)]
+
 ghost use Rattle.std.specs.Prelude.{◌≡◌, ◌++◌, ◌+◌, ◌*◌, ◌/◌, ◌%◌, ◌≤◌, ◌<◌, length, drop, get_or, take};
 ghost use Rattle.base.specs.Bits.{bit, flagged};
 ghost use Rattle.definition.specs.ClassRows.{class_fits, space_right, latin_right, class_right};
@@ -48,7 +50,7 @@ pub const PRE: u32 = 6;
 
 pub const LOWERCASE: u32 = 7;
 
-#[derive(Drop)]
+#[derive(Clone, Copy)]
 pub struct ClassRow {
     pub category: u32,
     pub script: u32,
@@ -56,7 +58,7 @@ pub struct ClassRow {
 }
 
 // A character's row, if it has one.
-#[derive(Drop)]
+#[derive(Clone, Copy)]
 pub enum ClassOf {
     Row(ClassRow),
     Absent,
@@ -140,7 +142,7 @@ fn plain_class(classes: &[u8], row: usize, low: u32) -> u32
 }
 
 // Where the check of a class table stands: at a row, with as many rows left, characters from `low` on to come.
-#[derive(Drop)]
+#[derive(Clone, Copy)]
 pub struct Walk {
     pub at: usize,
     pub left: u32,

@@ -1,4 +1,6 @@
 // The decomposition table: its check, its index, and the row of a character.
+#![tactic(auto)]
+
 ghost use Rattle.std.specs.Prelude.{◌≡◌, ◌-◌, ◌<◌, ◌≤◌, length, get_or, take, drop, replicate};
 ghost use Rattle.base.specs.Lists.{any};
 ghost use Rattle.definition.specs.Limits.{most_rows};
@@ -308,7 +310,7 @@ pub fn check_decompositions(table: &[u8], index: &mut [u32]) -> TableRead
 
 // Characters side by side, the first and the last of them, none of which gives an edge. Where the last is below the first there
 // are none.
-#[derive(Drop)]
+#[derive(Clone, Copy)]
 struct Gap {
     first: u32,
     last: u32,

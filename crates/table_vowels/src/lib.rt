@@ -1,4 +1,6 @@
 // The vowel table (dicts/model.rs, dicts/mod.rs): its check, and the vowel of a script.
+#![tactic(auto)]
+
 ghost use Rattle.std.specs.Prelude.{◌≡◌, ◌+◌, ◌-◌, ◌≤◌, length, take, drop};
 ghost use Rattle.definition.specs.VowelRows.{vowel_size, vowel_fits, letters_right, vowel_right};
 ghost use Rattle.definition.specs.VowelRows.{vowel_fault, vowels_of};
@@ -9,14 +11,14 @@ ghost use Rattle.table_vowels.specs.Told.{FineVowels, vowel_means, Lettered};
 use table_blocks::TableRead;
 
 // The row of a script: its type, and where in the table its letters stand.
-#[derive(Drop)]
+#[derive(Clone, Copy)]
 pub struct VowelRow {
     pub ao: bool,
     pub from: usize,
     pub to: usize,
 }
 
-#[derive(Drop)]
+#[derive(Clone, Copy)]
 pub enum VowelOf {
     Row(VowelRow),
     Absent,

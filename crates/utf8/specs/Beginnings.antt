@@ -1,6 +1,6 @@
 -- Bytes that continue no character, as many as characters begin at most.
 use Rattle.std.specs.Prelude.{Bool, true, false, ◌&&◌, List, [], ◌∷◌, ◌≡◌, refl, ℕ, zero, suc, ◌+◌, ◌-◌, ◌≤◌, ◌<◌, eqb, leb, ltb, length, get_or, drop}
-use Rattle.std.proofs.Common.{sym, ap, ◌∙◌, arith, add-one, eq-eqb, ltb-true, leb-true, le-ltb}
+use Rattle.std.proofs.Common.{ap, ◌∙◌, arith, eq-eqb, leb-true, le-ltb}
 use Rattle.base.specs.Pick.{pick}
 use Rattle.base.specs.Bools.{and_left, and_right}
 use Rattle.definition.specs.Texts.{Text}

@@ -14,7 +14,8 @@ use Rattle.base.specs.ListLaws.{same_refl, same_true}
 use Rattle.base.specs.Alls.{All, All-map, All-right}
 use Rattle.definition.specs.Texts.{Text, last_is, without_last}
 use Rattle.definition.specs.Utf8.{char, scalar, six, read, decoded, encode, encoded}
-use Rattle.definition.specs.Roundtrip.{read-encode, decoded-encoded, encoded-append}
+use Rattle.definition.specs.Roundtrip.{encoded-append}
+use Rattle.definition.proofs.Roundtrip.{read-encode, decoded-encoded}
 use Rattle.definition.specs.Shorts.{Low, encoded-low}
 use Rattle.utf8.specs.Sixes.{six_low, six-own, six_high}
 

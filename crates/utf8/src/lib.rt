@@ -1,4 +1,6 @@
 // UTF-8 by RFC 3629: a text's bytes as characters, and a character's bytes.
+#![tactic(auto)]
+
 ghost use Rattle.std.specs.Prelude.{◌≡◌, ℕ, ◌+◌, ◌-◌, ◌<◌, ◌≤◌, length, take, drop, set};
 ghost use Rattle.definition.specs.Utf8.{six, read, decoded, encode, sequence, checked};
 ghost use Rattle.definition.specs.Texts.{left_out};
@@ -15,27 +17,27 @@ pub const MOST_CHARACTERS: usize = 4096;
 pub const LINE_SPACES: usize = 3;
 
 // What the first sequence of some bytes is.
-#[derive(Drop)]
+#[derive(Clone, Copy)]
 pub enum CharRead {
     Char { value: u32, size: usize },
     Bad,
 }
 
 // How many characters a text has, or the offset of its first bad sequence.
-#[derive(Drop)]
+#[derive(Clone, Copy)]
 pub enum Decoded {
     Characters(usize),
     Bad(usize),
 }
 
-#[derive(Drop)]
+#[derive(Clone, Copy)]
 pub enum Found {
     At(usize),
     Nothing,
 }
 
 // A text as a call takes it: its number of characters, or the refusal with its place.
-#[derive(Drop)]
+#[derive(Clone, Copy)]
 pub enum TextRead {
     Characters(usize),
     NotUtf8(usize),
@@ -44,7 +46,7 @@ pub enum TextRead {
 }
 
 // The bytes of a character: the first `len`.
-#[derive(Drop)]
+#[derive(Clone, Copy)]
 pub struct Encoded {
     pub bytes: [u8; 4],
     pub len: usize,

@@ -1,4 +1,6 @@
 // The vowel step (add_default_abugida_vowel): a consonant of an abugida takes its script's vowel, keeps it or loses it.
+#![tactic(auto)]
+
 ghost use Rattle.std.specs.Prelude.{◌≡◌, not, ◌&&◌, ◌+◌, ◌/◌, ◌%◌, ◌<◌, ◌≤◌, eqb, length, get_or, take};
 ghost use Rattle.std.proofs.Math.Seq.{slice};
 ghost use Rattle.base.specs.Lists.{any};
@@ -25,7 +27,7 @@ use words::Span;
 const KHMER_YO: u32 = 0x1799;
 
 // What the vowel step made: the romanization, and whether it only put vowels behind it.
-#[derive(Drop)]
+#[derive(Clone, Copy)]
 pub struct Voiced {
     pub rom: Rom,
     pub grown: bool,

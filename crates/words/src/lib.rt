@@ -1,6 +1,8 @@
 // Start and end of word (word_boundaries.rs). What is asked of the text is asked of its characters' classes, which stand
 // in the line behind the characters; what is asked of the edges is asked of places. Of position `p` the line has the
 // character at `p + 1`, the one before it at `p`.
+#![tactic(auto)]
+
 ghost use Rattle.std.specs.Prelude.{◌≡◌, List, ℕ, ◌+◌, ◌/◌, ◌<◌, ◌≤◌, length, drop, get_or};
 ghost use Rattle.base.specs.Lists.{any};
 ghost use Rattle.definition.specs.RuleRows.{rule_of, rules_of};
@@ -15,7 +17,7 @@ ghost use Rattle.words.specs.Choosing.{choices_of};
 ghost use Rattle.words.specs.Goes.{brings, letter_byte};
 
 // A stretch of the text, by the positions of its ends.
-#[derive(Drop)]
+#[derive(Clone, Copy)]
 pub struct Span {
     pub from: usize,
     pub to: usize,
@@ -23,7 +25,7 @@ pub struct Span {
 
 // A stretch of the text with what the rule table has of it: the rows of its rules, and whether a longer source starts
 // with it.
-#[derive(Drop)]
+#[derive(Clone, Copy)]
 pub struct Look {
     pub from: usize,
     pub to: usize,
@@ -33,7 +35,7 @@ pub struct Look {
 }
 
 // The choices of a call (`Choices` of the definition), each 0 or 1.
-#[derive(Drop)]
+#[derive(Clone, Copy)]
 pub struct Choices {
     pub capitals: u32,
     pub o_ang: u32,
