@@ -21,7 +21,7 @@ use Rattle.definition.specs.Shorts.{Low, encoded-low}
 use Rattle.definition.specs.Edges.{Edge, View, Mem, right_best}
 use Rattle.definition.specs.RuleRows.{rules_of}
 use Rattle.definition.specs.RuleFaults.{rule_fault}
-use Rattle.definition.specs.Accepted.{rules_few}
+use Rattle.definition.proofs.Accepted.{rules_few}
 use Rattle.definition.specs.Boundaries.{word_start, word_end}
 use Rattle.definition.specs.Rules.{spans, holds_at}
 use Rattle.definition.specs.Cores.{Syllable}
@@ -30,7 +30,9 @@ use Rattle.definition.specs.Growth.{all_bytes}
 use Rattle.definition.specs.Cover.{right-all}
 use Rattle.definition.specs.Paths.{join, next, path_from}
 use Rattle.definition.specs.Recalled.{told_start, Recalls, asked_recalls, valid_rules}
-use Rattle.definition.specs.Offers.{found_by, found_all, found_alike}
+use Rattle.definition.specs.Offers.{found_by}
+use Rattle.definition.specs.Offers.{found_all}
+use Rattle.definition.proofs.Offers.{found_alike}
 use Rattle.utf8.specs.Encodings.{TextBytes}
 use Rattle.edge.specs.declared.Numbers.{Numbers}
 use Rattle.edge.specs.Slots.{bytes_of, edge_by, numbers_of, edge_of, edges_of}

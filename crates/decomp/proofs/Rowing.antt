@@ -1,5 +1,5 @@
 -- A row's characters as a world of their own, and the text that is told of a line's lattice.
-use Prim.Native.Nat.{ℕ, ◌+◌, ◌-◌, ◌*◌, ◌≤◌}
+use Prim.Native.Nat.{ℕ, ◌+◌, ◌*◌, ◌≤◌}
 use mathlib.Core.List.{List, [], ◌++◌}
 use mathlib.Core.Path.{◌≡◌, refl, sym, ap, ◌∙◌, subst}
 use native.Mathlib.Omega.{arith}
@@ -12,8 +12,9 @@ use Rattle.definition.specs.Tables.{Tables}
 use Rattle.definition.specs.Edges.{Edge, State}
 use Rattle.definition.specs.Building.{rule_lattice}
 use Rattle.definition.specs.Paths.{joined, path_from, path_of}
-use Rattle.definition.specs.Bounds.{Bounded, Ruled, rule_lattice-ruled}
-use Rattle.definition.specs.Promises.{tables-bounded}
+use Rattle.definition.specs.Bounds.{Bounded, Ruled}
+use Rattle.definition.proofs.Bounds.{rule_lattice-ruled}
+use Rattle.definition.proofs.Promises.{tables-bounded}
 use Rattle.definition.specs.Refusals.{refused_slots, refused_room}
 use Rattle.definition.specs.DecompositionRows.{decomposition_count, decomposition_into}
 use Rattle.definition.specs.DecompositionLaws.{into-length}

@@ -15,7 +15,7 @@ use Rattle.definition.specs.Building.{each}
 use Rattle.definition.specs.Decomposing.{decomp_edge, start}
 use Rattle.definition.specs.Growth.{Added, add-added, each-added}
 use Rattle.definition.specs.Near.{Near}
-use Rattle.definition.specs.Decomposed.{decomp_own, start-grown}
+use Rattle.definition.proofs.Decomposed.{decomp_own, start-grown}
 use Rattle.standing.specs.Starts.{begun as begun-at}
 use Rattle.standing.specs.Begun.{Begun, begun-add}
 use Rattle.standing.specs.Stands.{Ahead}

@@ -15,8 +15,9 @@ use Rattle.definition.specs.Building.{each, build}
 use Rattle.definition.specs.Decomposing.{start}
 use Rattle.definition.specs.DecompositionRows.{decompositions_of}
 use Rattle.definition.specs.Growth.{Added, each-added}
-use Rattle.definition.specs.Bounds.{Bounded, Ruled, build-ruled}
-use Rattle.definition.specs.Promises.{tables-bounded}
+use Rattle.definition.specs.Bounds.{Bounded, Ruled}
+use Rattle.definition.proofs.Bounds.{build-ruled}
+use Rattle.definition.proofs.Promises.{tables-bounded}
 use Rattle.definition.specs.Call.{tables_of}
 use Rattle.edge.specs.declared.Added.{Added as Answer}
 use Rattle.edge.specs.Slots.{edges_of}

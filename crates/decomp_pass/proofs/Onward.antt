@@ -16,7 +16,7 @@ use Rattle.definition.specs.Refusals.{Refusal, refuse, refused_slots, refused_ro
 use Rattle.definition.specs.Capacity.{misfit, overflow}
 use Rattle.definition.specs.Growth.{Added}
 use Rattle.definition.specs.Bounds.{Ruled}
-use Rattle.definition.specs.Decomposed.{overflow-grown}
+use Rattle.definition.proofs.Decomposed.{overflow-grown}
 use Rattle.edge.specs.declared.Added.{Added as Answer}
 use Rattle.edge.specs.declared.Added.TheVariants as added
 use Rattle.edge.specs.Fitting.{stored_fits}

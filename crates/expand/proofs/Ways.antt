@@ -1,5 +1,5 @@
 -- The ways out of the expansion's tests.
-use mathlib.Core.Bool.{Bool, true, false, not, ◌&&◌, or-false, true≢false}
+use mathlib.Core.Bool.{Bool, true, false, ◌&&◌, or-false, true≢false}
 use mathlib.Core.List.{List, [], ◌∷◌, reverse}
 use mathlib.Core.Option.{Option, none, some}
 use mathlib.Core.Path.{◌≡◌, refl, sym, ap, ◌∙◌}

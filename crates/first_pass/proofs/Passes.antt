@@ -16,7 +16,9 @@ use Rattle.definition.specs.Tables.{Tables}
 use Rattle.definition.specs.Edges.{Edge, State, starting, alike, new_in, add, view}
 use Rattle.definition.specs.Rules.{is_prefix}
 use Rattle.definition.specs.Building.{put_in, span_edge, rise, build}
-use Rattle.definition.specs.Bounds.{Bounded, Spelt, span_spelt}
+use Rattle.definition.specs.Bounds.{Bounded}
+use Rattle.definition.specs.Bounds.{Spelt}
+use Rattle.definition.proofs.Bounds.{span_spelt}
 use Rattle.definition.specs.Near.{span_near}
 use Rattle.definition.specs.Within.{prefix_bound}
 use Rattle.edge.specs.Slots.{edges_of}

@@ -17,7 +17,7 @@ use Rattle.definition.specs.Shorts.{Short}
 use Rattle.definition.specs.Building.{span_edge}
 use Rattle.definition.specs.Bounds.{Bounded, Sound}
 use Rattle.definition.specs.Near.{Near}
-use Rattle.definition.specs.Promises.{tables-bounded}
+use Rattle.definition.proofs.Promises.{tables-bounded}
 use Rattle.definition.specs.Call.{tables_of}
 use Rattle.table_vowels.specs.Told.{FineVowels}
 use Rattle.edge.specs.declared.Filled.{Filled}

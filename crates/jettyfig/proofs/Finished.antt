@@ -12,7 +12,7 @@ use Rattle.definition.specs.Edges.{Mem, State}
 use Rattle.definition.specs.Building.{each, fall}
 use Rattle.definition.specs.Decomposing.{start, lattice}
 use Rattle.definition.specs.Bounds.{Bounded}
-use Rattle.definition.specs.Promises.{tables-bounded}
+use Rattle.definition.proofs.Promises.{tables-bounded}
 use Rattle.definition.specs.Refusals.{refuse}
 use Rattle.definition.specs.Capacity.{misfit, overflow}
 use Rattle.definition.specs.DecompositionRows.{decompositions_of}

@@ -4,3 +4,4 @@ pub mod Wholes
 pub mod Finished
 pub mod Firsts
 pub mod Setting
+pub mod Told

@@ -1,5 +1,5 @@
 -- What is set up for an accepted call: there is a world that the line and the tables stand for.
-use mathlib.Core.List.{List, []}
+use mathlib.Core.List.{List}
 use mathlib.Core.Option.{none}
 use mathlib.Core.Path.{◌≡◌, refl, sym, ◌∙◌, subst}
 use Prim.Native.Nat.{ℕ, ◌≤◌}
@@ -10,7 +10,7 @@ use Rattle.definition.specs.Utf8.{decoded}
 use Rattle.definition.specs.Call.{Inputs, characters, refusal}
 use Rattle.definition.specs.Accepted.{Accepted, accepted_of}
 use Rattle.definition.specs.Parts.{scalars}
-use Rattle.definition.specs.Rewritten.{encoded-decoded}
+use Rattle.definition.proofs.Rewritten.{encoded-decoded}
 use Rattle.table_decompositions.specs.Index.{Ready, index_of}
 use Rattle.table_decompositions.specs.Told.{checked_ready}
 use Rattle.rule_memo.specs.Kept.{Kept}

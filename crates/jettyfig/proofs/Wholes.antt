@@ -8,14 +8,14 @@ use lib.ListN.{length, take, replicate, length-append}
 use lib.Seq.{take_at}
 use Rattle.base.specs.Alls.{All}
 use Rattle.base.specs.ListLaws.{take-replicate}
-use Rattle.definition.specs.Limits.{most_characters, slot_bytes}
+use Rattle.definition.specs.Limits.{slot_bytes}
 use Rattle.definition.specs.Texts.{Text}
 use Rattle.definition.specs.Tables.{Decomposition, Tables}
 use Rattle.definition.specs.Edges.{Mem}
 use Rattle.definition.specs.Decomposing.{lattice}
 use Rattle.definition.specs.Bounds.{Bounded, Sound}
-use Rattle.definition.specs.Decomposed.{lattice_few, lattice_sound}
-use Rattle.definition.specs.Promises.{tables-bounded}
+use Rattle.definition.proofs.Decomposed.{lattice_few, lattice_sound}
+use Rattle.definition.proofs.Promises.{tables-bounded}
 use Rattle.definition.specs.Listing.{shown}
 use Rattle.definition.specs.Capacity.{overflow}
 use Rattle.definition.specs.DecompositionRows.{decompositions_of}

@@ -4,3 +4,4 @@ pub mod Writes
 pub mod Capitals
 -- The loops over lent bytes, a turn at a time
 pub mod Walks
+pub mod Past

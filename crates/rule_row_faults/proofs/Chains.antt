@@ -18,7 +18,7 @@ use Rattle.rule_row_faults.specs.declared.Cursor.{Cursor}
 use Rattle.rule_row_faults.specs.declared.Cursor.TheVariants.{Next, Wrong}
 use Rattle.rule_row_faults.specs.declared.Kind.{Kind}
 use Rattle.rule_row_faults.specs.Kinds.{kind_size, kind_right, kind_number, read_counted, cursor_means}
-use Rattle.definition.specs.FieldsWithin.{in_text, in_text_if}
+use Rattle.definition.proofs.FieldsWithin.{in_text, in_text_if}
 use Rattle.rule_row_faults.proofs.Inside.{onward, faulty, at_most}
 
 -- Texts one after another: reading those that are left leads where all lead

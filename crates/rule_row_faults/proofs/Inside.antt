@@ -4,7 +4,9 @@ use mathlib.Core.Path.{◌≡◌, sym, ap, ◌∙◌, subst}
 use Prim.Native.Nat.{ℕ, ◌≤◌}
 use Rattle.definition.specs.RuleFields as definition
 use Rattle.definition.specs.RuleFields.{and_then, field}
-use Rattle.definition.specs.FieldsWithin.{place, In, in_field}
+use Rattle.definition.specs.FieldsWithin.{place}
+use Rattle.definition.specs.FieldsWithin.{In}
+use Rattle.definition.proofs.FieldsWithin.{in_field}
 use Rattle.rule_row_faults.specs.declared.Fault.{Fault}
 use Rattle.rule_row_faults.specs.declared.Cursor.{Cursor}
 use Rattle.rule_row_faults.specs.declared.Cursor.TheVariants.{Next, Wrong}

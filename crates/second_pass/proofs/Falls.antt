@@ -17,13 +17,15 @@ use Rattle.definition.specs.Texts.{Text, the_space, at, last_is}
 use Rattle.definition.specs.Utf8.{encode, encoded, decoded}
 use Rattle.definition.specs.Tables.{Tables, Lexicon, Class}
 use Rattle.definition.specs.RuleRows.{rules_of}
-use Rattle.definition.specs.Accepted.{rules-all}
+use Rattle.definition.proofs.Accepted.{rules-all}
 use Rattle.definition.specs.ExpandBounds.{Spoken}
 use Rattle.definition.specs.Promises.{rule_spoken}
-use Rattle.definition.specs.Blank.{blank, blank_alpha}
+use Rattle.definition.specs.Blank.{blank_alpha}
+use Rattle.definition.proofs.Blank.{blank}
 use Rattle.definition.specs.Classes.{class, alpha}
 use Rattle.definition.specs.Shorts.{Short}
-use Rattle.definition.specs.Bounds.{Bounded, simple-short}
+use Rattle.definition.specs.Bounds.{Bounded}
+use Rattle.definition.proofs.Bounds.{simple-short}
 use Rattle.definition.specs.Edges.{Edge, covered, add, view}
 use Rattle.definition.specs.Rules.{simple}
 use Rattle.definition.specs.Building.{single, fallback_edge, fallback_by}

@@ -16,7 +16,7 @@ use Rattle.definition.specs.Limits.{most_target}
 use Rattle.definition.specs.Texts.{Text, consonants, prev}
 use Rattle.definition.specs.Tables.{Class, Rule, script_thai}
 use Rattle.definition.specs.Notes.{note_exp}
-use Rattle.definition.specs.Blank.{blank}
+use Rattle.definition.proofs.Blank.{blank}
 use Rattle.definition.specs.ClassRows.{classes_of}
 use Rattle.definition.specs.RuleRows.{rule_of, text_where, target_at, end_target_at}
 use Rattle.definition.specs.Classes.{class, script}

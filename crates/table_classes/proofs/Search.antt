@@ -21,7 +21,7 @@ use Rattle.definition.specs.Classes.{plain, class}
 use Rattle.definition.specs.BlockTurns.{chain-each}
 use Rattle.definition.specs.Checked.{class-checked}
 use Rattle.definition.specs.Accepted.{class_moves, classes-chain}
-use Rattle.definition.specs.Risen.{classes-rise}
+use Rattle.definition.proofs.Risen.{classes-rise}
 use Rattle.table_classes.specs.Told.{Fine}
 
 -- A list of classes

@@ -1,0 +1,70 @@
+-- `alternatives::put_edge_alternatives`: the rows of its span are the rules of its span, asked as the definition asks.
+use mathlib.Core.Bool.{true}
+use mathlib.Core.Path.{◌≡◌, ap, ◌∙◌}
+use Prim.Native.Nat.{◌≤◌}
+use Rattle.base.specs.Lists.{keep}
+use Rattle.definition.specs.Limits.{most_rows}
+use Rattle.definition.specs.RuleRows.{rules_of}
+use Rattle.definition.specs.Rules.{spans}
+use Rattle.definition.specs.Paths.{reads}
+use Rattle.definition.specs.Offers.{found_by}
+use Rattle.edge.specs.Slots.{edge_by}
+use Rattle.listing.specs.Items.{put_items}
+use Rattle.edge_places.specs.Shows.{memory}
+use Rattle.words.specs.Given.{seen, size}
+use Rattle.words.specs.Found.{Rows, rules_in, found_at}
+use Rattle.words.specs.Looks.{source_in, looked_are}
+use Rattle.rule_choice.specs.Lent.{lexicon_of}
+use Rattle.offers.specs.Texts.{holding}
+use Rattle.alternatives.proofs.Edges.{rows_few, valid-found, found-edge, start-told, start_recalls}
+-- where the function begins
+use Rattle.alternatives.proofs.put_edge_alternatives.Goals as goal
+
+pub filter_len-cells-requires : goal.filter_len-cells-requires
+filter_len-cells-requires c =
+    let rows : Rows c.args.rules.now c.look_up-look.result.first c.look_up-look.result.count × (c.look_up-look.result.count ≤ most_rows) = let r = c.args.rules.now in
+    let look = c.look_up-look.result in
+    let d = c.look_up-look.ensures.0 in
+    let w = source_in c.args.line.now look.from look.to in
+    let z = c.requires.0.table.accepted in
+    let f = found_at r w z look.first look.count d.first d.count in
+    (f.1, rows_few r w look.first look.count z f.0 f.1) in
+    (rows).1
+
+pub put_filtered-requires : goal.put_filtered-requires
+put_filtered-requires c =
+    let rows : Rows c.args.rules.now c.look_up-look.result.first c.look_up-look.result.count × (c.look_up-look.result.count ≤ most_rows) = let r = c.args.rules.now in
+    let look = c.look_up-look.result in
+    let d = c.look_up-look.ensures.0 in
+    let w = source_in c.args.line.now look.from look.to in
+    let z = c.requires.0.table.accepted in
+    let f = found_at r w z look.first look.count d.first d.count in
+    (f.1, rows_few r w look.first look.count z f.0 f.1) in
+    ((rows).0, (rows).1, c.requires.1, c.requires.4)
+
+pub returns : goal.returns
+returns c =
+    let e = c.args.e in
+    let rules = c.args.rules.now in
+    let found = rules_in rules c.look_up-look.result.first c.look_up-look.result.count in
+    let rs = holding c.args.code.now c.is_at_start_of_word-start.result c.is_at_end_of_word-end.result rules c.look_up-look.result.first c.look_up-look.result.count in (
+      (λ w told lent.
+          let L = lexicon_of rules w c.args.code.now in
+          let T = w.text in
+          let m₀ = memory (size w) c.args.places.now in
+          let m₁ = memory (size w) c.is_at_start_of_word-start.new.places in
+          let d = c.is_at_start_of_word-start.ensures w lent in
+          let are : found ≡ keep (spans T e.from e.to) (rules_of rules) =
+          looked_are c.requires.0.table.accepted c.look_up-look.ensures.0 lent.text
+          ∙ ap (λ s. keep (spans T s c.look_up-look.result.to) (rules_of rules)) c.look_up-look.ensures.1
+          ∙ ap (λ z. keep (spans T e.from z) (rules_of rules)) c.look_up-look.ensures.2 in (
+            c.put_filtered.ensures.0
+                ∙ ap (λ b. put_items true (found_by b (edge_by e c.args.text.now) rs) (c.args.at, c.args.out.now)) (ap reads (c.choices_in-choices.ensures ∙ told.choices))
+                ∙ ap (λ l. put_items true l (c.args.at, c.args.out.now)) (found-edge (reads w.choices) L T (seen w) m₀ e c.args.text.now rs
+                (valid-found (reads w.choices) L T (seen w) m₀ e.from e.to found are c.is_at_start_of_word-start.result c.is_at_end_of_word-end.result
+                (start-told (reads w.choices) L T (seen w) m₀ m₁ e.from c.is_at_start_of_word-start.result d.did) (c.is_at_end_of_word-end.ensures w told lent.text))),
+            start_recalls (reads w.choices) L T (seen w) m₀ m₁ e.from c.is_at_start_of_word-start.result d.did,
+            d.kept,
+          )),
+      c.put_filtered.ensures.1,
+    )

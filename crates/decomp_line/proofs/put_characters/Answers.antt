@@ -1,0 +1,18 @@
+-- `decomp_line::put_characters`: what is left to put leads where all lead (`Putting`), and each turn keeps that.
+use native.Mathlib.Omega.{arith}
+use lib.ListN.{drop}
+use Rattle.definition.specs.DecompositionLaws.{into-length}
+use Rattle.decomp_line.specs.Rows.{putting_next, putting_over}
+use Rattle.decomp_line.proofs.put_characters.Goals as goal
+
+pub loop-i-preserved : goal.loop-i-preserved
+loop-i-preserved c =
+    let i = c.loop-i.invariant in
+    let s = drop c.args.row c.args.table.now in
+    (putting_next i.0 (omega (arith, into-length s, i.1, c.loop-i-test.true)) c.into_at.result c.into_at.ensures, i.1, i.2)
+
+pub returns : goal.returns
+returns c =
+    let i = c.loop-i.invariant in
+    let s = drop c.args.row c.args.table.now in
+    putting_over i.0 (omega (arith, into-length s, i.1, c.loop-i-test.false))

@@ -1,0 +1,53 @@
+-- `expand::all_steps`: no bytes stay as they are; else the steps by script end it, or the rest comes.
+use native.Mathlib.Omega.{arith}
+use lib.ListN.{take}
+use Rattle.base.specs.ListLaws.{same_some}
+use Rattle.rom.specs.Rom.{text-length}
+use Rattle.edge_places.specs.Shows.{memory}
+use Rattle.words.specs.Did.{asked-none}
+use Rattle.words.specs.Given.{seen, size}
+use Rattle.words.specs.Choosing.{choices_of}
+use Rattle.rule_choice.specs.Lent.{lexicon_of}
+use Rattle.expand.specs.Tests.{ends_there, goes_on, nothing-to-expand, expanded}
+use Rattle.expand.proofs.Ways.{no_text}
+use Rattle.expand.proofs.all_steps.Goals as goal
+
+-- `expand::all_steps`: no bytes stay as they are; else the steps by script end it, or the rest comes.
+pub returns-then-n-eq0 : goal.returns-then-n-eq0
+returns-then-n-eq0 c =
+    let w = take c.args.n c.args.bytes.now in (
+      (λ u e h. let L = lexicon_of c.args.rules.now u c.args.code.now in
+          let m = memory (size u) c.args.places.now in
+          asked-none (nothing-to-expand L u.text (seen u) (choices_of c.args.choices) w c.args.span.from c.args.span.to m
+          (no_text w (omega (arith, text-length c.requires.1))))),
+      c.requires.1,
+    )
+
+pub returns-then-tried : goal.returns-then-tried
+returns-then-tried c =
+    let w = take c.args.n c.args.bytes.now in (
+      (λ u e h.
+          let L = lexicon_of c.args.rules.now u c.args.code.now in
+          let m = memory (size u) c.args.places.now in
+          let there = ends_there L u.text (seen u) c.args.span.from _ m c.if-tried.true (c.by_script-tried.ensures.0 u c.args.code.now h) in
+          asked-none (expanded L u.text (seen u) (choices_of c.args.choices) w c.args.span.from c.args.span.to m
+          (same_some w (omega (arith, text-length c.requires.1))) (c.first_steps-g.ensures.0 u h.text) there)),
+      c.by_script-tried.ensures.1,
+    )
+
+pub returns : goal.returns
+returns c =
+    let w = take c.args.n c.args.bytes.now in
+    let I = c.if-tried.false in (
+      (λ u e h.
+          let L = lexicon_of c.args.rules.now u c.args.code.now in
+          let m = memory (size u) c.args.places.now in
+          let A = c.rest.ensures.0 u e h in
+          let on = goes_on L u.text (seen u) c.args.span.from _ m I (c.by_script-tried.ensures.0 u c.args.code.now h) A.did in
+          record {
+            did = expanded L u.text (seen u) (choices_of c.args.choices) w c.args.span.from c.args.span.to m
+                (same_some w (omega (arith, text-length c.requires.1))) (c.first_steps-g.ensures.0 u h.text) on;
+            kept = A.kept;
+          }),
+      c.rest.ensures.1,
+    )

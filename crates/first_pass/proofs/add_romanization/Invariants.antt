@@ -1,0 +1,31 @@
+-- `first_pass::add_romanization`: what is left of the stretch does what all of it does.
+use mathlib.Core.Path.{◌≡◌}
+use Prim.Native.Nat.{◌+◌, ◌-◌, ◌*◌, ◌≤◌}
+use lib.ListN.{length, set}
+use Rattle.base.specs.Alls.{All}
+use Rattle.definition.specs.Limits.{most_source, most_bytes}
+use Rattle.definition.specs.Building.{each, build}
+use Rattle.definition.specs.Call.{tables_of}
+use Rattle.edge.specs.Slots.{edges_of}
+use Rattle.words.specs.Given.{World, kinds, size, size_in}
+use Rattle.standing.specs.Begun.{Begun}
+use Rattle.standing.specs.Stands.{Ahead}
+use Rattle.passes.specs.Reached.{Over, state_of}
+use Rattle.passes.proofs.Passing.{Going}
+use Rattle.first_pass.specs.FirstPass.{filled_of}
+use Rattle.first_pass.proofs.add_romanization.Given as goal
+
+-- `first_pass::add_romanization`: what is left of the stretch does what all of it does.
+abbrev pub invariant-loop-s : goal.invariant-loop-s
+invariant-loop-s l =
+    ((w : World) → Over w l.ready l.line l.initial.slots l.initial.room l.initial.places (filled_of (record { count = l.initial.edges; used = l.initial.bytes; from = l.initial.s; to = l.n }))
+    → Going (each (build (tables_of w.choices l.rules w.classes l.vowels l.code) w.text) (l.n - l.s) l.s) (kinds w) (size w) l.initial.slots l.initial.room
+    (each (build (tables_of w.choices l.rules w.classes l.vowels l.code) w.text) (l.n - l.initial.s) l.initial.s (state_of w l.initial.places)) l.slots l.room l.places l.edges l.bytes)
+    × Begun (edges_of l.room l.edges l.slots) l.s (set l.starts l.s l.edges) × (length l.starts ≡ size_in l.line + 1)
+    × All (λ x. Ahead (size_in l.line) x.from x.to) (edges_of l.room l.edges l.slots)
+    × (l.edges ≤ l.initial.edges + (l.s - l.initial.s) * most_source) × (l.bytes ≤ l.initial.bytes + (l.s - l.initial.s) * (most_source * most_bytes)) × (l.initial.s ≤ l.s) × (l.s ≤ l.n)
+    × (length l.slots ≡ length l.initial.slots) × (length l.room ≡ length l.initial.room) × (length l.places ≡ length l.initial.places) × (length l.starts ≡ length l.initial.starts)
+
+abbrev pub decreases-loop-s : goal.decreases-loop-s
+decreases-loop-s l =
+    l.n - l.s

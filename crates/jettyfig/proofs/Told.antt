@@ -1,0 +1,30 @@
+-- What a mode past the highest is refused by, and that a text has few characters and the output is zeros still: named on
+-- `check_asked` and `respond`, so that no answer there hangs on the words of a condition.
+use Prim.Native.Nat.{ℕ, ◌<◌, ◌≤◌}
+use mathlib.Core.List.{List, [], ◌∷◌}
+use mathlib.Core.Option.{some}
+use mathlib.Core.Path.{◌≡◌, sym}
+use lib.Dec.{ltb}
+use native.Mathlib.Omega.{arith}
+use lib.ListN.{length, replicate, length-replicate}
+use Rattle.definition.specs.Limits.{most_mode, most_choice}
+use Rattle.definition.specs.Refusals.{refuse, when, refused_mode, refused_capitals, refused_o_ang, refused_readings}
+use Rattle.definition.specs.Utf8.{decoded}
+use Rattle.utf8.specs.Beginnings.{beginnings, few_beginnings}
+use Rattle.jettyfig.specs.declared.Asked.{Asked}
+use Rattle.jettyfig.specs.Verdicts.{by_asked, chosen, above}
+
+pub mode_refused : (a : Asked) → most_mode < a.mode → by_asked a.mode (chosen a) ≡ some (refuse refused_mode 0)
+unfolding by_asked
+mode_refused a h = sym (above most_mode a.mode refused_mode (
+    when (ltb most_choice a.capitals) refused_capitals 0
+    ∷ when (ltb most_choice a.o_ang) refused_o_ang 0
+    ∷ when (ltb most_choice a.readings) refused_readings 0
+    ∷ []
+    ) h)
+
+pub few_decoded : (s : List ℕ) (n : ℕ) → beginnings s ≤ n → length (decoded s) ≤ n
+few_decoded s n h = omega (arith, few_beginnings s)
+
+pub length_of_zeros : (n : ℕ) → length (replicate {A = ℕ} n 0) ≡ n
+length_of_zeros n = length-replicate n 0

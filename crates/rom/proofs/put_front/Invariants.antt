@@ -1,0 +1,13 @@
+-- `rom::put_front`: the first `i` bytes are those of the array with the letter in front.
+use mathlib.Core.List.{◌∷◌, ◌++◌}
+use mathlib.Core.Path.{◌≡◌}
+use Prim.Native.Nat.{◌+◌, ◌-◌, ◌≤◌}
+use lib.ListN.{length, take, drop, get_or}
+use Rattle.rom.proofs.put_front.Given as goal
+
+abbrev pub invariant-loop-i : goal.invariant-loop-i
+invariant-loop-i l =
+    (l.i ≤ l.n + 1) × (length l.bytes ≡ length l.initial.bytes) × (l.bytes ≡ take l.i (l.letter ∷ l.initial.bytes) ++ drop l.i l.initial.bytes) × (l.next ≡ get_or (l.letter ∷ l.initial.bytes) l.i 0)
+
+abbrev pub decreases-loop-i : goal.decreases-loop-i
+decreases-loop-i l = l.n + 1 - l.i

@@ -1,0 +1,78 @@
+-- `rule_choice::top_rule`: what is left of the rows, from the best so far on, leads where the definition does.
+use mathlib.Core.Path.{refl, sym, ◌∙◌}
+use native.Mathlib.Omega.{arith}
+use lib.ListN.{length-drop}
+use Rattle.edge_places.specs.Shows.{memory}
+use Rattle.words.specs.Did.{did}
+use Rattle.words.specs.Given.{seen, size, lent-after}
+use Rattle.words.specs.Found.{row_there, row_read}
+use Rattle.words.specs.Looks.{looked_rows, looked_are}
+use Rattle.words.proofs.Ends.{rows_next}
+use Rattle.rule_choice.specs.Lent.{lexicon_of}
+use Rattle.rule_choice.specs.Chosen.{choice_means}
+use Rattle.rule_choice.proofs.Walking.{begun, over, next}
+use Rattle.std.proofs.Common.{rules}
+use Rattle.rule_choice.proofs.top_rule.Goals as goal
+
+pub loop-left-init : goal.loop-left-init
+loop-left-init c =
+    let a = c.args in
+    let A = c.requires.0.table.accepted in (
+      λ w e g. record {
+        same = begun (lexicon_of a.rules.now w a.code.now) w.text (seen w) a.look.from a.look.to (memory (size w) a.places.now) _
+            (looked_are A c.requires.1 g.text);
+        kept = refl;
+      },
+      looked_rows A c.requires.1,
+      tt,
+      refl,
+    )
+
+pub cand_is_valid-valid-requires : goal.cand_is_valid-valid-requires
+cand_is_valid-valid-requires c =
+    let l = c.loop-left in
+    (c.requires.0, row_read c.args.rules.now l.row l.left (omega arith) l.invariant.1, c.requires.1.forward, c.requires.1.inside)
+
+pub improve-best-requires : goal.improve-best-requires
+improve-best-requires c =
+    let l = c.loop-left in
+    (row_read c.args.rules.now l.row l.left (omega arith) l.invariant.1, l.invariant.2)
+
+pub overflow_add-row : goal.overflow_add-row
+overflow_add-row c =
+    let l = c.loop-left in
+    let b = c.args.rules.now in
+    let r = (row_read b l.row l.left (omega arith) l.invariant.1).placed.row in
+    let h = row_there b l.row l.left (omega arith) l.invariant.1 in
+    let z = c.size-row.ensures.0 in
+    omega (arith, r, h, z, length-drop l.row b)
+
+pub loop-left-preserved : goal.loop-left-preserved
+loop-left-preserved c =
+    let l = c.loop-left in
+    let a = c.args in
+    let b = a.rules.now in
+    let z = c.size-row.ensures.0 in (
+      λ w e g. let i = l.invariant.0 w e g in
+          let A = c.cand_is_valid-valid.ensures w e (lent-after _ g i.kept) in record {
+            same = next (lexicon_of b w a.code.now) w.text (seen w) a.look.from a.look.to (memory (size w) l.places) b l.row l.left
+                (choice_means b l.best) (omega arith) l.invariant.1 _ _ A.did _ c.improve-best.ensures.0 _ z ∙ i.same;
+            kept = A.kept ∙ i.kept;
+          },
+      rows_next b l.row l.left (omega arith) l.invariant.1 _ z,
+      c.improve-best.ensures.1,
+      search rules,
+    )
+
+pub returns : goal.returns
+returns c =
+    let l = c.loop-left in
+    let a = c.args in (
+      λ w e g. let i = l.invariant.0 w e g in
+          let L = lexicon_of a.rules.now w a.code.now in record {
+            did = did (sym i.same ∙ over L w.text (seen w) a.look.from a.look.to (memory (size w) l.places) a.rules.now l.row l.left
+                (choice_means a.rules.now l.best) (omega arith));
+            kept = i.kept;
+          },
+      l.invariant.2,
+    )

@@ -1,0 +1,28 @@
+-- `rule_choice::top_rule`: what is left of the rows, from the best so far on, leads where the definition does.
+use mathlib.Core.List.{List}
+use mathlib.Core.Path.{◌≡◌}
+use Prim.Native.Nat.{ℕ}
+use lib.ListN.{length}
+use Rattle.definition.specs.Rules.{choose}
+use Rattle.edge_places.specs.Shows.{memory, told}
+use Rattle.words.specs.Given.{World, seen, size, Told, Lent}
+use Rattle.words.specs.Found.{Rows, rules_in}
+use Rattle.rule_choice.specs.Lent.{lexicon_of}
+use Rattle.rule_choice.specs.Fold.{choose_from}
+use Rattle.rule_choice.specs.Chosen.{choice_means, Rowed}
+use Rattle.rule_choice.specs.declared.Choice.{Choice}
+use Rattle.rule_choice.proofs.top_rule.Given as goal
+
+-- what is left of the rows leads where all do, and places tell of the edges what they told
+pub record Led (rules code : List ℕ) (w : World) (s e : ℕ) (places₀ places : List ℕ) (row left : ℕ) (best : Choice) : Type 0 where
+  pub same : choose_from (lexicon_of rules w code) w.text (seen w) s e (rules_in rules row left) (choice_means rules best) (memory (size w) places)
+      ≡ choose (lexicon_of rules w code) w.text (seen w) s e (memory (size w) places₀)
+  pub kept : told places ≡ told places₀
+
+abbrev pub invariant-loop-left : goal.invariant-loop-left
+invariant-loop-left l =
+    ((w : World) → Told w l.ready → Lent w l.line l.initial.places → Led l.rules l.code w l.look.from l.look.to l.initial.places l.places l.row l.left l.best)
+    × Rows l.rules l.row l.left × Rowed l.rules l.best × (length l.places ≡ length l.initial.places)
+
+abbrev pub decreases-loop-left : goal.decreases-loop-left
+decreases-loop-left l = l.left

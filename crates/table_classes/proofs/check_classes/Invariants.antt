@@ -1,0 +1,14 @@
+-- `table_classes::check_classes`: the first fault from the row at `at` on is the table's.
+use Prim.Native.Nat.{◌-◌}
+use mathlib.Core.Path.{◌≡◌}
+use lib.ListN.{length}
+use Rattle.definition.specs.ClassRows.{class_size, class_next, class_right, class_fault}
+use Rattle.definition.specs.Checking.{from}
+use Rattle.table_classes.proofs.check_classes.Given as goal
+
+abbrev pub invariant-loop-at : goal.invariant-loop-at
+invariant-loop-at l =
+    from class_size class_next class_right l.at l.left l.low l.classes ≡ class_fault l.classes
+
+abbrev pub decreases-loop-at : goal.decreases-loop-at
+decreases-loop-at l = length l.classes - l.at

@@ -1,0 +1,58 @@
+-- `words::is_at_end_of_word`: what a source that ends at `e` or later brings is what any brings.
+use mathlib.Core.Bool.{true, false}
+use mathlib.Core.Path.{refl, sym, ◌∙◌}
+use native.Mathlib.Omega.{arith}
+use Rattle.definition.specs.RuleRows.{rules_of}
+use Rattle.definition.proofs.Ranges.{rules-sourced}
+use Rattle.words.specs.Given.{kinds, line-size, alpha-at}
+use Rattle.words.specs.Looks.{looked_rows}
+use Rattle.words.specs.Goes.{goes-start}
+use Rattle.words.proofs.Ends.{by_both, ends_over, ends_here, ends_turn}
+use Rattle.words.proofs.is_at_end_of_word.Goals as goal
+
+pub returns-then-is_alpha_at : goal.returns-then-is_alpha_at
+returns-then-is_alpha_at c =
+    let a = c.args in
+    λ w e g. let z = line-size g in
+    by_both (rules_of a.rules.now) (kinds w) w.text a.p true _
+    (sym (alpha-at g a.p (omega arith)) ∙ sym c.is_alpha_at.ensures ∙ c.if-is_alpha_at.true) refl
+
+pub loop-e-init : goal.loop-e-init
+loop-e-init c =
+    let s = c in (
+      λ w e g. goes-start (kinds w) w.text s.args.p (rules_of s.args.rules.now) (rules-sourced s.args.rules.now s.requires.0.table.accepted),
+      omega arith,
+    )
+
+pub rows_bring_letter-requires : goal.rows_bring_letter-requires
+rows_bring_letter-requires c =
+    looked_rows c.requires.0.table.accepted c.look_up-look.ensures.0
+
+pub returns-then-rows_bring_letter : goal.returns-then-rows_bring_letter
+returns-then-rows_bring_letter c =
+    let L = c.look_up-look.ensures in
+    λ w e g. by_both (rules_of c.args.rules.now) (kinds w) w.text c.args.p false true (let z = line-size g in sym (alpha-at g c.args.p (omega arith)) ∙ sym c.is_alpha_at.ensures ∙ c.if-is_alpha_at.false)
+    (sym (c.loop-e.invariant.0 w e g) ∙ sym (ends_turn c.requires.0.table.accepted L.0 c.args.p c.loop-e.e L.1 L.2 g true
+    (sym c.if-rows_bring_letter.true ∙ c.rows_bring_letter.ensures w.classes e.letters)))
+
+pub loop-e-preserved : goal.loop-e-preserved
+loop-e-preserved c =
+    let L = c.look_up-look.ensures in (
+      λ w e g. ends_turn c.requires.0.table.accepted L.0 c.args.p c.loop-e.e L.1 L.2 g false
+          (sym c.if-rows_bring_letter.false ∙ c.rows_bring_letter.ensures w.classes e.letters) ∙ c.loop-e.invariant.0 w e g,
+      omega (arith, c.loop-e.invariant.1),
+    )
+
+pub returns-else-more : goal.returns-else-more
+returns-else-more c =
+    let L = c.look_up-look.ensures in
+    λ w e g. by_both (rules_of c.args.rules.now) (kinds w) w.text c.args.p false false (let z = line-size g in sym (alpha-at g c.args.p (omega arith)) ∙ sym c.is_alpha_at.ensures ∙ c.if-is_alpha_at.false)
+    (sym (c.loop-e.invariant.0 w e g) ∙ sym (ends_turn c.requires.0.table.accepted L.0 c.args.p c.loop-e.e L.1 L.2 g false
+    (sym c.if-rows_bring_letter.false ∙ c.rows_bring_letter.ensures w.classes e.letters))
+    ∙ ends_here c.requires.0.table.accepted L.0 c.args.p c.loop-e.e L.1 L.2 g c.if-more.false)
+
+pub returns : goal.returns
+returns c =
+    λ w e g. let z = line-size g in
+    by_both (rules_of c.args.rules.now) (kinds w) w.text c.args.p false false (let z = line-size g in sym (alpha-at g c.args.p (omega arith)) ∙ sym c.is_alpha_at.ensures ∙ c.if-is_alpha_at.false)
+    (sym (c.loop-e.invariant.0 w e g) ∙ ends_over g (rules_of c.args.rules.now) c.args.p c.loop-e.e (omega arith) (omega arith))
