@@ -1,11 +1,14 @@
 // Lists the rows of the rule table on standard input through the reader: offset, source, target and flags, a line for each; then
 // how many rows are right, and the first fault where there is one.
+#![tactic(auto)]
+
 ghost use Rattle.std.specs.Prelude.{◌<◌};
 
-use libc::{STDIN_FILENO, STDOUT_FILENO};
 use rule_reader::RowHere;
 use rule_row_faults::{Fault, RowParts};
 use rule_table_check::RulesRead;
+use std::io;
+use std::io::{BufWriter, Write};
 
 // The bit of a row's flags that says that it has a target.
 const TARGET_BIT: u32 = 5;
@@ -15,122 +18,122 @@ fn table_room() -> [u8; 1048576] {
     [0u8; 1048576]
 }
 
-fn print(text: &[u8]) {
-    io::write_all(STDOUT_FILENO, text);
+fn print<W: Write>(out: &mut W, text: &[u8]) -> io::Result<()> {
+    out.write_all(text)
 }
 
-fn print_number(n: usize) {
-    io::print_decimal(STDOUT_FILENO, n as u64);
+fn print_number<W: Write>(out: &mut W, n: usize) -> io::Result<()> {
+    write!(out, "{n}")
 }
 
 // The characters of a row's source, each as U+ and its number.
-fn print_source(table: &[u8], at: usize, count: usize)
+fn print_source<W: Write>(out: &mut W, table: &[u8], at: usize, count: usize) -> io::Result<()>
     requires { count < 256 }
 {
-    let mut i: usize = 0;
-    while i < count {
-        print(b" U+");
-        io::print_hex(STDOUT_FILENO, base::three(table, at, 6 + 3 * i) as u64, 4);
-        i += 1;
+    for i in 0..count {
+        let c = base::three(table, at, 6 + 3 * i);
+        write!(out, " U+{c:04x}")?;
     }
+    Ok(())
 }
 
 // The target of a row at `o` of it: a length byte and the text.
-fn print_target(row: &[u8], o: usize)
+fn print_target<W: Write>(out: &mut W, row: &[u8], o: usize) -> io::Result<()>
     requires { o < 65536 }
 {
-    print(b" \"");
-    print(lent_bytes::part_or_none(row, o + 1, base::byte(row, o) as usize));
-    print(b"\"");
+    print(out, b" \"")?;
+    print(
+        out,
+        lent_bytes::part_or_none(row, o + 1, base::byte(row, o) as usize),
+    )?;
+    print(out, b"\"")
 }
 
 // One row: its offset, source, target and flags.
-fn print_row(table: &[u8], at: usize, parts: RowParts) {
-    print_number(at);
+fn print_row<W: Write>(out: &mut W, table: &[u8], at: usize, parts: RowParts) -> io::Result<()> {
+    print_number(out, at)?;
     if parts.source < 256 {
-        print_source(table, at, parts.source);
+        print_source(out, table, at, parts.source)?;
     }
     if rule_row::flag(table, at, TARGET_BIT) {
         if parts.target < 65536 {
-            print_target(
-                lent_bytes::part_or_none(table, at, parts.size),
-                parts.target,
-            );
+            let row = lent_bytes::part_or_none(table, at, parts.size);
+            print_target(out, row, parts.target)?;
         }
     } else {
-        print(b" none");
+        print(out, b" none")?;
     }
-    print(b" ");
-    io::print_hex(STDOUT_FILENO, base::at(table, at, 2) as u64, 2);
-    print(b"\n");
+    let flags = base::at(table, at, 2);
+    writeln!(out, " {flags:02x}")
 }
 
 // Lists the row at an offset, and answers whether one stood there. What is wrong with it else is said at the end.
-fn list_row(table: &[u8], at: usize) -> bool {
+fn list_row<W: Write>(out: &mut W, table: &[u8], at: usize) -> io::Result<bool> {
     match rule_reader::read_at(table, at) {
         RowHere::Row(parts) => {
-            print_row(table, at, parts);
-            return true;
+            print_row(out, table, at, parts)?;
+            Ok(true)
         }
-        RowHere::Wrong(_, _) => {
-            return false;
-        }
-        RowHere::End => {
-            return false;
-        }
+        RowHere::Wrong(_, _) => Ok(false),
+        RowHere::End => Ok(false),
     }
 }
 
 // All rows. There are fewer than bytes, so the turns are enough.
-fn list(table: &[u8]) {
+fn list<W: Write>(out: &mut W, table: &[u8]) -> io::Result<()> {
     let mut at = rule_reader::start(table);
-    let mut turns = table.len();
-    while 0 < turns && list_row(table, at) {
+    for _ in 0..table.len() {
+        if !list_row(out, table, at)? {
+            break;
+        }
         at = rule_reader::step_from(table, at);
-        turns -= 1;
     }
+    Ok(())
 }
 
 // What a fault is called.
-fn print_kind(fault: Fault) {
+fn print_kind<W: Write>(out: &mut W, fault: Fault) -> io::Result<()> {
     let words = rule_fault_words::fault_words(fault);
     let bytes = words.bytes;
-    print(lent_bytes::part_or_none(&bytes, 0, words.len));
+    print(out, lent_bytes::part_or_none(&bytes, 0, words.len))
 }
 
 // The first fault behind `rows` right rows: its kind, its place, and the row at `at`, in which it lies. No row stands before
 // `HEAD_BYTES`: a fault there is the header's.
-fn print_fault(rows: usize, at: usize, fault: Fault, place: usize) {
-    print_number(rows);
+fn print_fault<W: Write>(
+    out: &mut W,
+    rows: usize,
+    at: usize,
+    fault: Fault,
+    place: usize,
+) -> io::Result<()> {
+    print_number(out, rows)?;
     if place < table_blocks::HEAD_BYTES {
-        print(b" rows: the header is faulty\n");
-        return;
+        return print(out, b" rows: the header is faulty\n");
     }
-    print(b" rows, then ");
-    print_kind(fault);
-    print(b" at ");
-    print_number(place);
-    print(b", in the row at ");
-    print_number(at);
-    print(b"\n");
+    print(out, b" rows, then ")?;
+    print_kind(out, fault)?;
+    writeln!(out, " at {place}, in the row at {at}")
 }
 
 // How many rows are right, and the first fault.
-fn conclude(table: &[u8]) {
+fn conclude<W: Write>(out: &mut W, table: &[u8]) -> io::Result<()> {
     let walked = rule_reader::walk_rules(table);
     let read = walked.read;
     match read {
         RulesRead::Valid => {
-            print_number(walked.rows);
-            print(b" rows\n");
+            print_number(out, walked.rows)?;
+            print(out, b" rows\n")
         }
-        RulesRead::Wrong(fault, place) => print_fault(walked.rows, walked.at, fault, place),
+        RulesRead::Wrong(fault, place) => print_fault(out, walked.rows, walked.at, fault, place),
     }
 }
 
-fn main() {
+fn main(rt: HostRuntime) -> io::Result<()> {
     let mut table = table_room();
-    let n = io::read_full(STDIN_FILENO, &mut table);
-    list(&table[..n]);
-    conclude(&table[..n]);
+    let n = lent_input::read_full(&mut rt.reader(), &mut table)?;
+    let mut out = BufWriter::new(rt.alloc(), rt.stdout())?;
+    list(&mut out, &table[..n])?;
+    conclude(&mut out, &table[..n])?;
+    out.flush()
 }

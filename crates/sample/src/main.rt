@@ -1,7 +1,13 @@
 // Document 01's sample program: all of standard input is the text, mode 1, the sample tables, no decompositions and no code;
 // the output in lower-case hex and a line end. A refusal goes to standard error with its number and place.
+#![tactic(auto)]
+
 ghost use Rattle.std.specs.Prelude.{◌≡◌, ◌<◌};
 ghost use Rattle.sample.specs.Hex.{hex_digit};
+
+use jettyfig::Answer;
+use std::io;
+use std::io::{BufWriter, Write};
 
 // The sample tables, as tests/generate/sample.py makes them.
 // Rules.
@@ -47,26 +53,27 @@ fn digit(x: u8) -> u8
 }
 
 // The first `n` bytes in hex, two digits for each, and a line end.
-fn print_hex(bytes: &[u8], n: usize) {
-    let mut i: usize = 0;
-    while i < bytes.len() {
+fn print_hex<W: Write>(out: &mut W, bytes: &[u8], n: usize) -> io::Result<()> {
+    for (i, b) in bytes.iter().enumerate() {
         if i < n {
-            let b = bytes[i];
-            let pair = [digit(b / 16 % 16), digit(b % 16)];
-            io::write_all(1, &pair);
+            out.write_all(&[digit(*b / 16 % 16), digit(*b % 16)])?;
         }
-        i += 1;
     }
-    io::write_all(1, b"\n");
+    out.write_all(b"\n")
 }
 
-fn main() {
+fn main(rt: HostRuntime) -> io::Result<()> {
     let mut text = [0u8; 65536];
-    let n = io::read_full(0, &mut text);
+    let n = lent_input::read_full(&mut rt.reader(), &mut text)?;
     let mut slots = [0u8; 104448];
     let mut room = [0u8; 65536];
     let mut out = [0u8; 65536];
-    let answer = jettyfig::jettyfig_romanize(
+    let Answer {
+        number,
+        place,
+        length,
+        edges: _,
+    } = jettyfig::jettyfig_romanize(
         1,
         0,
         0,
@@ -81,13 +88,10 @@ fn main() {
         &mut room,
         &mut out,
     );
-    if answer.number == 0 {
-        print_hex(&out, answer.length as usize);
-        return;
+    if number == 0 {
+        let mut line = BufWriter::new(rt.alloc(), rt.stdout())?;
+        print_hex(&mut line, &out, length as usize)?;
+        return line.flush();
     }
-    io::write_all(2, b"refused with ");
-    io::print_decimal(2, answer.number);
-    io::write_all(2, b" at ");
-    io::print_decimal(2, answer.place);
-    io::write_all(2, b"\n");
+    eprintln!(rt; "refused with {number} at {place}")
 }

@@ -1,5 +1,7 @@
 // Runs the checks of the four tables on the vectors of standard input, which tests/tables/vectors.py writes, and counts
 // those whose answer is another than the one given.
+#![tactic(auto)]
+
 ghost use Rattle.std.specs.Prelude.{◌≡◌, ◌+◌, ◌<◌, ◌≤◌, length, get_or, drop, replicate};
 ghost use Rattle.base.specs.Big.{be3};
 ghost use Rattle.definition.specs.Refusals.{placed, refused_decompositions};
@@ -10,6 +12,7 @@ ghost use Rattle.rule_table.specs.Index.{index_entries};
 ghost use Rattle.tables_vectors.specs.Given.{judged_means, fault_of, is_given, is_right};
 
 use rule_table_check::RulesRead;
+use std::io;
 use table_blocks::TableRead;
 
 // The numbers that refuse a class table, a vowel table and a decomposition table.
@@ -176,12 +179,9 @@ fn room() -> [u8; 2200000] {
     [0u8; 2200000]
 }
 
-fn main() {
+fn main(rt: HostRuntime) -> io::Result<()> {
     let mut input = room();
-    let n = io::read_full(0, &mut input);
-    let tally = run_all(&input[..n]);
-    io::print_decimal(1, tally.vectors);
-    io::write_all(1, b" vectors, ");
-    io::print_decimal(1, tally.differ);
-    io::write_all(1, b" differ\n");
+    let n = lent_input::read_full(&mut rt.reader(), &mut input)?;
+    let Tally { vectors, differ } = run_all(&input[..n]);
+    println!(rt; "{vectors} vectors, {differ} differ")
 }

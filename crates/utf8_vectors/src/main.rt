@@ -1,9 +1,12 @@
 // Runs utf8::decode on the vectors of standard input, which tests/utf8/vectors.py writes, and counts those whose answer
 // is another than the one given.
+#![tactic(auto)]
+
 ghost use Rattle.std.specs.Prelude.{◌≡◌, ◌+◌, ◌<◌, ◌≤◌, length, get_or, drop};
 ghost use Rattle.base.specs.Big.{be3};
 ghost use Rattle.utf8_vectors.specs.Given.{is_given, is_place, are_places, is_right};
 
+use std::io;
 use utf8::Decoded;
 
 // What stands in `chars` where no character was put.
@@ -136,12 +139,9 @@ fn run_all(input: &[u8]) -> Tally
     Tally { vectors, differ }
 }
 
-fn main() {
+fn main(rt: HostRuntime) -> io::Result<()> {
     let mut input = [0u8; 200000];
-    let n = io::read_full(0, &mut input);
-    let tally = run_all(&input[..n]);
-    io::print_decimal(1, tally.vectors);
-    io::write_all(1, b" vectors, ");
-    io::print_decimal(1, tally.differ);
-    io::write_all(1, b" differ\n");
+    let n = lent_input::read_full(&mut rt.reader(), &mut input)?;
+    let Tally { vectors, differ } = run_all(&input[..n]);
+    println!(rt; "{vectors} vectors, {differ} differ")
 }
