@@ -3,9 +3,11 @@
 its parameters, its answer and its variables that have an array for a romanization's text, along the chain of calls that has the
 most; what is compiled into one frame may share some of them.
 
+It reads the code of the crate and of those below it, which `rt lib` proves and builds first, where anything has changed.
+
 usage: copies.py CRATE FUNCTION    as in copies.py vowel_step add_default_abugida_vowel"""
+import json
 import pathlib
-import re
 import subprocess
 import sys
 
@@ -14,56 +16,61 @@ sys.path.insert(0, str(ROOT / "tools"))
 from tables import MOST_EDGE_TEXT as MOST_BYTES
 
 
-def parsed(text):
-    """nested lists of words, `lcons a (lcons b lnil)` as [a, b], and so for types"""
-    stack = [[]]
-    for word in re.findall(r'[()]|"[^"]*"|[^\s()]+', text):
-        if word == "(":
-            stack.append([])
-        elif word == ")":
-            item = stack.pop()
-            if item and item[0] in ("lcons", "tcons", "ttcons") and len(item) == 3:
-                item = [item[1], *(item[2] if isinstance(item[2], list) else [])]
-            stack[-1].append(item)
-        else:
-            stack[-1].append(word.strip('"'))
-    return stack[0]
-
-
 def size(kind, types):
     """bytes of a type, and whether a romanization's text is in it"""
-    head = kind[0] if isinstance(kind, list) else kind
-    if head == "tyInt":
-        return int(kind[1]) // 8, False
-    if head == "tyArray":
-        inner, holds = size(kind[1], types)
-        count = int(kind[2][1])
+    head, of = next(iter(kind.items())) if isinstance(kind, dict) else (kind, None)
+    if head == "Int":
+        return of // 8, False
+    if head == "Array":
+        inner, holds = size(of[0], types)
+        count = of[1]["Lit"]
         return inner * count, holds or inner == 1 and count == MOST_BYTES
-    if head == "tyNamed":
-        made = types[kind[1][1]]
-        parts = [size(part, types) for part in made[1]] if made[0] == "fields" else [(8, False)]
+    if head == "Named":
+        shape = types.get(of[0]["name"], {})
+        parts = [size(part, types) for part in shape["Fields"]] if "Fields" in shape else [(8, False)]
         return sum(part for part, _ in parts), any(holds for _, holds in parts)
-    return {"tyBool": 1, "tyStruct": 16}.get(head, 8), False
+    return {"Bool": 1, "Struct": 16}.get(head, 8), False
 
 
 def calls(tree):
     """names of the functions that are called anywhere in a tree"""
+    if isinstance(tree, dict):
+        if "Fn" in tree:
+            yield tree["Fn"][0]
+        tree = list(tree.values())
     if isinstance(tree, list):
-        if tree[:1] == ["fnRef"]:
-            yield tree[1]
         for part in tree:
             yield from calls(part)
 
 
+def needed(crate):
+    """a crate and those below it"""
+    lines = [line.split("#")[0].split(":") for line in (ROOT / "crates.txt").read_text(encoding="utf-8").split("\n")]
+    below = {parts[0].split()[0]: parts[1].split() for parts in lines if len(parts) == 2}
+    left, found = [crate], set()
+    while left:
+        name = left.pop()
+        if name in below and name not in found:
+            found.add(name)
+            left += below[name]
+    return sorted(found)
+
+
 def main(crate, function):
-    told = subprocess.run(["rt", "mir", crate], capture_output=True, text=True, check=True).stdout
-    program = parsed(next(line for line in told.split("\n") if line.startswith("program ")))
+    if crate not in needed(crate):
+        sys.exit("no crate " + crate)
+    # the code as it is now: what other builds have left may be of another state
+    built = subprocess.run(["rt", "lib"], cwd=ROOT / "crates" / crate, stdout=subprocess.PIPE, stderr=subprocess.STDOUT, text=True)
+    if built.returncode != 0:
+        sys.exit(built.stdout + "rt lib: %s is not proved" % crate)
     found = {}
-    for item in program[1]:
-        _, name, body, *types = item
-        known = {pair[1]: pair[2] for pair in types[0]} if types and isinstance(types[0], list) else {}
-        held = [size(local[1], known) for local in body[4]]
-        found[name] = sum(part for part, holds in held if holds), sorted(set(calls(body[5])))
+    for path in [ROOT / "crates" / name / "out" / "rlib" / (name + ".rlib") / "toolchain" / "mir.json" for name in needed(crate)]:
+        for name, code in json.loads(path.read_text(encoding="utf-8")):
+            types = {made["name"]: made["shape"] for made in code["types"]}
+            held = [size(local["ty"], types) for local in code["locals"]]
+            found[name] = sum(part for part, holds in held if holds), sorted(set(calls(code["body"])))
+    if "%s::%s" % (crate, function) not in found:
+        sys.exit("no code of %s::%s" % (crate, function))
 
     def most(name):
         own, others = found.get(name, (0, []))

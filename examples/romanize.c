@@ -1,6 +1,6 @@
 /* Romanizes standard input by the tables of four files, and prints the string, or the refusal.
  *
- *     rt staticlib jettyfig
+ *     tools/build jettyfig
  *     cc -Iinclude examples/romanize.c target/staticlib/libjettyfig.a -o romanize
  *     cd crates/romanize/data
  *     printf 'कत ①' | ../../../romanize rules.bin classes.bin vowels.bin decompositions.bin

@@ -1,6 +1,6 @@
 //! Romanizes standard input by document 01's sample tables and a decomposition table, and prints the string, or the refusal.
 //!
-//!     rt staticlib jettyfig
+//!     tools/build jettyfig
 //!     rustc -O examples/romanize.rs -L target/staticlib -o romanize
 //!     printf 'कत ①' | ./romanize      prints kat 1
 

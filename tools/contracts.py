@@ -1,7 +1,8 @@
 #!/usr/bin/env python3
 """Which promises moved between two states of the project: the contract of every public function with the meaning of each name in
-it, structs and enums too, and every file of the specs of definition, stretches and jettyfig. Prints what differs, and a last line that counts; fails
-where a promise that stands in both states has moved.
+it, structs and enums too, and every file of the specs of definition, stretches and jettyfig, with those theorems of the first two
+that stand in proofs/. Prints what differs, and a last line that counts; fails where a promise that stands in both states has moved.
+A type that gains a derive promises what it promised, and one that loses a derive does not.
 
 usage: contracts.py BEFORE [AFTER] [--private]    states as git names them; without AFTER, the files as they are now;
                                                   with --private also the functions that are not public"""
@@ -12,13 +13,18 @@ import sys
 
 ROOT = pathlib.Path(__file__).resolve().parents[1]
 FIXED = ["definition", "stretches", "jettyfig"]
+# crates with theorems that stand in the modules of the same name in proofs/, since a wrong edit of a definition makes them false
+BESIDE = ["definition", "stretches"]
 FUNCTION = re.compile(r'^((?:pub )?(?:extern "C" )?fn )(\w+)(.*?)^\{', re.M | re.S)
-TYPE = re.compile(r"^(?:#.*\n)*(?:pub )?(?:struct|enum) (\w+).*?^\}", re.M | re.S)
-USE = re.compile(r"^(?:ghost )?use Rattle·(\w+)(?:·specs)?\.specs\.(?:declared\.(\w+)(?:\.the-variants)?|(\w+))(?:\.\{(.*?)\}| as (\w+))", re.M)
+TYPE = re.compile(r"^(?:#[^\n]*\n)*(?:pub )?(?:struct|enum) (\w+).*?^\}", re.M | re.S)
+DERIVE = re.compile(r"^#\[derive\((.*?)\)\]\n", re.M)
+USE = re.compile(r"^(?:ghost )?use Rattle\.(\w+)\.(?:specs|proofs)\.(?:declared\.(\w+)(?:\.TheVariants)?|(\w+))(?:\.\{(.*?)\}| as (\w+))", re.M)
 # the module under which specs find a crate's structs and enums
 TYPES = "declared"
 DECLARED = re.compile(r"\s*(?:abbrev |unfoldable )?(?:pub )?(?:record )?([^\s:(]+)")
-WORD = re.compile(r"[^\s(){},;.:=⌜⌝]+(?:\.[^\s(){},;.:=⌜⌝]+)?")
+# a use of a crate's items: one of them, or several in brackets, which may take some lines
+ITEMS = re.compile(r"^(?:pub )?use (\w+)::(?:(\w+)|\{(.*?)\});", re.M | re.S)
+WORD = re.compile(r"[^\s(){},;.:=]+(?:\.[^\s(){},;.:=]+)?")
 
 
 def git(*words):
@@ -43,7 +49,8 @@ def imported(text):
             found[alias] = (crate, TYPES, kind) if kind else (crate, module, None)
         for name in names.split(", ") if names else []:
             found[name] = crate, TYPES if kind else module, kind or name
-    found.update({name: (crate, TYPES, name) for crate, name in re.findall(r"^use (\w+)::(\w+);", text, re.M)})
+    for crate, one, several in ITEMS.findall(text):
+        found.update({name: (crate, TYPES, name) for name in re.findall(r"\w+", one or several)})
     return found
 
 
@@ -58,19 +65,20 @@ def meant(text, names):
 
 class State:
     def __init__(self, state):
-        self.public, self.private, self.speaks, self.defined, self.uses = {}, {}, {}, {}, {}
+        self.public, self.private, self.speaks, self.defined, self.uses, self.derives = {}, {}, {}, {}, {}, {}
         for path, text in files(state, r"crates/\w+/src/lib\.rt").items():
             crate, names, text = path.split("/")[1], imported(text), re.sub(r"^ *//.*\n", "", text, flags=re.M)
             names.update({made.group(1): (crate, TYPES, made.group(1)) for made in TYPE.finditer(text)})
             for made in TYPE.finditer(text):
-                self.defined[crate, TYPES, made.group(1)] = [" ".join(made.group().split())]
+                self.defined[crate, TYPES, made.group(1)] = [" ".join(DERIVE.sub("", made.group()).split())]
+                self.derives[crate, TYPES, made.group(1)] = {name for of in DERIVE.findall(made.group()) for name in re.findall(r"\w+", of)}
                 self.uses[crate, TYPES, made.group(1)] = set(meant(made.group(), names)) - {(crate, TYPES, made.group(1))}
             for head, function, rest in FUNCTION.findall(text):
                 name = "%s::%s" % (crate, function)
                 contract = re.sub(r"\( | (?=\))|, (?=\))", lambda m: m.group().strip(" ,"), " ".join(rest.split()))
                 (self.public if head.startswith("pub") else self.private)[name] = contract
                 self.speaks[name] = set(meant(contract, names))
-        for path, text in files(state, r"crates/\w+/specs/\w+\.antt").items():
+        for path, text in files(state, r"crates/(?:\w+/specs|(?:%s)/proofs)/\w+\.antt" % "|".join(BESIDE)).items():
             crate, module = path.split("/")[1], pathlib.Path(path).stem
             names, blocks = imported(text), []
             for block in re.split(r"\n\s*\n", text):
@@ -81,12 +89,18 @@ class State:
             for name, block in blocks:
                 self.defined.setdefault((crate, module, name), []).append(block)
                 self.uses.setdefault((crate, module, name), set()).update(meant(block, names))
-        self.specs = files(state, r"crates/(?:%s)/specs/.*" % "|".join(FIXED))
+        self.specs = files(state, r"crates/(?:(?:%s)/specs/.*|(?:%s)/proofs/\w+\.antt)" % ("|".join(FIXED), "|".join(BESIDE)))
+
+
+def lost(before, after):
+    """derives of a type that went: who copies it may drop it, too"""
+    return before - after - ({"Drop"} if "Copy" in after else set())
 
 
 def changed(before, after):
     """names of specs that mean something else: their own words differ, or those of a name that they speak of"""
     found = {key for key in before.defined if before.defined[key] != after.defined.get(key)}
+    found |= {key for key, derives in before.derives.items() if lost(derives, after.derives.get(key, set()))}
     own = set(found)
     while True:
         more = {key for key, uses in after.uses.items() if key in before.defined and key not in found and uses & found}

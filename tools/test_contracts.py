@@ -6,40 +6,43 @@ import tempfile
 import unittest
 
 TOOL = pathlib.Path(__file__).resolve().parent / "contracts.py"
-CODE = """ghost use Rattle·sum·specs.specs.Sums.{twice, value};
+CODE = """#![tactic(auto)]
+
+ghost use Rattle.sum.specs.Sums.{twice, value};
 
 // A number.
+#[derive(Drop)]
 pub struct Number {
     pub digits: u32,
 }
 
 // Two of it.
 pub fn twice(n: u32) -> u32
-    requires { ⌜ n < 8 ⌝ }
-    ensures { λ r. ⌜ r ≡ twice n ⌝ }
+    requires { n < 8 }
+    ensures { result ≡ twice n }
 {
     %s
 }
 
 // One more.
 pub fn next(n: Number) -> u32
-    ensures { λ r. ⌜ r ≡ value n + 1 ⌝ }
+    ensures { result ≡ value n + 1 }
 {
     n.digits + 1
 }
 
 fn half(n: u32) -> u32
-    ensures { λ r. ⌜ r ≡ n / 2 ⌝ }
+    ensures { result ≡ n / 2 }
 {
     n / 2
 }
 """
 SPECS = """-- Sums.
-use Prim.Native.Nat.{ℕ, _+_}
-use Rattle·sum·specs.specs.declared.Number.{Number}
+use Rattle.std.specs.Prelude.{ℕ, ◌+◌}
+use Rattle.sum.specs.declared.Number.{Number}
 
 abbrev pub value : Number → ℕ
-value n = n .digits
+value n = n.digits
 
 one : ℕ
 one = 1
@@ -47,7 +50,18 @@ one = 1
 unfoldable pub twice : ℕ → ℕ
 twice n = n + n + %s
 """
-LAST = "%d contracts of public functions stand, %d of them moved; %d functions gone, %d new; 0 files of the specs of definition, stretches, jettyfig, 0 differ"
+# a crate above it, whose contracts speak of two of its types
+ABOVE = """use sum::{
+    Number, Other,
+};
+
+pub fn same(n: Number) -> Number
+    ensures { result ≡ n }
+{
+    n
+}
+"""
+LAST = "%d contracts of public functions stand, %d of them moved; %d functions gone, %d new; %d files of the specs of definition, stretches, jettyfig, %d differ"
 
 
 class Contracts(unittest.TestCase):
@@ -59,17 +73,21 @@ class Contracts(unittest.TestCase):
         (self.root / "tools" / "contracts.py").write_bytes(TOOL.read_bytes())
         self.write("src/lib.rt", CODE % "n + n")
         self.write("specs/Sums.antt", SPECS % "0")
-        for words in (["init", "-q"], ["add", "."], ["-c", "user.name=t", "-c", "user.email=t@t", "commit", "-q", "-m", "t"]):
-            subprocess.run(["git", *words], cwd=self.root, check=True)
+        subprocess.run(["git", "init", "-q"], cwd=self.root, check=True)
+        self.commit()
 
-    def write(self, name, text):
-        path = self.root / "crates" / "sum" / name
+    def write(self, name, text, crate="sum"):
+        path = self.root / "crates" / crate / name
         path.parent.mkdir(parents=True, exist_ok=True)
         path.write_text(text, encoding="utf-8")
 
-    def told(self, status, *numbers):
+    def commit(self):
+        for words in (["add", "."], ["-c", "user.name=t", "-c", "user.email=t@t", "commit", "-q", "-m", "t"]):
+            subprocess.run(["git", *words], cwd=self.root, check=True)
+
+    def told(self, status, *numbers, specs=(0, 0)):
         done = subprocess.run([sys.executable, self.root / "tools" / "contracts.py", "HEAD", "--private"], capture_output=True, text=True)
-        self.assertEqual((done.returncode, done.stdout.splitlines()[-1:]), (status, [LAST % numbers]), done.stdout + done.stderr)
+        self.assertEqual((done.returncode, done.stdout.splitlines()[-1:]), (status, [LAST % (*numbers, *specs)]), done.stdout + done.stderr)
         return done.stdout
 
     def test_another_body(self):
@@ -90,7 +108,7 @@ class Contracts(unittest.TestCase):
 
     def test_another_meaning_below(self):
         self.write("specs/Sums.antt", (SPECS % "one"))
-        subprocess.run(["git", "-c", "user.name=t", "-c", "user.email=t@t", "commit", "-q", "-a", "-m", "t"], cwd=self.root, check=True)
+        self.commit()
         self.write("specs/Sums.antt", (SPECS % "one").replace("one = 1", "one = 2"))
         self.assertIn("sum::twice speaks of sum.Sums.twice", self.told(1, 2, 1, 0, 0))
 
@@ -98,8 +116,42 @@ class Contracts(unittest.TestCase):
         self.write("src/lib.rt", (CODE % "n + n").replace("digits: u32", "digits: u64"))
         self.assertIn("sum::next speaks of sum.Sums.value, sum.declared.Number", self.told(1, 2, 1, 0, 0))
 
+    def test_another_struct_below(self):
+        self.write("src/lib.rt", ABOVE, "above")
+        self.commit()
+        self.write("src/lib.rt", (CODE % "n + n").replace("digits: u32", "digits: u64"))
+        self.assertIn("above::same speaks of sum.declared.Number", self.told(1, 3, 2, 0, 0))
+
+    def test_a_derive_more(self):
+        self.write("src/lib.rt", (CODE % "n + n").replace("(Drop)", "(Clone, Copy)"))
+        self.told(0, 2, 0, 0, 0)
+
+    def test_a_derive_less(self):
+        self.write("src/lib.rt", (CODE % "n + n").replace("(Drop)", "(Clone, Copy)"))
+        self.commit()
+        self.write("src/lib.rt", CODE % "n + n")
+        self.assertIn("sum::next speaks of sum.Sums.value, sum.declared.Number", self.told(1, 2, 1, 0, 0))
+
+    def test_no_derive(self):
+        self.write("src/lib.rt", (CODE % "n + n").replace("#[derive(Drop)]\n", ""))
+        self.assertIn("sum::next speaks of sum.Sums.value, sum.declared.Number", self.told(1, 2, 1, 0, 0))
+
+    def test_another_theorem(self):
+        self.write("proofs/Laws.antt", "pub law : 1 ≡ 1\nlaw = refl\n", "definition")
+        self.commit()
+        self.told(0, 2, 0, 0, 0, specs=(1, 0))
+        self.write("proofs/Laws.antt", "pub law : 2 ≡ 2\nlaw = refl\n", "definition")
+        self.assertIn("specs, moved: crates/definition/proofs/Laws.antt", self.told(1, 2, 0, 0, 0, specs=(1, 1)))
+
+    def test_another_meaning_in_proofs(self):
+        self.write("src/lib.rt", (CODE % "n + n").replace("Rattle.sum.specs.Sums.{twice, value}", "Rattle.definition.proofs.Sums.{twice, value}"))
+        self.write("proofs/Sums.antt", SPECS % "0", "definition")
+        self.commit()
+        self.write("proofs/Sums.antt", SPECS % "1", "definition")
+        self.assertIn("sum::twice speaks of definition.Sums.twice", self.told(1, 2, 1, 0, 0, specs=(1, 1)))
+
     def test_private(self):
-        self.write("src/lib.rt", (CODE % "n + n").replace("n / 2 ⌝", "n / 3 ⌝"))
+        self.write("src/lib.rt", (CODE % "n + n").replace("≡ n / 2", "≡ n / 3"))
         self.assertIn("private functions, moved: sum::half", self.told(0, 2, 0, 0, 0))
 
 

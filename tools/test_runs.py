@@ -1,4 +1,4 @@
-"""Runs that README.md and docs/FORMAT.md show, with target/bin/romanize (`rt check romanize` builds it); skipped without it."""
+"""Runs that README.md and docs/FORMAT.md show, with target/bin/romanize (`tools/build romanize` builds it); skipped without it."""
 import pathlib
 import re
 import subprocess
@@ -35,7 +35,7 @@ def installed(package):
 HAVE_PACKAGES = unittest.skipUnless(all(map(installed, PACKAGES)), "%s and %s are missing: tools/make_tables installs them" % PACKAGES)
 
 
-@unittest.skipUnless(PROGRAM.exists(), "target/bin/romanize is missing: rt check romanize")
+@unittest.skipUnless(PROGRAM.exists(), "target/bin/romanize is missing: tools/build romanize")
 class Runs(unittest.TestCase):
     @HAVE_PACKAGES
     def test_the_readme(self):

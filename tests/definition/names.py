@@ -23,16 +23,15 @@ def unfoldable(crate, module):
     return re.findall(r"(?m)^ *unfoldable pub (\S+)", contents(crate, "specs", module + ".antt"))
 
 
-def imports(root, own):
-    """`use` lines for everything unfoldable, as crate `own` writes them, and all the names"""
+def imports(root):
+    """`use` lines for everything unfoldable, and all the names"""
     lines, names = [], []
     for crate in ("base", "definition"):
         folder = os.path.join(root, "crates", crate)
-        library = "Rattle·%s·specs.specs" % crate if crate == own else "Rattle·%s.specs" % crate
         for module in modules(folder):
             found = unfoldable(folder, module)
             if found:
-                lines.append("use %s.%s.{%s}" % (library, module, ", ".join(found)))
+                lines.append("use Rattle.%s.specs.%s.{%s}" % (crate, module, ", ".join(found)))
                 names += found
     twice = sorted({n for n in names if names.count(n) > 1})
     if twice:
@@ -52,12 +51,12 @@ def wrapped(head, words, width=116):
 
 
 def compute_module(root):
-    lines, names = imports(root, "definition")
+    lines, names = imports(root)
     return "\n".join([
         "-- `called`, to compute with: whatever unfolds `compute` unfolds the whole definition. Written by tests/definition/names.py.",
-        "use mathlib.Core.Path.{_≡_, refl}",
+        "use Rattle.std.specs.Prelude.{◌≡◌, refl}",
         *lines,
-        "use Rattle·definition·specs.specs.Call.{Inputs, Called}",
+        "use Rattle.definition.specs.Call.{Inputs, Called}",
         "",
         "unfoldable pub compute : Inputs → Called",
         wrapped("unfolding", names),

@@ -42,15 +42,17 @@ def functions(listing):
 
 
 def probed(name, code):
-    """a frame of several pages is taken page by page, each touched, in a loop up to where %r11 points: the same code with one `sub` of all
-    these pages in its place"""
+    """a frame of several pages is taken in steps of a page at most, each touched, in a loop up to where %r11 points: the same code with one
+    `sub` of all these steps in its place"""
     for i in range(len(code) - 5):
         (_, one, to, _), (_, two, by, _), (loop, *page, _), (_, *touch, _), (_, *end, _), (_, back, where, _) = code[i:i + 6]
         size = re.match(r"\$(0x[0-9a-f]+),%r11$", by)
         if (one, to, two, back) != ("mov", "%rsp,%r11", "sub", "jne") or not size or int(where.split()[0], 16) != loop:
             continue
-        whole = int(size.group(1), 16) % PAGE == 0
-        if not whole or [page, touch, end] != [["sub", "$%#x,%%rsp" % PAGE], ["movq", "$0x0,(%rsp)"], ["cmp", "%r11,%rsp"]]:
+        step = re.match(r"\$(0x[0-9a-f]+),%rsp$", page[1])
+        step = int(step.group(1), 16) if step and page[0] == "sub" else 0
+        whole = 0 < step <= PAGE and int(size.group(1), 16) % step == 0
+        if not whole or [touch, end] != [["movq", "$0x0,(%rsp)"], ["cmp", "%r11,%rsp"]]:
             sys.exit("%s: a loop over pages that is not understood" % name)
         for k in range(i, i + 6):
             code[k][1:3] = "nop", ""

@@ -15,7 +15,7 @@ build_oracle() {
 
 build_library() {
   if stale "$library" "$root"/crates/*/src; then
-    (cd "$root" && rt staticlib jettyfig) || return
+    "$root/tools/build" jettyfig || return
     touch "$library"
   fi
 }
