@@ -1,7 +1,7 @@
 """The definitions that can be unfolded, found in the specs of base and definition by `unfoldable pub`.
 
 Run on its own it writes the module that unfolds them all, from the repository's root:
-  python3 tests/definition/names.py > crates/definition/specs/Compute.antt && rt fmt
+  python3 tests/definition/names.py > crates/definition/specs/Compute.antt && (cd crates/definition && rt fmt)
 """
 import os
 import re

@@ -1,4 +1,4 @@
--- What rests on theorems of specs/Absent.antt, or of other files, that a wrong definition makes false.
+-- The laws of specs/Absent, for accepted calls.
 use Rattle.std.specs.Prelude.{◌≡◌}
 use Rattle.std.proofs.Math.Option.{none}
 use Prim.Native.Nat.{◌≤◌}

@@ -1,4 +1,5 @@
--- What rests on theorems of specs/Accepted.antt, or of other files, that a wrong definition makes false.
+-- Of a call's tables without fault: the rows of a rule table, one right after the other, and where the rows of a rule table and
+-- of a class table lie.
 use Rattle.std.specs.Prelude.{true, ◌≡◌, List, [], ℕ, ◌≤◌, length, drop}
 use Rattle.std.proofs.Math.Option.{none}
 use Rattle.base.specs.Rows.{Each, each_map}

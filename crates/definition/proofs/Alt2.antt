@@ -1,4 +1,4 @@
--- What rests on theorems of specs/Alt2.antt, or of other files, that a wrong definition makes false.
+-- The alternatives with the step of "rom-alt2" and without it: where readings are not chosen they are the same.
 use Rattle.std.specs.Prelude.{Bool, ◌≡◌}
 use Rattle.std.proofs.Math.Bool.{false}
 use Rattle.std.proofs.Math.Path.{refl, sym, ap}

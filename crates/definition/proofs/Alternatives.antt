@@ -1,4 +1,4 @@
--- What rests on theorems of specs/Alternatives.antt, or of other files, that a wrong definition makes false.
+-- Mode 2's list: the path as it is, then alternatives, each with its edge's span and a text of 204 bytes at most.
 use Rattle.std.specs.Prelude.{Bool, ◌≡◌, ℕ, eqb, length, drop}
 use Rattle.std.proofs.Common.{true≢false, sym, ap, ◌∙◌, subst, inl, inr, arith}
 use mathlib.Core.List.{List, [], ◌∷◌, ◌++◌}

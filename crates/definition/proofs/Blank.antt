@@ -1,4 +1,4 @@
--- What rests on theorems of specs/Blank.antt, or of other files, that a wrong definition makes false.
+-- An accepted class table says of U+0020 that it is blank: no letter, no mark, no script, no flag.
 use Rattle.std.specs.Prelude.{true, ◌≡◌, List}
 use Rattle.std.proofs.Math.Bool.{false}
 use Rattle.std.proofs.Common.{inl}

@@ -1,4 +1,5 @@
--- What rests on theorems of specs/Bounds.antt, or of other files, that a wrong definition makes false.
+-- The edges of rules and fallbacks, step by step: each goes forward, lies within the text, has a text of 606 bytes at most, and a
+-- core as its text has it.
 use Rattle.std.specs.Prelude.{Bool, ◌≡◌, refl, length}
 use Rattle.std.proofs.Math.Bool.{true, false}
 use Rattle.std.proofs.Math.Logic.{inl}

@@ -1,4 +1,4 @@
--- What rests on theorems of specs/Capitals.antt, or of other files, that a wrong definition makes false.
+-- The capitalizing step makes no text longer, and what it has made small letters of is not doubled.
 use Rattle.std.specs.Prelude.{Bool, true, false, ◌&&◌, ◌||◌, ◌≡◌, refl, ℕ, ◌+◌, eqb}
 use Rattle.std.proofs.Math.Bool.{and-false}
 use Rattle.std.proofs.Common.{true≢false, sym, ap, ◌∙◌, arith}

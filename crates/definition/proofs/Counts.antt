@@ -1,4 +1,5 @@
--- What rests on theorems of specs/Counts.antt, or of other files, that a wrong definition makes false.
+-- How many alternatives there are: what a rule adds for an edge, what all rules add for it, and what they add for the path's
+-- edges.
 use Rattle.std.specs.Prelude.{Bool, ◌≡◌, get_or, drop}
 use Rattle.std.proofs.Math.Bool.{true, false}
 use Rattle.std.proofs.Math.Path.{refl}

@@ -1,4 +1,4 @@
--- What rests on theorems of specs/Cover.antt, or of other files, that a wrong definition makes false.
+-- Every character of a text is covered, and the path of an accepted text covers it.
 use Rattle.std.specs.Prelude.{true, length}
 use Rattle.std.proofs.Math.Path.{◌≡◌}
 use Rattle.std.proofs.Math.Option.{none}

@@ -1,4 +1,5 @@
--- What rests on theorems of specs/Endings.antt, or of other files, that a wrong definition makes false.
+-- Every call ends with the romanization, or with one numbered refusal and zeros; and 19 comes of a listing that is too large, and
+-- of nothing else.
 use Rattle.std.specs.Prelude.{ℕ, ◌-◌, ◌/◌, ◌≤◌, ◌<◌, true, false, List, [], ◌∷◌, ◌≡◌, eqb, ltb, length}
 use Rattle.std.proofs.Common.{true≢false, sym, ◌∙◌, arith}
 use Rattle.std.proofs.Math.Option.{Option, none, some}

@@ -1,4 +1,4 @@
--- What rests on theorems of specs/ExpandBounds.antt, or of other files, that a wrong definition makes false.
+-- Each step of the expansion goes forward, within the text, and makes no more bytes than specs/ExpandBounds names for it.
 use Rattle.std.proofs.Math.Bool.{Bool}
 use Rattle.std.specs.Prelude.{true, false, ◌&&◌, ◌≡◌, [], ◌∷◌, ◌++◌, ℕ, ◌+◌, ◌-◌, ◌≤◌, ◌<◌}
 use Rattle.std.proofs.Math.Path.{refl}

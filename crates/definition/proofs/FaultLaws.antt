@@ -1,4 +1,4 @@
--- What rests on theorems of specs/FaultLaws.antt, or of other files, that a wrong definition makes false.
+-- A rule table has no fault just where all of document 01's tests hold of it, and a fault lies in the first row that breaks one.
 use Rattle.std.specs.Prelude.{Bool, ◌≡◌, ℕ, ◌≤◌, ◌<◌, drop}
 use Rattle.std.proofs.Math.Bool.{true, false}
 use Rattle.std.proofs.Math.Path.{refl, sym, ap}
@@ -22,7 +22,7 @@ use Rattle.definition.specs.RuleTurns.{rule_moves}
 use Rattle.definition.proofs.RuleTurns.{row_tells, found_ind}
 use Rattle.definition.specs.FaultLaws.{Both, Near, Placed, first_row, same, start}
 
--- A table has a fault just where it has such a row
+-- A table has a fault just where `first_row` finds one
 module _ (b : List ℕ) where
   pub no_fault : first_row b ≡ none → rule_fault b ≡ none
   unfolding rule_fault

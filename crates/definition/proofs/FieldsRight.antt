@@ -1,4 +1,4 @@
--- What rests on theorems of specs/FieldsRight.antt, or of other files, that a wrong definition makes false.
+-- The parts of a row, one after another, and the row: each is read without fault just where all that is asked of it holds.
 use Rattle.std.specs.Prelude.{Bool, ◌&&◌, ◌||◌, List, length}
 use Rattle.std.proofs.Math.Bool.{true, false, not}
 use Rattle.std.proofs.Common.{◌∙◌}

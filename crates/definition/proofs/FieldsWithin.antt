@@ -1,4 +1,4 @@
--- What rests on theorems of specs/FieldsWithin.antt, or of other files, that a wrong definition makes false.
+-- Where the walk over a row's fields stands is at most the row's size, and a row that is read ends at its size.
 use Rattle.std.specs.Prelude.{Bool, ◌≡◌, List, leb, length, get_or, drop}
 use Rattle.std.proofs.Common.{subst, arith}
 use Prim.Native.Nat.{ℕ, zero, suc, ◌+◌, ◌≤◌}

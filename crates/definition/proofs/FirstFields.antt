@@ -1,4 +1,4 @@
--- What rests on theorems of specs/FirstFields.antt, or of other files, that a wrong definition makes false.
+-- Each part of a rule row is read as its list of fields, and no field before the place of a row's fault is faulty.
 use Rattle.std.specs.Prelude.{Bool, ◌≡◌, leb}
 use Rattle.std.proofs.Math.Bool.{true, false}
 use Rattle.std.proofs.Math.Path.{refl, sym, ap}

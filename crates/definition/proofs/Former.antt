@@ -1,4 +1,4 @@
--- What rests on theorems of specs/Former.antt, or of other files, that a wrong definition makes false.
+-- Rule tables that the limit accepts that there is now, and those that the former limit accepts.
 use Rattle.std.specs.Prelude.{◌≡◌, List, []}
 use Rattle.std.proofs.Common.{sym, ◌∙◌, arith}
 use Rattle.std.proofs.Math.Option.{none}

@@ -1,4 +1,4 @@
--- What rests on theorems of specs/FormsOff.antt, or of other files, that a wrong definition makes false.
+-- Where no row of the decomposition table gives an edge, the lattice and the call are as they were before there was the table.
 use Rattle.std.specs.Prelude.{◌≡◌, List, ℕ, ◌/◌, ◌<◌, length}
 use Rattle.std.proofs.Math.Path.{refl}
 use Rattle.std.proofs.Common.{sym, ap, ◌∙◌, subst}
@@ -23,7 +23,7 @@ use Rattle.definition.proofs.Promises.{bounded}
 use Rattle.definition.specs.FormsOff.{Silent, by_rules_alone, empty-silent, empty_right, former, refusal-former, stands_off}
 
 module _ (D : Tables) (ds : List Decomposition) (t : Text) where
-  -- so the lattice is that of rules and fallbacks
+  -- The lattice is that of rules and fallbacks
   pub lattice-silent : Silent ds → lattice D ds t ≡ rule_lattice D t
   lattice-silent h = lattice_off D ds t (λ p l. stands_off ds h (at t p))
 
@@ -39,7 +39,7 @@ accepted_off i D t ok off =
     let ds = decompositions i in
     rw (lattice_off D ds t off) (ap (within_room i D t (rule_lattice D t)) (overflow-rules D ds t ok (i.slots / slot_bytes) i.room))
 
--- and one whose rows give no edge changes nothing
+-- A table without fault whose rows give no edge changes nothing
 pub called-former : (i : Inputs) → decomposition_fault i.decompositions ≡ none → Silent (decompositions i) → called i ≡ former i
 unfolding called former
 called-former i e h = go (refusal i) refl ∙ ap (λ o. maybe o (by_rules_alone i (tables i) (characters i)) (refused i)) (refusal-former i e)

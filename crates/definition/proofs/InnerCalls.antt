@@ -1,4 +1,4 @@
--- What rests on theorems of specs/InnerCalls.antt, or of other files, that a wrong definition makes false.
+-- The characters of a row as a text of their own: the call of them alone gives what they give inside a text.
 use Rattle.std.specs.Prelude.{true, ◌≡◌, replicate}
 use Rattle.std.proofs.Math.Bool.{false}
 use Rattle.std.proofs.Common.{true≢false, sym, ◌∙◌, le-ltb}
@@ -36,7 +36,7 @@ use Rattle.definition.specs.FormsOff.{stands-all, by_rules_alone}
 use Rattle.definition.proofs.FormsOff.{accepted_off}
 use Rattle.definition.specs.InnerCalls.{D, Final, ReadAlone, alone, own, rowless_stands, slot_left}
 
--- every row's characters are so, whatever its tag
+-- Every row's characters are such a text, whatever its tag
 pub rows_final : (i : Inputs) → refusal i ≡ none → All (λ d. Final (decompositions i) d.into) (decompositions i)
 unfolding decompositions
 rows_final i e = All-map (λ d q. record { least = q.least; most = q.most; scalars = q.scalars; kept = q.kept; rowless = q.final })
@@ -80,7 +80,7 @@ module _ (i : Inputs) (ok : refusal i ≡ none) (w : Text) (f : Final (decomposi
   own-bounded = let a = accepted_of i ok in
       tables-bounded i.choices i.rules i.classes i.vowels [] a.rules a.classes a.vowels
 
-  -- Alone they are asked for the same edges, and answer with the same string
+  -- Alone its characters are asked for the same edges, and answer with the same string
   pub alone-called : called (own i ok w f slots room out) ≡ within_room (own i ok w f slots room out) (uncoded (D i ok w f slots room out)) w (inner_lattice (D i ok w f slots room out) w) (misfit (slots / slot_bytes) room (inner_lattice (D i ok w f slots room out) w).0)
   unfolding called unless_refused inner_lattice by_rules_alone alone decompositions
   alone-called = rw (own-accepted, own-tables, own-characters)

@@ -1,4 +1,4 @@
--- What rests on theorems of specs/OAng.antt, or of other files, that a wrong definition makes false.
+-- The walk back behind O ang ends at the same place from wherever it comes to.
 use Rattle.std.specs.Prelude.{Bool, ◌≡◌, eqb}
 use Rattle.std.proofs.Math.Bool.{true, false}
 use Rattle.std.proofs.Math.Path.{refl}
@@ -9,7 +9,6 @@ use Rattle.definition.specs.Tables.{Choices}
 use Rattle.definition.specs.Expansion.{stretch_start, walk_start}
 use Rattle.definition.specs.OAng.{start-same}
 
--- So it is with the walk
 pub walk_same : (c : Choices) (t : Text) (q p : ℕ) → q ≤ p → walk_start c t p ≤ q → walk_start c t q ≡ walk_start c t p
 unfolding walk_start pick
 walk_same c t q p h l = go (eqb c.o_ang 1) l

@@ -1,4 +1,5 @@
--- What rests on theorems of specs/Offers.antt, or of other files, that a wrong definition makes false.
+-- The alternatives, edge by edge: what the rules of an edge add is what they offer it that is new, and the list with alternatives
+-- is the path, then what is new for each of its edges.
 use Rattle.std.proofs.Math.Bool.{Bool, true, false, or-false, or-true}
 use Rattle.std.specs.Prelude.{not, ◌&&◌, ◌||◌, ◌≡◌, ℕ, ◌<◌}
 use Rattle.std.proofs.Math.Path.{refl, sym, ap}
@@ -23,7 +24,7 @@ use Rattle.definition.specs.Alternatives.{edge_vowel}
 use Rattle.definition.specs.Recalled.{Recalls, valid_rules, valid_rules-alike, valids_are, valids-recall}
 use Rattle.definition.specs.Offers.{Alone, Before, Of, Told, all_in, all_in-append, all_offers, alone-own, end_offers, found_all, found_by, news, news-all, offers, path-rises, reading_offers, target_offers}
 
--- this is what the rules do
+-- What a rule adds is what it offers, added in turn
 module _ (b : Bool) (x : Edge) where
   also_in : (more : Text) (ws : List Text) (seen : List Edge)
       → also_all x more ws seen ≡ all_in seen (map (λ w. other x note_alt (w ++ more)) ws)
@@ -118,7 +119,7 @@ module _ (b : Bool) (x : Edge) where
   unfolding akin
   akin_of c d p q = ap (λ b. b && same c.text d.text) (eq-eqb c.to d.to (p.1 ∙ sym q.1))
 
-  -- This stays so where one is not added, since its text is there,
+  -- `Told` stays so where one is not added, since its text is there,
   told_not : (seen : List Edge) (ws : List Text) (w : Text) → any (same w) ws ≡ true → Told b x seen ws → Told b x seen (ws ++ w ∷ [])
   unfolding any
   told_not seen ws w e h c p = h c p ∙ sym (any_append (same c.text) ws (w ∷ []) ∙ go (same c.text w) refl)
@@ -175,7 +176,7 @@ module _ (b : Bool) (x : Edge) where
       (λ c q. ne_eqb c.from p (λ z. let w = q.0 in omega arith)))
       ∙ append-nil (keep f seen)
 
--- it stays so when another edge's alternatives are added
+-- Edges that are the only ones from their starts (`Alone`) stay so when another edge's alternatives are added
 alone-found : (c : Bool) (x : Edge) (rs : List Rule) (seen ys : List Edge) → All (Before x) ys → All (Alone seen) ys
     → All (Alone (seen ++ found_by c x rs)) ys
 alone-found c x rs seen [] b a = tt

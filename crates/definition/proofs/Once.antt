@@ -1,4 +1,4 @@
--- What rests on theorems of specs/Once.antt, or of other files, that a wrong definition makes false.
+-- In mode 2 no two listed edges share span and text, whatever is chosen.
 use Rattle.std.specs.Prelude.{Bool, ◌≡◌, length}
 use Rattle.std.proofs.Common.{sym, subst}
 use mathlib.Core.List.{List, [], ◌∷◌}

@@ -1,4 +1,4 @@
--- What rests on theorems of specs/Parts.antt, or of other files, that a wrong definition makes false.
+-- A part of an accepted text is an accepted text, with the same tables and code.
 use Rattle.std.specs.Prelude.{true, false, ◌≡◌, refl, ◌++◌, ℕ, length}
 use Rattle.std.proofs.Common.{ap, subst, arith, length-append}
 use Rattle.std.proofs.Math.Option.{none}

@@ -1,4 +1,5 @@
--- What rests on theorems of specs/Promises.antt, or of other files, that a wrong definition makes false.
+-- What document 01 says of every accepted call: at most 4,096 characters, at most 17 edges for each, and each edge forward,
+-- within the text, with a text of 606 bytes at most.
 use Rattle.std.specs.Prelude.{◌≡◌, List, ℕ, ◌*◌, ◌/◌, ◌≤◌, length}
 use Rattle.std.proofs.Math.Option.{none}
 use Rattle.base.specs.Alls.{All}

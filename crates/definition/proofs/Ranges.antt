@@ -1,4 +1,4 @@
--- What rests on theorems of specs/Ranges.antt, or of other files, that a wrong definition makes false.
+-- The sources of an accepted rule table have 1 to 16 characters.
 use Rattle.std.specs.Prelude.{◌≡◌, List, drop}
 use Rattle.std.proofs.Math.Bool.{true}
 use Rattle.std.proofs.Math.Option.{none}

@@ -1,4 +1,4 @@
--- What rests on theorems of specs/RankedNeighbours.antt, or of other files, that a wrong definition makes false.
+-- The longest edge that starts somewhere, or that ends there, is of its span the one that the Rust ranks first.
 use Rattle.std.specs.Prelude.{◌≡◌, ℕ}
 use Rattle.std.proofs.Common.{subst}
 use mathlib.Core.List.{List, ◌++◌}

@@ -1,4 +1,5 @@
--- What rests on theorems of specs/Ranking.antt, or of other files, that a wrong definition makes false.
+-- Of a span's edges the first added is the one that the Rust takes: neither pass adds an edge behind one of its span that ranks
+-- below it.
 use Rattle.std.proofs.Math.Bool.{Bool, true, false}
 use Rattle.std.specs.Prelude.{◌≡◌, length}
 use Rattle.std.proofs.Common.{true≢false, sym, ◌∙◌, subst, eq-eqb}

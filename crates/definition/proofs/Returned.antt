@@ -1,4 +1,4 @@
--- What rests on theorems of specs/Returned.antt, or of other files, that a wrong definition makes false.
+-- Every call returns the whole output slice, zero past its length; after a refusal nothing but number and place.
 use Rattle.std.specs.Prelude.{◌/◌, length}
 use Rattle.std.proofs.Math.Option.{Option, none, some}
 use Rattle.definition.specs.Limits.{slot_bytes}

@@ -1,4 +1,4 @@
--- What rests on theorems of specs/Rewritten.antt, or of other files, that a wrong definition makes false.
+-- Where no sequence is bad, a text's bytes are those of its characters.
 use Rattle.std.specs.Prelude.{◌≡◌, refl, List, [], ◌∷◌, ◌++◌, ℕ, zero, suc, ◌+◌, ◌≤◌, length, drop}
 use Rattle.std.proofs.Common.{sym, ◌∙◌, arith, length-drop}
 use Rattle.std.proofs.Math.Path.{ap}

@@ -1,4 +1,4 @@
--- What rests on theorems of specs/Risen.antt, or of other files, that a wrong definition makes false.
+-- Rows of an accepted table rise: of rules, of classes and of vowels.
 use Rattle.std.specs.Prelude.{true, ◌≡◌, List, ℕ, ◌≤◌, ◌<◌}
 use Rattle.std.proofs.Common.{arith}
 use Rattle.std.proofs.Math.Option.{none}

@@ -1,4 +1,4 @@
--- What rests on theorems of specs/Roundtrip.antt, or of other files, that a wrong definition makes false.
+-- The characters of a text's bytes are the text, and no sequence of them is bad.
 use Rattle.std.specs.Prelude.{Bool, true, false, ◌≡◌, refl, List, [], ◌∷◌, ◌++◌, ℕ, ◌+◌, ◌*◌, ◌/◌, ◌%◌, ◌≤◌, ◌<◌, ltb, length, get_or}
 use Rattle.std.proofs.Common.{◌∙◌, ap, arith, length-append, ltb-true, ltb-false}
 use Rattle.std.proofs.Math.Option.{none}

@@ -1,4 +1,4 @@
--- What rests on theorems of specs/RuleNumbers.antt, or of other files, that a wrong definition makes false.
+-- What holds of the six numbers that refuse a rule table holds of the number of any faulty field, row and table.
 use Rattle.std.specs.Prelude.{Bool, true, false, ◌≡◌, length, drop, get_or}
 use Rattle.std.proofs.Common.{ap, subst, arith}
 use mathlib.Core.List.{List, []}

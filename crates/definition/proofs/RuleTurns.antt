@@ -1,4 +1,4 @@
--- What rests on theorems of specs/RuleTurns.antt, or of other files, that a wrong definition makes false.
+-- A rule table checked row by row: what is found of a row, case by case, and that nothing is found just where it is right.
 use Rattle.std.specs.Prelude.{Bool, ◌&&◌, ◌≡◌, ℕ, zero, suc, ◌+◌, ◌-◌, ◌≤◌, ◌<◌, length, drop}
 use Rattle.std.proofs.Math.Bool.{true, false}
 use Rattle.std.proofs.Common.{true≢false, sym, ap, ◌∙◌, arith}

@@ -1,4 +1,4 @@
--- What rests on theorems of specs/Sizes.antt, or of other files, that a wrong definition makes false.
+-- How many bytes a listing's rows have in each mode, and that the length that a listing begins with is exact.
 use Rattle.std.specs.Prelude.{true, false, ◌≡◌, drop}
 use Rattle.std.proofs.Common.{sym, ◌∙◌, lt-ltb, le-ltb, ltb-true, ltb-false}
 use Rattle.std.proofs.Math.Path.{refl, ap}

@@ -1,4 +1,4 @@
--- What rests on theorems of specs/TooLarge.antt, or of other files, that a wrong definition makes false.
+-- Calls that end with 19, and listings that are returned.
 use Rattle.std.specs.Prelude.{Bool, true, false, ◌≡◌, refl, ℕ, ◌<◌, eqb, length, drop}
 use Rattle.std.proofs.Common.{true≢false, sym, ap, ◌∙◌, arith, eqb-true}
 use Rattle.std.proofs.Math.Option.{none}

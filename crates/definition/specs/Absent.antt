@@ -1,5 +1,6 @@
 -- Where the definition asks a neighbour several things: each such test, in the Rust's words, of a character that may be
 -- absent (Outside). A first rule is asked only after a test that a space fails, so none is asked for an absent one.
+-- (proofs/Absent: what they take for granted of the space and of the vowel rows, an accepted call has.)
 use Rattle.std.proofs.Math.Bool.{Bool, not, and-false}
 use Rattle.std.specs.Prelude.{true, false, ◌&&◌, ◌||◌, ◌≡◌}
 use Rattle.std.proofs.Math.Path.{refl, ap}

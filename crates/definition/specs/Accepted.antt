@@ -1,4 +1,5 @@
 -- What a call has checked when it refuses nothing of 1 to 8, 12 and 13: its tables' rows are right, and its text is short enough.
+-- (proofs/Accepted: the rows of a rule table.)
 use Rattle.std.specs.Prelude.{Bool, true, false, ◌≡◌, refl, List, ℕ, ◌≤◌, ◌<◌, length, drop}
 use Rattle.std.proofs.Math.Option.{Option, none, some}
 use Rattle.std.proofs.Common.{arith, ltb-false, le-ltb}

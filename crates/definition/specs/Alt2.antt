@@ -1,6 +1,6 @@
 -- Where readings are not chosen code 13 is absent: all is as it was before there was the choice. `add_alternatives` would also
 -- add "rom-alt2", the rule's target, where the target is the edge's text: but that span and text are the edge's own, and so
--- listed already. Here it is with that step, and it is the same.
+-- listed already. Here it is with that step. (proofs/Alt2: it is the same.)
 use Rattle.std.specs.Prelude.{Bool, ◌&&◌, ◌||◌, ◌≡◌, ℕ}
 use Rattle.std.proofs.Math.Bool.{true, false, or-true}
 use Rattle.std.proofs.Math.Path.{refl, ap}

@@ -1,4 +1,5 @@
 -- The alternatives: they only follow the path, and each has its edge's span and a text of 204 bytes at most.
+-- (Proved in proofs/Alternatives.)
 use Rattle.std.specs.Prelude.{Bool, true, ◌≡◌, refl, ◌⊎◌, ℕ, zero, suc, ◌+◌, ◌≤◌, ◌<◌, length, drop}
 use Rattle.std.proofs.Common.{sym, ap, ◌∙◌, subst, inl, inr, arith, eqb-true}
 use mathlib.Core.List.{List, [], ◌++◌}

@@ -1,5 +1,6 @@
 -- The class of U+0020 under an accepted class table: no letter, no mark, no script, no flag.
 -- So wherever the definition reads a character outside the text, it reads what the Rust takes for none (Outside).
+-- (proofs/Blank: an accepted table says so.)
 use Rattle.std.specs.Prelude.{Bool, true, ◌&&◌, ◌≡◌, refl, List, [], ◌∷◌, ◌⊎◌, leb}
 use Rattle.std.proofs.Math.Bool.{false}
 use Rattle.std.proofs.Common.{inl, inr, eqb-true}

@@ -1,5 +1,6 @@
 -- Every edge that a rule or a fallback gives goes forward, lies within the text, has a text of 606 bytes at most, and a
 -- core as its text has it.
+-- (Proved in proofs/Bounds.)
 use Rattle.std.specs.Prelude.{◌≡◌, ◌⊎◌, length}
 use Rattle.std.proofs.Math.Bool.{false}
 use mathlib.Core.List.{[], ◌∷◌}

@@ -1,4 +1,5 @@
 -- The choice of capitals: off, its step changes nothing; on, it changes letters only, each byte in its place.
+-- (proofs/Capitals: what it changes is not doubled.)
 use Rattle.std.specs.Prelude.{true, ◌&&◌, ◌≡◌, refl, ℕ, ◌+◌, ◌≤◌, eqb, length}
 use Rattle.std.proofs.Math.Bool.{and-false}
 use Rattle.std.proofs.Common.{arith}
@@ -58,7 +59,7 @@ module _ (P : ℕ → Type 0) (letters : (c : ℕ) → 97 ≤ c → c ≤ 122 �
   capitalized-all [] h = tt
   capitalized-all (c ∷ w) h = (h.0, lower-all w h.1)
 
--- In upper case no letter is doubled: those that are doubled are small, and the first byte stays
+-- A letter that is doubled is small
 pub doubling-small : (c : ℕ) → doubling c ≡ true → small c ≡ true
 unfolding doubling all small
 doubling-small =

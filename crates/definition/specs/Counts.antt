@@ -1,5 +1,6 @@
 -- How many edges modes 1 and 2 list: the path has one for each character at most, and the alternatives, for each edge of
 -- the path, 9 for each rule at most.
+-- (proofs/Counts: the alternatives.)
 use Rattle.std.specs.Prelude.{Bool, ◌≡◌}
 use Rattle.std.proofs.Math.Bool.{true, false}
 use Rattle.std.proofs.Math.Path.{refl}

@@ -1,4 +1,5 @@
 -- The path covers the text: its edges abut, from the text's start to its end.
+-- (proofs/Cover: so it is with every accepted text.)
 use Rattle.std.proofs.Math.Bool.{true≢false}
 use Rattle.std.specs.Prelude.{true, eqb, ltb}
 use Rattle.std.proofs.Math.Path.{◌≡◌, refl}

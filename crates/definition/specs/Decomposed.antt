@@ -1,5 +1,6 @@
 -- Characters that stand for others: each brings an edge over itself, and saves a fallback. So 17 edges for each character
 -- still hold; and where nothing overflows, every edge's text has 606 bytes at most.
+-- (Proved in proofs/Decomposed.)
 use Rattle.std.specs.Prelude.{Bool}
 use Rattle.std.proofs.Math.Path.{◌≡◌}
 use mathlib.Core.List.{List}

@@ -1,4 +1,5 @@
 -- How every call ends: with the romanization, or with one numbered refusal and zeros.
+-- (Proved in proofs/Endings.)
 use Rattle.std.specs.Prelude.{ℕ, zero, suc, ◌-◌, ◌/◌, ◌≤◌, Bool, true, false, ◌||◌, List, [], ◌∷◌, ◌++◌, ◌≡◌, ◌⊎◌, eqb, leb, length, replicate}
 use Rattle.std.proofs.Common.{◌∙◌}
 use Rattle.std.proofs.Math.Option.{Option, none, some}

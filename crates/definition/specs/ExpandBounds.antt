@@ -1,6 +1,7 @@
 -- What the expansion makes of a romanization: it goes forward, within the text, in 606 bytes at most.
 -- The bytes grow step by step: 1 doubled, 200 of a pre-vowel, 1 of a grave, 200 of a small ya in the place of 1,
 -- 1 of a long mark.
+-- (proofs/ExpandBounds: step by step.)
 use Rattle.std.specs.Prelude.{true, false, ◌&&◌, ◌≡◌, List, [], ◌∷◌, ℕ, ◌+◌, ◌-◌, ◌≤◌, ◌<◌, take, drop}
 use Rattle.std.proofs.Math.Path.{refl}
 use Rattle.std.proofs.Common.{arith, length-drop, eqb-true}

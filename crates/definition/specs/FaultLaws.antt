@@ -1,5 +1,6 @@
 -- What a rule table's fault says: the tables without one are those of which all of document 01's tests hold, and a fault lies in
 -- the first row that breaks one.
+-- (Proved in proofs/FaultLaws.)
 use Rattle.std.specs.Prelude.{◌≡◌, ℕ, ◌+◌, ◌≤◌, drop}
 use mathlib.Core.List.{List, []}
 use Rattle.std.proofs.Math.Option.{Option, some}

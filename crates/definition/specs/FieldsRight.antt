@@ -1,4 +1,5 @@
 -- A row's fields are without fault just where all that is asked of the row holds, but for the order of rows.
+-- (Proved in proofs/FieldsRight.)
 use Rattle.std.specs.Prelude.{Bool, ◌&&◌, List, [], ◌∷◌, length}
 use Rattle.std.proofs.Math.Bool.{true, false}
 use Rattle.std.proofs.Common.{true≢false}

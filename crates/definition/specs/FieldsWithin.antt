@@ -1,4 +1,5 @@
--- The fields of a row lie in it: where the walk over them stands is at most the row's size, and a row that is read ends at its size.
+-- The fields of a row lie in it: where the walk over them stands is at most the row's size, and a row that is read ends at its
+-- size. (Proved in proofs/FieldsWithin.)
 use Prim.Native.Nat.{ℕ, ◌≤◌}
 use Rattle.definition.specs.RuleFields.{Cursor, next, wrong}
 

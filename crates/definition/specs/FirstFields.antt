@@ -1,5 +1,6 @@
 -- The fields of a rule row as a list, each by its own offset: the walk over a row is the walk over this list, and no field before
 -- the place of a fault is faulty.
+-- (Proved in proofs/FirstFields.)
 use Rattle.std.specs.Prelude.{Bool, not, ◌&&◌, ◌≡◌, leb}
 use Rattle.std.proofs.Math.Bool.{true, false}
 use Rattle.std.proofs.Math.Path.{refl, ap}

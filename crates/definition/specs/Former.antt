@@ -1,5 +1,6 @@
 -- Tables that were made for a shorter limit: a rule table whose texts keep a limit is accepted under any that is no less. Which rules a
 -- table has (`rules_of`) no limit tells, so these are the same.
+-- (Proved in proofs/Former.)
 use Rattle.std.specs.Prelude.{Bool, true, false, not, ◌&&◌, ◌||◌, ◌≡◌, List, [], ◌∷◌, leb, get_or, drop}
 use Rattle.std.proofs.Math.Path.{refl}
 use Rattle.std.proofs.Common.{ap, arith}

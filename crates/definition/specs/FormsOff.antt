@@ -1,4 +1,5 @@
 -- A table without rows, or with tags 0 to 4 only: all is as it was before there was the table.
+-- (Proved in proofs/FormsOff.)
 use Rattle.std.specs.Prelude.{◌≡◌, not, List, [], ◌∷◌, ℕ, ◌/◌, ◌<◌, eqb, ltb}
 use Rattle.std.proofs.Math.Path.{refl}
 use Rattle.std.proofs.Common.{arith, ne_eqb}

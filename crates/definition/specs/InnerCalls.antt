@@ -1,5 +1,6 @@
 -- What a row's characters give inside a text is what they give as a text of their own: the call of them alone, in mode 0 and with
 -- no language code, under the same tables and choices.
+-- (Proved in proofs/InnerCalls.)
 use Rattle.std.specs.Prelude.{true, ◌≡◌, eqb, take}
 use Rattle.std.proofs.Math.Bool.{false}
 use Rattle.std.proofs.Common.{true≢false, ◌∙◌}

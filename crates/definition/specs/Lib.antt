@@ -1,4 +1,7 @@
--- The definition: document 01 as mathematics. What it is about
+-- The definition: document 01 as mathematics, and laws about it. A theorem that rests on a law which a wrong definition makes
+-- false stands in proofs/, in the module of the same name.
+--
+-- What the definition is about
 pub mod Limits
 pub mod Notes
 pub mod Refusals
@@ -102,7 +105,7 @@ pub mod Rewritten
 pub mod Parts
 pub mod Returned
 pub mod Endings
--- 19, for a listing that is too large
+-- the refusal 19, of a listing that is too large
 pub mod TooLarge
 -- a table that a former limit accepts
 pub mod Former

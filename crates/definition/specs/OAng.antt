@@ -1,4 +1,5 @@
 -- The choice of where the walk back behind O ang ends: off, the definition is the former one; on, the walk stays in its stretch.
+-- (proofs/OAng: it ends at the same place from wherever it comes to.)
 use Rattle.std.specs.Prelude.{Bool, not, ◌&&◌, ◌≡◌, List, [], ◌∷◌, eqb}
 use Rattle.std.proofs.Math.Bool.{true, false}
 use Rattle.std.proofs.Math.Path.{refl, sym, ap}

@@ -1,5 +1,6 @@
 -- The alternatives, edge by edge: what its rules offer an edge is compared with its own text and with what was offered
 -- it before, and with nothing else.
+-- (Proved in proofs/Offers.)
 use Rattle.std.proofs.Math.Bool.{Bool, true, false}
 use Rattle.std.specs.Prelude.{not, ◌&&◌, ◌||◌, ◌≡◌, ℕ, zero, suc, ◌+◌, ◌≤◌, ◌<◌}
 use Rattle.std.proofs.Math.Path.{refl, sym, ap}

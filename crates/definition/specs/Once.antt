@@ -1,5 +1,6 @@
 -- In mode 2 no two listed edges share span and text, whatever is chosen: an alternative is added only where none of its span has
 -- its text, and of the path each edge starts behind the one before.
+-- (Proved in proofs/Once.)
 use Rattle.std.specs.Prelude.{Bool, true, ◌&&◌, ◌||◌, ◌≡◌, eqb}
 use Rattle.std.proofs.Math.Bool.{false, true≢false}
 use Rattle.std.proofs.Common.{sym, ap, ◌∙◌, arith, eq-eqb}

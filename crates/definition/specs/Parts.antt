@@ -1,4 +1,5 @@
 -- A part of an accepted text is an accepted text, with the same tables and code.
+-- (Proved in proofs/Parts.)
 use Rattle.std.specs.Prelude.{Bool, true, false, ◌&&◌, ◌≡◌, refl, List, [], ◌∷◌, ℕ, zero, suc, ◌+◌, leb, length, get_or, drop}
 use Rattle.std.proofs.Common.{arith, lt-ltb, ltb-true}
 use Rattle.std.proofs.Math.Option.{none, some}

@@ -1,5 +1,6 @@
 -- What document 01 says of every accepted call: its text has 4,096 characters at most, its lattice 17 edges for each,
 -- and each edge goes forward, lies within the text, and has a text of 606 bytes at most.
+-- (Proved in proofs/Promises.)
 use Rattle.std.specs.Prelude.{Bool, true, false, not, ◌&&◌, ◌||◌, ◌≡◌, List, ℕ, zero, suc, ◌/◌, ◌<◌, leb, get_or, drop}
 use Rattle.std.proofs.Math.Option.{none}
 use Rattle.std.proofs.Common.{arith, leb-true}
@@ -62,6 +63,6 @@ vowel-short low s e =
       low = all-all Low small (λ x q. below_128 97 122 x (omega arith) q) _ c.letters;
     }
 
--- and whose edges find room: nothing overflows
+-- A call whose edges find room: nothing overflows
 abbrev pub Held : Inputs → Type 0
 Held i = overflow (tables i) (decompositions i) (characters i) (i.slots / slot_bytes) i.room (edges (tables i) (decompositions i) (characters i)) ≡ none

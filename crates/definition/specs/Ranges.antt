@@ -1,4 +1,5 @@
 -- What the engine relies on in accepted tables: sources of 1 to 16 characters, and vowel scripts of at least 1.
+-- (proofs/Ranges: the sources. proofs/Risen: the vowel scripts.)
 use Rattle.std.specs.Prelude.{Bool, ◌≡◌, List, [], ◌∷◌, eqb, length}
 use Rattle.std.proofs.Math.Bool.{true, false}
 use Rattle.std.proofs.Math.Path.{refl}

@@ -1,5 +1,6 @@
 -- The longest edge that starts somewhere, or that ends there, is of its span the one that the Rust ranks first
 -- (`best_right_neighbor_edge`, `best_left_neighbor_edge`): the definition asks for no rank.
+-- (proofs/RankedNeighbours: so it is in the lattice.)
 use Rattle.std.proofs.Math.Bool.{Bool, true, false}
 use Rattle.std.specs.Prelude.{◌&&◌, ◌≡◌, ℕ}
 use Rattle.std.proofs.Common.{true≢false, sym, ap, ◌∙◌, arith}

@@ -1,5 +1,6 @@
 -- Of a span's edges the Rust takes the first "rom", else the first "rom decomp", else the first of the rest (`best_edge_in_span`); the
 -- definition takes the first added. They are the same: no edge is added behind one of its span that ranks below it.
+-- (Proved in proofs/Ranking.)
 use Rattle.std.proofs.Math.Bool.{Bool, true, false}
 use Rattle.std.specs.Prelude.{◌&&◌, ◌≡◌, ◌⊎◌, leb}
 use Rattle.std.proofs.Common.{sym, subst, eq-eqb, ne_eqb, eqb-true}

@@ -1,4 +1,5 @@
 -- What every call returns: the whole output slice, zero past its length; after a refusal nothing but number and place.
+-- (Proved in proofs/Returned.)
 use Rattle.std.specs.Prelude.{◌≡◌, List, ℕ, ◌-◌, ◌≤◌, ltb, length, drop, replicate}
 use Rattle.std.proofs.Common.{arith, length-append, ltb-false}
 use Rattle.std.proofs.lemmas.List.{length-replicate}

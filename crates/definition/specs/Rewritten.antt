@@ -1,4 +1,5 @@
 -- UTF-8 back again: where no sequence is bad, the bytes are those of the characters.
+-- (Proved in proofs/Rewritten.)
 use Rattle.std.specs.Prelude.{◌&&◌, ◌≡◌, refl, List, [], ◌∷◌, ◌++◌, ℕ, zero, suc, ◌+◌, ◌-◌, ◌*◌, ◌/◌, ◌%◌, ◌≤◌, ◌<◌, leb, ltb, get_or, drop}
 use Rattle.std.proofs.Common.{sym, ◌∙◌, arith}
 use Rattle.std.proofs.Math.Path.{ap}

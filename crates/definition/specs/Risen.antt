@@ -1,4 +1,5 @@
 -- Rows of an accepted table rise: each rule's source is at most each later one's, characters and scripts strictly.
+-- (Proved in proofs/Risen.)
 use Rattle.std.specs.Prelude.{Bool, true, ◌&&◌, ◌||◌, ◌≡◌, refl, List, [], ◌∷◌, ℕ, ◌≤◌, ◌<◌, eqb, ltb}
 use Rattle.std.proofs.Common.{true≢false, sym, ap, ◌∙◌, arith, ltb-true, eqb-true, lt-ltb, eq-eqb}
 use Rattle.std.proofs.Math.Bool.{or-true}

@@ -1,4 +1,5 @@
 -- UTF-8 there and back: the characters of a text's bytes are the text, and no sequence is bad.
+-- (Proved in proofs/Roundtrip.)
 use Rattle.std.specs.Prelude.{Bool, true, false, ◌&&◌, ◌||◌, ◌≡◌, refl, List, [], ◌∷◌, ◌++◌, ℕ, ◌+◌, ◌-◌, ◌*◌, ◌/◌, ◌%◌, ◌≤◌, ◌<◌, leb, ltb, get_or}
 use Rattle.std.proofs.Common.{sym, ◌∙◌, ap, append_assoc, arith, le-leb, lt-ltb, le-ltb, ltb-true, leb-true}
 use Rattle.std.proofs.lemmas.Bool.{lt-leb}

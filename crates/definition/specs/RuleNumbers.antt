@@ -1,4 +1,5 @@
 -- The numbers that refuse a rule table: what holds of the six holds of any fault's.
+-- (Proved in proofs/RuleNumbers.)
 use Prim.Native.Nat.{ℕ}
 use Rattle.definition.specs.Refusals.{refused_length, refused_range, refused_letter, refused_byte, refused_order, refused_rows}
 use Rattle.definition.specs.RuleFields.{Cursor, next, wrong}

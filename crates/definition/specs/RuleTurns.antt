@@ -1,4 +1,5 @@
--- A rule table checked row by row: what is found of a row, case by case, and that nothing is found just where it is right.
+-- A rule table checked row by row: a row has a size, and the first fault from a row on. (proofs/RuleTurns: what is found of a
+-- row.)
 use Rattle.std.specs.Prelude.{ℕ, ◌<◌}
 use Rattle.std.proofs.Common.{arith}
 use mathlib.Core.List.{List}

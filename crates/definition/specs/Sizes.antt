@@ -1,5 +1,6 @@
 -- How many bytes a listing's rows have, of any accepted call: in modes 1 and 3 never more than four bytes can tell; in mode 2
 -- 19 comes just where it is more. So the length that a block begins with is exact.
+-- (Proved in proofs/Sizes.)
 use Rattle.std.specs.Prelude.{true, ◌≡◌, ltb, drop}
 use Rattle.std.proofs.Common.{eq-eqb, ne_eqb}
 use Rattle.std.proofs.Math.Path.{refl}

@@ -1,4 +1,5 @@
 -- When a listing is refused with 19: in mode 2 alone, and there just where its rows pass the limit, whatever the output's length.
+-- (Proved in proofs/TooLarge.)
 use Rattle.std.specs.Prelude.{ℕ}
 use Rattle.definition.specs.Decomposing.{with_alternatives}
 use Rattle.definition.specs.Call.{Inputs, tables, decompositions, characters}

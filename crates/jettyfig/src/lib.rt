@@ -370,8 +370,8 @@ fn conclude<'a>(
     }
 }
 
-// What is shown of the lattice of a text of few characters, or its refusal. What is kept by position and by start while it is built begins
-// as zeros.
+// What is shown of the lattice of a text of few characters, or its refusal. What is kept by position and by start while it is
+// built begins as zeros.
 fn romanize_short<'a>(
     rules: &'a [u8],
     prepared: &[u32],
@@ -419,8 +419,8 @@ fn romanize_short<'a>(
     )
 }
 
-// What is shown of the lattice of a text of any number of characters, or its refusal. What is kept by position and by start while it is built begins
-// as zeros.
+// What is shown of the lattice of a text of any number of characters, or its refusal. What is kept by position and by start while
+// it is built begins as zeros.
 fn romanize_long<'a>(
     rules: &'a [u8],
     prepared: &[u32],

@@ -13,7 +13,7 @@ use std::io::{BufWriter, Write};
 // The bit of a row's flags that says that it has a target.
 const TARGET_BIT: u32 = 5;
 
-// Room for a table. It is apart so that `main` knows its length alone, and no proof goes through its bytes.
+// Room for a table, in a function of its own: `main` knows its length alone.
 fn table_room() -> [u8; 1048576] {
     [0u8; 1048576]
 }

@@ -1,8 +1,8 @@
 // Rule rows walked by a reader that keeps the rule table and its offset together.
 //
-// A function over such a reader is proved by a walk of its code by hand. So each is thin: what decides anything is a function
-// over the plain table and offset (`row_at`, `next_at`, `left_at`). `start`, `read_at` and `step_from` make the reader
-// inside, so that whoever calls them, as `walk_rules` does, needs no walk.
+// Each function over such a reader is thin: what decides anything is a function over the plain table and offset (`row_at`,
+// `next_at`, `left_at`). `start`, `read_at` and `step_from` make the reader inside, so that a caller, as `walk_rules` is, holds
+// table and offset alone.
 #![tactic(auto)]
 
 ghost use Rattle.std.specs.Prelude.{◌≡◌, ◌-◌, length};

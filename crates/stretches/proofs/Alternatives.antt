@@ -1,4 +1,4 @@
--- What rests on theorems of specs/Alternatives.antt, or of other files, that a wrong definition makes false.
+-- Mode 2's list inside the stretch is that of the stretch, moved.
 use Rattle.std.proofs.Math.Path.{◌≡◌}
 use mathlib.Core.List.{List, map}
 use Prim.Native.Nat.{ℕ}
@@ -15,7 +15,6 @@ use Rattle.stretches.proofs.Lattice.{lattice-inside}
 use Rattle.stretches.proofs.Path.{path_inside}
 use Rattle.stretches.specs.Alternatives.{by_edges-inside}
 
--- Mode 2's list
 pub listed-inside : {D : Tables} {ds : List Decomposition} → FairTables D ds → {T st : Text} {a : ℕ} → Stretch T st a
     → First_if D.choices st
     → keep (within a (length st)) (with_alternatives D ds T) ≡ map (shift a) (with_alternatives D ds st)

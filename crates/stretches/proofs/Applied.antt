@@ -1,4 +1,4 @@
--- What rests on theorems of specs/Applied.antt, or of other files, that a wrong definition makes false.
+-- Demand 3 applied: its equations for the lines of specs/Applied.
 use Rattle.std.specs.Prelude.{◌≡◌, refl, [], ◌∷◌, map}
 use Rattle.std.proofs.Common.{ap, arith}
 use Rattle.base.specs.Lists.{keep}

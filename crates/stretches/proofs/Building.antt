@@ -1,4 +1,4 @@
--- What rests on theorems of specs/Building.antt, or of other files, that a wrong definition makes false.
+-- The edge of a span inside a stretch: the one that the stretch gives, moved.
 use Rattle.std.specs.Prelude.{Bool, List, ℕ, ◌≤◌, length}
 use Rattle.std.proofs.Math.Option.{none, some}
 use Rattle.definition.specs.Texts.{Text}
@@ -14,7 +14,6 @@ use Rattle.stretches.specs.Vowels.{vowel_step-inside}
 use Rattle.stretches.proofs.Expansion.{expand-inside}
 use Rattle.stretches.specs.Building.{Finds, Inside, as_edge-held, as_edge-moved, plus_solid}
 
--- The edge of a span
 module _ {D : Tables} {ds : List Decomposition} (fair : FairTables D ds) {T st : Text} {a : ℕ} (h : Stretch T st a)
     {W v : View} (g : See D.choices T st a W v) where
   edge_of-inside : (b : Bool) (rom : Text) {P E p e : ℕ} → Span a (length st) P E p e → e ≤ length st → Solid rom

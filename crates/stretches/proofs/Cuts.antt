@@ -1,4 +1,4 @@
--- What rests on theorems of specs/Cuts.antt, or of other files, that a wrong definition makes false.
+-- A line of words that is UTF-8: so is each of its words, and its characters are theirs, joined.
 use Rattle.std.specs.Prelude.{◌≡◌, refl, List, [], ◌∷◌, ℕ}
 use Rattle.std.proofs.Math.Option.{none}
 use Rattle.definition.specs.Utf8.{bad_sequence}

@@ -1,4 +1,4 @@
--- What rests on theorems of specs/Driven.antt, or of other files, that a wrong definition makes false.
+-- What a driver sees, proved: from the line's call to its words' calls.
 use Rattle.std.specs.Prelude.{◌≡◌, refl, List, [], ◌∷◌, ◌++◌, map, ℕ, ◌+◌, ◌/◌, ◌≤◌}
 use Rattle.std.proofs.Common.{sym, ◌∙◌, subst, arith}
 use Rattle.std.proofs.Math.Path.{ap}

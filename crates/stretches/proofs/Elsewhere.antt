@@ -1,4 +1,4 @@
--- What rests on theorems of specs/Elsewhere.antt, or of other files, that a wrong definition makes false.
+-- What a step does in a stretch stays in it: it adds and remembers only there.
 use Rattle.std.specs.Prelude.{Bool, ◌≡◌, refl, length}
 use Rattle.std.proofs.Math.Bool.{true, false}
 use Rattle.std.proofs.Common.{sym, ◌∙◌}

@@ -1,4 +1,4 @@
--- What rests on theorems of specs/Expansion.antt, or of other files, that a wrong definition makes false.
+-- The expansion inside a stretch, step by step: each makes of moved work what it makes of the work, moved, and holds it inside.
 use Rattle.std.specs.Prelude.{Bool, ◌≡◌, [], ◌∷◌, ◌++◌, reverse, ℕ, ◌+◌, ◌≤◌, ◌<◌}
 use Rattle.std.proofs.Math.Path.{refl, sym, subst}
 use Rattle.std.proofs.Common.{arith}

@@ -1,4 +1,4 @@
--- What rests on theorems of specs/Given.antt, or of other files, that a wrong definition makes false.
+-- What the premises of demand 3 give: tables as the proof takes them, and a stretch that stands in the text.
 use Rattle.std.specs.Prelude.{◌≡◌, refl, ◌++◌, ℕ, zero, suc, ◌+◌, ◌≤◌, ◌<◌, length, get_or}
 use Rattle.std.proofs.Common.{sym, ◌∙◌, arith, length-append, get_or-append-add}
 use Rattle.std.proofs.Math.Decide.{dec_lt}

@@ -1,4 +1,4 @@
--- What rests on theorems of specs/Labels.antt, or of other files, that a wrong definition makes false.
+-- What a driver sees, applied: the bytes that the labels of specs/Labels give, and that both premises are needed.
 use Rattle.std.specs.Prelude.{◌≡◌, List, [], ◌∷◌, ℕ, length}
 use Rattle.std.proofs.Common.{sym, ◌∙◌, ap, arith}
 use Rattle.definition.specs.Texts.{chars}

@@ -1,3 +1,6 @@
+-- Theorems about stretches that rest on a law which a wrong definition makes false: the main ones are `demand` in Proved, and
+-- `strings` and `driven` in Strings and Driven. Each module but Lattice goes with the one of its name in specs/, whose Lib has the
+-- reading order; Lattice goes before Path there.
 pub mod Alternatives
 pub mod Applied
 pub mod Building

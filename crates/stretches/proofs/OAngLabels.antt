@@ -1,4 +1,4 @@
--- What rests on theorems of specs/OAngLabels.antt, or of other files, that a wrong definition makes false.
+-- What a driver sees, applied where the choice of O ang is 1: the bytes that the labels of specs/OAngLabels give.
 use Rattle.std.specs.Prelude.{◌≡◌, refl}
 use Rattle.std.proofs.Common.{◌∙◌, ap}
 use Rattle.definition.specs.Texts.{chars}

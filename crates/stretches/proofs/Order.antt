@@ -1,4 +1,4 @@
--- What rests on theorems of specs/Order.antt, or of other files, that a wrong definition makes false.
+-- Mode 3's order inside the stretch is that of the stretch, moved.
 use Rattle.std.specs.Prelude.{◌≡◌, length}
 use Rattle.std.proofs.Math.Path.{ap}
 use Rattle.std.proofs.Common.{◌∙◌}

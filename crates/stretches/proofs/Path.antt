@@ -1,4 +1,4 @@
--- What rests on theorems of specs/Path.antt, or of other files, that a wrong definition makes false.
+-- The path inside the stretch is the path of the stretch, moved.
 use Rattle.std.specs.Prelude.{length}
 use Rattle.std.proofs.Common.{arith}
 use mathlib.Core.List.{List}

@@ -1,4 +1,4 @@
--- What rests on theorems of specs/Proved.antt, or of other files, that a wrong definition makes false.
+-- Demand 3, proved.
 use Rattle.std.specs.Prelude.{◌≡◌, List, ◌++◌, length}
 use Rattle.std.proofs.Common.{sym}
 use Rattle.std.proofs.Math.Path.{subst}

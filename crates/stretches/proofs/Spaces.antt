@@ -1,4 +1,4 @@
--- What rests on theorems of specs/Spaces.antt, or of other files, that a wrong definition makes false.
+-- Each space has its own single edge, and no other reaches over it.
 use Rattle.std.specs.Prelude.{Bool, true, false, ◌≡◌, ◌⊎◌, take, drop}
 use Rattle.std.proofs.Math.Bool.{true≢false}
 use Rattle.std.proofs.Math.Path.{refl, ap}
@@ -30,7 +30,7 @@ use Rattle.stretches.specs.Spaces.{near-over, over-own}
 
 module _ {D : Tables} {ds : List Decomposition} (fair : FairTables D ds) (T : Text) (q : ℕ) (l : q < length T)
     (sp : at T q ≡ the_space) where
-  -- so no step but the one at the space does, in either pass
+  -- No step but the one at the space adds an edge over it, in either pass
   module _ (F : ℕ → State → State) (stays : Stays T F) where
     step-over : (P : ℕ) (S : State) → P < length T → (P < q) ⊎ (q < P)
         → keep (over q) (F P S).0 ≡ keep (over q) S.0

@@ -1,4 +1,4 @@
--- What rests on theorems of specs/Strings.antt, or of other files, that a wrong definition makes false.
+-- A line's string is its words' strings, joined by spaces: from word to word, and the whole.
 use Rattle.std.specs.Prelude.{◌≡◌, refl, ℕ, ◌+◌, ◌≤◌, ◌<◌}
 use Rattle.std.proofs.Math.Path.{sym, ap, subst}
 use Rattle.std.proofs.Common.{◌∙◌, inl, inr}

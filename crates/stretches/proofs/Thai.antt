@@ -1,4 +1,4 @@
--- What rests on theorems of specs/Thai.antt, or of other files, that a wrong definition makes false.
+-- The Thai steps of the expansion inside a stretch: the pattern around a consonant, the pre-vowel, the silent O ang.
 use Rattle.std.proofs.Math.Bool.{Bool, false, not}
 use Rattle.std.specs.Prelude.{true, ◌&&◌, ◌≡◌, [], ◌∷◌, ◌++◌, ℕ, ◌+◌, ◌-◌, ◌≤◌, ◌<◌, length, drop}
 use Rattle.std.proofs.Math.Path.{refl, ap}

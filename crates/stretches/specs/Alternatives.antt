@@ -1,5 +1,5 @@
 -- Mode 2's list, the path and then the alternatives, is inside the stretch that of the stretch, moved.
--- (Proved takes the alternatives alone from it)
+-- (Proved in proofs/Alternatives; proofs/Proved takes the alternatives alone from it.)
 use Rattle.std.specs.Prelude.{Bool, ◌&&◌, ◌||◌, ◌⊎◌, drop}
 use Rattle.std.proofs.Math.Bool.{true, false}
 use Rattle.std.proofs.Math.Path.{◌≡◌, ap}

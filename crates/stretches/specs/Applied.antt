@@ -1,6 +1,6 @@
--- Demand 3 applied: its premises met by document 01's sample tables, its equations for a line of two words, for a word
--- where capitals are chosen, where readings are, and for one with a character that stands for others, a text for which it would be false
--- without the premise on U+0E2D, and the same text with the choice of O ang 1, where nothing is asked.
+-- Demand 3 applied: its premises met by document 01's sample tables, for a line of two words, for a word where capitals are
+-- chosen, where readings are, and for one with a character that stands for others; a text for which it would be false without the
+-- premise on U+0E2D; and the same text with the choice of O ang 1, where nothing is asked. (proofs/Applied: its equations.)
 use Rattle.std.specs.Prelude.{true, not, ◌≡◌, refl, [], ◌∷◌, ◌++◌, map, ℕ, zero, suc, eqb, length}
 use Rattle.std.proofs.Common.{true≢false, sym, ◌∙◌, ap, arith, eq-eqb}
 use Prim.Native.String.{String}
@@ -45,7 +45,7 @@ pub line_taken : Taken line
 unfolding compute spaceless spaceless_if spaceless_rule
 line_taken = record { accepted = refl; no_space = refl }
 
--- so they are these: क with its virama, the virama, त with its vowel, and क by itself
+-- An edge by its parts
 abbrev pub edge : ℕ → ℕ → ℕ → ℕ → String → Edge
 edge s e n c w = record { from = s; to = e; note = n; core = c; text = chars w }
 

@@ -1,4 +1,5 @@
 -- The edges that a step finds inside a stretch: those that it finds on the stretch, moved.
+-- (proofs/Building: the edge of a span.)
 use Rattle.std.specs.Prelude.{Bool, ◌≡◌, List, [], ◌∷◌, ℕ, ◌+◌, ◌≤◌, ◌<◌, length}
 use Rattle.std.proofs.Math.Path.{refl, ap}
 use Rattle.std.proofs.Math.Option.{Option, none, some, map}

@@ -1,4 +1,5 @@
 -- A text's bytes cut at a space: each part is UTF-8 where the whole is, and the characters are those of the parts.
+-- (proofs/Cuts: a line of words.)
 use Rattle.std.proofs.Common.{true≢false, sym, ◌∙◌, ap, subst, append-nil, arith, length-drop}
 use Rattle.std.proofs.Math.Bool.{or-true}
 use Rattle.std.specs.Prelude.{◌≡◌, refl, List, [], ◌∷◌, ◌++◌, map, ℕ, zero, suc, ◌+◌, ◌≤◌, ◌<◌, ltb, length, get_or, drop}

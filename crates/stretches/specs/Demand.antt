@@ -1,4 +1,4 @@
--- Demand 3, the statement. (Proved proves it; Applied meets its premises, and shows that the one on U+0E2D is needed.)
+-- Demand 3, the statement. (proofs/Proved proves it; Applied meets its premises, and shows that the one on U+0E2D is needed.)
 -- "Take an accepted text, and rules with no space (U+0020) in any source or target text. Each space has its own single
 -- edge, and no other reaches over it. For each stretch between spaces or text ends in which U+0E2D stands, if at all,
 -- only as the first character, the edges, path and alternatives inside it are exactly those the definition gives that

@@ -1,4 +1,4 @@
--- What a driver sees, proved: from the line's call to its words' calls.
+-- What a driver sees: from the line's call to its words' calls. (Proved in proofs/Driven.)
 use Rattle.std.specs.Prelude.{◌≡◌, refl, List, [], ◌∷◌, ◌++◌, map, ℕ, ◌-◌, ◌≤◌, replicate}
 use Rattle.std.proofs.Common.{◌∙◌, arith, length-append}
 use Rattle.std.proofs.Math.Path.{ap}

@@ -1,5 +1,5 @@
 -- What a driver sees, the statement: a line's string is the strings of its words, joined by single spaces.
--- (Strings and Driven prove it; Labels applies it, and shows that both premises are needed.)
+-- (proofs/Strings and proofs/Driven prove it; proofs/Labels applies it, and shows that both premises are needed.)
 use Rattle.std.specs.Prelude.{true, ◌≡◌, List, [], ◌∷◌, ◌++◌, map, ℕ, ◌≤◌, take}
 use Rattle.base.specs.Lists.{all}
 use Rattle.base.specs.Alls.{All}

@@ -1,5 +1,6 @@
 -- What a step does elsewhere: in another stretch it adds and remembers only there, and at a space it adds only the
 -- space's own edge.
+-- (proofs/Elsewhere: steps in a stretch.)
 use Rattle.std.specs.Prelude.{Bool, ◌≡◌, refl, length}
 use Rattle.std.proofs.Math.Bool.{true, false}
 use Rattle.std.proofs.Common.{sym, ◌∙◌}

@@ -1,4 +1,5 @@
 -- The expansion inside a stretch: each step makes of moved work what it makes of the work, moved, and holds it inside.
+-- (Proved in proofs/Expansion.)
 use Rattle.std.specs.Prelude.{false, ◌≡◌, [], ◌∷◌, reverse, ℕ, ◌+◌, ◌<◌}
 use Rattle.std.proofs.Math.Path.{refl, sym}
 use Rattle.std.proofs.Math.Option.{Option, none, some}

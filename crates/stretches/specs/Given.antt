@@ -1,4 +1,5 @@
 -- What the premises of demand 3 give, in the form that the proof takes.
+-- (proofs/Given: the premises give it.)
 use Rattle.std.specs.Prelude.{Bool, true, false, not, ◌&&◌, ◌||◌, ◌≡◌, refl, List, [], ◌∷◌, ◌++◌, ℕ, suc, ◌+◌, ◌≤◌, ◌<◌, eqb, length}
 use Rattle.std.proofs.Common.{true≢false, sym, ◌∙◌, ap, append_assoc, arith, length-append, leb-true, eq-eqb, eqb-true}
 use Rattle.std.proofs.Math.Option.{Option, none, some}

@@ -1,5 +1,6 @@
 -- What a driver sees, applied: a label of four words, one of them empty; one with a character that stands for others; and
 -- two lines that show that both premises are needed, where all else that the theorem asks is given.
+-- (proofs/Labels: the theorem applied.)
 use Rattle.std.specs.Prelude.{◌≡◌, refl, List, [], ◌∷◌, map, ℕ}
 use Rattle.std.proofs.Common.{arith}
 use Prim.Native.String.{String}
@@ -74,7 +75,7 @@ label_firsts = (
   (λ z. first_by [] refl, (λ z. first_by (chars "อก") refl, (λ z. first_by (chars "क्त") refl, tt))),
 )
 
--- What the words give, computed; so the label gives these bytes
+-- What the words give, computed
 pub word_outputs : map (λ j. wrote (called j)) words ≡ chars "kat" ∷ [] ∷ chars "k" ∷ chars "kta" ∷ []
 unfolding compute wrote
 word_outputs = refl

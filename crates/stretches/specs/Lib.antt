@@ -1,4 +1,6 @@
--- Demand 3: the statement
+-- Demand 3. A theorem that rests on a law which a wrong definition makes false stands in proofs/, in the module of the same name.
+--
+-- The statement
 pub mod Demand
 -- what its premises give
 pub mod Given
@@ -23,7 +25,7 @@ pub mod Path
 pub mod Alternatives
 pub mod Order
 pub mod Spaces
--- the theorem, and a use of it
+-- what the theorem takes, and a use of it
 pub mod Proved
 pub mod Applied
 -- What a driver sees, from the line's call to its words' calls: the statement
@@ -34,7 +36,7 @@ pub mod Strings
 -- bytes cut at spaces; slots and room
 pub mod Cuts
 pub mod Rooms
--- the theorem, and a use of it
+-- what the theorem takes, and uses of it
 pub mod Driven
 pub mod Labels
 pub mod OAngLabels

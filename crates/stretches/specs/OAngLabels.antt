@@ -1,6 +1,6 @@
 -- What a driver sees, applied where the choice of O ang is 1: labels in which U+0E2D stands past a word's first
--- character, behind a word that ends in a consonant. (With the choice 0 the theorem does not speak of them: Labels,
--- `firsts_needed`.)
+-- character, behind a word that ends in a consonant. (With the choice 0 the theorem does not speak of them: proofs/Labels,
+-- `firsts_needed`. proofs/OAngLabels: the theorem applied.)
 use Rattle.std.specs.Prelude.{◌≡◌, refl, List, [], ◌∷◌, map}
 use Prim.Native.String.{String}
 use Rattle.definition.specs.Texts.{chars}

@@ -1,4 +1,5 @@
 -- Mode 3's order inside the stretch is that of the stretch, moved.
+-- (Proved in proofs/Order.)
 use Rattle.std.proofs.Math.Bool.{Bool}
 use Rattle.std.specs.Prelude.{false, ◌≡◌}
 use Rattle.std.proofs.Math.Path.{refl, sym, ap}

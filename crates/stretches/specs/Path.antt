@@ -1,4 +1,5 @@
 -- The path inside the stretch is the path of the stretch, moved.
+-- (Proved in proofs/Path.)
 use Rattle.std.specs.Prelude.{Bool, ◌≡◌, eqb}
 use Rattle.std.proofs.Math.Path.{refl}
 use Rattle.std.proofs.Common.{sym, ◌∙◌, ap, arith, eqb-true}

@@ -1,4 +1,4 @@
--- Demand 3, proved.
+-- What the proof of demand 3 takes of lists in two parts. (The proof: proofs/Proved.)
 use Rattle.std.specs.Prelude.{Bool, ◌≡◌, List, ◌++◌, map}
 use Rattle.std.proofs.Common.{sym, ◌∙◌, ap}
 use Rattle.std.proofs.lemmas.List.{map-append, append_cancel_left}
@@ -11,7 +11,7 @@ use Rattle.definition.specs.Decomposing.{path, with_alternatives, alternatives}
 use Rattle.definition.specs.Call.{Inputs}
 use Rattle.stretches.specs.Demand.{Taken}
 
--- of a list in two parts, where the whole and the first part are known
+-- The second part of a list, where the whole and the first part are known
 pub second-part : (q : Edge → Bool) (s : Edge → Edge) (P A p a : List Edge) {W w : List Edge} → W ≡ P ++ A → w ≡ p ++ a
     → keep q W ≡ map s w → keep q P ≡ map s p → keep q A ≡ map s a
 second-part q s P A p a E e h k = append_cancel_left (map s p) (keep q A) (map s a)

@@ -1,4 +1,5 @@
 -- Each space has its own single edge, and no other reaches over it.
+-- (Proved in proofs/Spaces.)
 use Rattle.std.specs.Prelude.{true, false, ◌≡◌, ◌⊎◌, leb}
 use Rattle.std.proofs.Math.Bool.{and-false}
 use Rattle.std.proofs.Math.Path.{ap}

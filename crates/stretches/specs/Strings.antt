@@ -1,4 +1,5 @@
 -- A line's string is its words' strings, joined by spaces: the path goes along each word and over each space.
+-- (Proved in proofs/Strings.)
 use Rattle.std.specs.Prelude.{true, ◌≡◌, refl, ℕ, ◌+◌, ◌<◌}
 use Rattle.std.proofs.Math.Path.{sym, ap}
 use Rattle.std.proofs.Common.{◌∙◌}

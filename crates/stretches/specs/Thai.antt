@@ -1,4 +1,5 @@
--- The Thai steps of the expansion inside a stretch: the pattern around a consonant, the pre-vowel, the silent O ang.
+-- What the Thai steps of the expansion do to their work, moved: one character more to the left, and some to the right.
+-- (proofs/Thai: the steps inside a stretch.)
 use Rattle.std.specs.Prelude.{◌≡◌, ℕ, ◌+◌, ◌-◌, ◌<◌}
 use Rattle.std.proofs.Math.Path.{refl}
 use Rattle.std.proofs.Math.Option.{Option, none, some, map}

@@ -1,2 +1,2 @@
-// Nothing to run: demand 3 and its proof are in specs/.
+// Nothing to run: demand 3 is in specs/, and its proof in specs/ and proofs/.
 #![tactic(auto)]

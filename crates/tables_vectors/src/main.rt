@@ -174,7 +174,7 @@ fn run_all(input: &[u8]) -> Tally
     Tally { vectors, differ }
 }
 
-// Room for the vectors. It is apart so that `main` knows its length alone, and no proof goes through its bytes.
+// Room for the vectors, in a function of its own: `main` knows its length alone.
 fn room() -> [u8; 2200000] {
     [0u8; 2200000]
 }

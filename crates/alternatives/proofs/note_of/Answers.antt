@@ -4,7 +4,6 @@ use native.Mathlib.Omega.{arith}
 use Rattle.offers.specs.Texts.{alt-note, alt2_note, alt3-note}
 use Rattle.alternatives.proofs.note_of.Goals as goal
 
--- `alternatives::note_of`: by the number.
 pub returns-then-k-o : goal.returns-then-k-o
 returns-then-k-o c = alt-note c.args.o c.args.k (omega arith)
 

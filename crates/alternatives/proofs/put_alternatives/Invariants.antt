@@ -14,7 +14,6 @@ use Rattle.rule_choice.specs.Lent.{lexicon_of}
 use Rattle.alternatives.specs.News.{edge_bytes}
 use Rattle.alternatives.proofs.put_alternatives.Given as goal
 
--- `alternatives::put_alternatives`: what was written and what is left of the path leave what the whole path leaves.
 abbrev pub invariant-loop-p : goal.invariant-loop-p
 invariant-loop-p l =
     let es = edges_of l.initial.room l.count l.slots in

@@ -19,7 +19,6 @@ use Rattle.edge_places.specs.Shows.{memory}
 use Rattle.words.specs.Given.{seen, size, size_in}
 use Rattle.rule_choice.specs.Lent.{lexicon_of}
 use Rattle.alternatives.proofs.Edges.{slot-short, span_inside, spoken_at, edge-at-slot, found_nothing, slot-found, slot-wide, front_stays}
--- where the function begins
 use Rattle.alternatives.proofs.put_best_alternatives.Goals as goal
 
 pub edge_text-own-requires : goal.edge_text-own-requires

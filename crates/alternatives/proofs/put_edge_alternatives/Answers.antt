@@ -17,7 +17,6 @@ use Rattle.words.specs.Looks.{source_in, looked_are}
 use Rattle.rule_choice.specs.Lent.{lexicon_of}
 use Rattle.offers.specs.Texts.{holding}
 use Rattle.alternatives.proofs.Edges.{rows_few, valid-found, found-edge, start-told, start_recalls}
--- where the function begins
 use Rattle.alternatives.proofs.put_edge_alternatives.Goals as goal
 
 pub filter_len-cells-requires : goal.filter_len-cells-requires

@@ -6,7 +6,6 @@ use Rattle.utf8.specs.Encodings.{low_bytes}
 use Rattle.alternatives.proofs.Turns.{put_one, put_not}
 use Rattle.alternatives.proofs.put_new.Goals as goal
 
--- `alternatives::put_new`: its row, where it is new.
 pub put_other-requires : goal.put_other-requires
 put_other-requires c =
     let s = c.requires.1 in

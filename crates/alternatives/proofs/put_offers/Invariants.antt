@@ -14,7 +14,6 @@ use Rattle.offers.specs.Texts.{texts}
 use Rattle.alternatives.specs.News.{offered, earlier, offer_bytes}
 use Rattle.alternatives.proofs.put_offers.Given as goal
 
--- `alternatives::put_offers`: what was written and what is left of the offers leave what all leave.
 abbrev pub invariant-loop-k : goal.invariant-loop-k
 invariant-loop-k l =
     let x = edge_by l.e l.text in

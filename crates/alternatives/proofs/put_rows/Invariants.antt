@@ -14,7 +14,6 @@ use Rattle.alternatives.specs.News.{offered, row_bytes}
 use Rattle.alternatives.proofs.Turns.{left_news}
 use Rattle.alternatives.proofs.put_rows.Given as goal
 
--- `alternatives::put_rows`: what was written and what is left of the rows leave what all leave.
 abbrev pub invariant-loop-before : goal.invariant-loop-before
 invariant-loop-before l =
     let x = edge_by l.e l.text in

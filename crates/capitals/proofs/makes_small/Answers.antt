@@ -7,7 +7,6 @@ use Rattle.capitals.specs.Spans.{over}
 use Rattle.capitals.specs.Ways.{not_chosen, not_one, not_lower, before-lower}
 use Rattle.capitals.proofs.makes_small.Goals as goal
 
--- `capitals::makes_small`: one law for each way out.
 pub returns-then-choices-ne1 : goal.returns-then-choices-ne1
 returns-then-choices-ne1 c =
     λ x g. not_chosen (choices_of c.args.choices) (kinds x) x.text (over c.args.span c.args.text.now) (λ e. omega (arith, e))

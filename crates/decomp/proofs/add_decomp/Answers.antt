@@ -19,7 +19,6 @@ use Rattle.passes.specs.Reached.{Over, over_keeps}
 use Rattle.decomp.specs.Rows.{RowRead}
 use Rattle.decomp.specs.Behind.{back-front, back-length, stored_stay, fresh_stay, keeps_stay}
 use Rattle.decomp.proofs.Decomps.{stands-none, stands_some, leads_none, leads_slot, leads_room, leads_text}
--- where the function began, and where it had found the row
 use Rattle.decomp.proofs.add_decomp.Goals as goal
 
 pub returns-then-row-eq0 : goal.returns-then-row-eq0

@@ -3,7 +3,6 @@ use mathlib.Core.Bool.{true≢false}
 use mathlib.Core.Path.{sym, ◌∙◌}
 use native.Mathlib.Omega.{arith}
 use Rattle.decomp.specs.Adding.{numbers_at, text_writable, text-new, text-reached}
--- where the function began
 use Rattle.decomp.proofs.add_text.Goals as goal
 
 pub add_edge-requires : goal.add_edge-requires

@@ -16,10 +16,8 @@ use Rattle.decomp_text.specs.declared.Spelling.{Spelling}
 use Rattle.decomp_text.specs.Spelling.{Held}
 use Rattle.decomp.specs.First.{first-over}
 use Rattle.decomp.proofs.Rowing.{lying, line_read, line-slot, line-room}
--- an entry for each position of a row of the most characters, and for its end
 use Rattle.decomp.proofs.read_line.Goals as goal
 
--- `decomp::read_line`: where the lattice was built its path is spelled, of every world that the line stands for; else it is told what is too little.
 -- an entry for each position of a row of the most characters, and for its end
 abbrev places : ℕ
 places = most_into + 1

@@ -13,10 +13,8 @@ use Rattle.table_classes.specs.Told.{kinds_of}
 use Rattle.decomp_line.specs.Rows.{into_few}
 use Rattle.words.specs.Given.{size_in}
 use Rattle.decomp.proofs.Rowing.{own, own_lined, own-told, own-size, own_ready}
--- what is prepared for a row of the most characters: its line, and an entry for each position
 use Rattle.decomp.proofs.read_row.Goals as goal
 
--- `decomp::read_row`: the row's characters were laid out as a line, so what is read of it is read of their own world.
 -- what is prepared for a row of the most characters: its line, and an entry for each position
 abbrev line-places : ℕ
 line-places = 2 * (most_into + 3)

@@ -6,7 +6,6 @@ use Rattle.definition.specs.DecompositionRows.{decomposition_count, decompositio
 use Rattle.decomp_line.specs.Rows.{Putting}
 use Rattle.decomp_line.proofs.put_characters.Given as goal
 
--- `decomp_line::put_characters`: what is left to put leads where all lead (`Putting`), and each turn keeps that.
 abbrev pub invariant-loop-i : goal.invariant-loop-i
 invariant-loop-i l = Putting (decomposition_into (drop l.row l.table)) l.initial.chars l.chars l.i × (l.n ≡ decomposition_count (drop l.row l.table)) × (length l.initial.chars ≡ l.n)
 

@@ -8,7 +8,6 @@ use Rattle.table_decompositions.specs.Next.{next_form}
 use Rattle.decomp_pass.proofs.Halfway.{number, Halfway}
 use Rattle.decomp_pass.proofs.add_romanization.Given as goal
 
--- `decomp_pass::add_romanization`: what is left of the starts does what all of them do.
 abbrev pub invariant-loop-at : goal.invariant-loop-at
 invariant-loop-at l =
     Halfway l.rules l.prepared l.classes l.vowels l.decompositions l.code l.initial.slots l.initial.room l.initial.places l.slots l.room l.places l.starts l.edges l.bytes l.s

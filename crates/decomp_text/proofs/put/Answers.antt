@@ -3,7 +3,6 @@ use native.Mathlib.Omega.{arith}
 use Rattle.decomp_text.specs.Spelling.{spells_none, spells_full, spells_over, spells_more}
 use Rattle.decomp_text.proofs.put.Goals as goal
 
--- `decomp_text::put`: nothing more, or too much already, or too much now, or some bytes more.
 pub returns-then-text-eq0 : goal.returns-then-text-eq0
 returns-then-text-eq0 c =
     (λ ks t w h e ok q. spells_none ks c.args.bytes.now c.args.s t w h c.args.text.now e ok (omega arith), c.requires)

@@ -10,7 +10,6 @@ use Rattle.edge.specs.Slots.{edge_of, numbers_of}
 use Rattle.words.specs.Given.{kinds, size_in}
 use Rattle.decomp_text.specs.Spelling.{Spells}
 use Rattle.decomp_text.proofs.Edges.{text-bytes, text-scalars, bytes_low, bytes-shaped, own-letter, own-slash, own-other, own-plain}
--- the edge starts in the line
 use Rattle.decomp_text.proofs.put_edge.Goals as goal
 
 pub returns-then-numbers-ne-ORIG : goal.returns-then-numbers-ne-ORIG

@@ -12,7 +12,6 @@ use Rattle.decomp_text.specs.Spelling.{Spells, Held, shaped}
 use Rattle.decomp_text.specs.Walking.{Walked}
 use Rattle.decomp_text.proofs.put_path.Given as goal
 
--- `decomp_text::put_path`: what was spelled and what is left of the path spell the whole path.
 abbrev pub invariant-loop-p : goal.invariant-loop-p
 invariant-loop-p l =
     ((w : World) (t : Text) (count : ℕ) → Told w l.ready → Lined w l.line → Spells (kinds w) l.initial.bytes l.initial.made t → Stands l.slots l.starts count

@@ -12,7 +12,6 @@ use Rattle.expand.specs.Tests.{ends_there, goes_on, nothing-to-expand, expanded}
 use Rattle.expand.proofs.Ways.{no_text}
 use Rattle.expand.proofs.all_steps.Goals as goal
 
--- `expand::all_steps`: no bytes stay as they are; else the steps by script end it, or the rest comes.
 pub returns-then-n-eq0 : goal.returns-then-n-eq0
 returns-then-n-eq0 c =
     let w = take c.args.n c.args.bytes.now in (

@@ -6,7 +6,6 @@ use Rattle.rom.specs.Sets.{in_consonants}
 use Rattle.expand.proofs.Sounds.{too_short, other_last, i_last}
 use Rattle.expand.proofs.ends_in_i.Goals as goal
 
--- `expand::ends_in_i`: the two last bytes.
 pub returns-then-n-lt2 : goal.returns-then-n-lt2
 returns-then-n-lt2 c = too_short c.args.text.now (omega arith)
 

@@ -16,7 +16,6 @@ use Rattle.capitals.specs.Spans.{over}
 use Rattle.capitals.specs.Ways.{acts, stays}
 use Rattle.expand.proofs.first_steps.Goals as goal
 
--- `expand::first_steps`: where letters were made small none is doubled, and else doubling is asked of the romanization as it is.
 pub slice_bounds-makes_small-end : goal.slice_bounds-makes_small-end
 slice_bounds-makes_small-end c =
     let p = c.requires.0 in

@@ -6,7 +6,6 @@ use Rattle.definition.specs.Expansion.{small_ya}
 use Rattle.expand.proofs.Ways.{last-small}
 use Rattle.expand.proofs.is_small_ya.Goals as goal
 
--- `expand::is_small_ya`: the characters one after another.
 pub returns-then-c-eq-HIRAGANA_YA : goal.returns-then-c-eq-HIRAGANA_YA
 unfolding small_ya among
 returns-then-c-eq-HIRAGANA_YA c = let e : c.args.c ≡ 0x3083 = omega arith in sym (ap small_ya e)

@@ -12,7 +12,6 @@ use Rattle.expand.specs.Tests.{no_small, small-ruled, small-ruled-here, small_pu
 use Rattle.expand.proofs.Ways.{told, absent}
 use Rattle.expand.proofs.small_y.Goals as goal
 
--- `expand::small_y`: one law for each way out; a small ya stands within the text, after a letter.
 pub slice_bounds-small_target-end : goal.slice_bounds-small_target-end
 slice_bounds-small_target-end c =
     let p = c.requires.1 in

@@ -12,7 +12,6 @@ use Rattle.first_pass.specs.Rises.{rises}
 use Rattle.first_pass.specs.Fresh.{Fresh}
 use Rattle.first_pass.proofs.add_from.Given as goal
 
--- `first_pass::add_from`: what is left of the rising ends does what all of them do.
 abbrev pub invariant-loop-left : goal.invariant-loop-left
 invariant-loop-left l =
     ((w : World) → Over w l.ready l.line l.initial.slots l.initial.room l.initial.places (record { count = l.initial.edges; used = l.initial.bytes; since = l.since })

@@ -15,7 +15,6 @@ use Rattle.passes.proofs.Passing.{Going}
 use Rattle.first_pass.specs.FirstPass.{filled_of}
 use Rattle.first_pass.proofs.add_romanization.Given as goal
 
--- `first_pass::add_romanization`: what is left of the stretch does what all of it does.
 abbrev pub invariant-loop-s : goal.invariant-loop-s
 invariant-loop-s l =
     ((w : World) → Over w l.ready l.line l.initial.slots l.initial.room l.initial.places (filled_of (record { count = l.initial.edges; used = l.initial.bytes; from = l.initial.s; to = l.n }))

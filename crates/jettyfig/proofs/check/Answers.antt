@@ -17,12 +17,9 @@ use Rattle.jettyfig.specs.declared.Verdict.TheVariants.{Accepted, Refused}
 use Rattle.base.specs.Lists.{first_of}
 use Rattle.jettyfig.specs.declared.Asked.{Asked}
 use Rattle.jettyfig.specs.Verdicts.{Indexed, verdict_means, indexed_so, chosen, by_asked, asked-first, by_code, goes_on, ends_here}
--- the tests from the code on, and from each table on
 use Rattle.std.proofs.Common.{rules}
 use Rattle.jettyfig.proofs.check.Goals as goal
 
--- `jettyfig::check`: the mode, the choices, each table and the code, in the definition's order; the decomposition table's index
--- is filled where that table is checked.
 -- the tests from the code on, and from each table on
 abbrev from-code : List ℕ → List (Option Refusal)
 from-code code = by_code code ∷ []

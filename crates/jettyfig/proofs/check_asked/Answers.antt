@@ -10,10 +10,8 @@ use Rattle.definition.specs.Limits.{most_mode, most_choice}
 use Rattle.definition.specs.Refusals.{Refusal, when, refused_mode, refused_capitals, refused_o_ang, refused_readings}
 use Rattle.jettyfig.specs.declared.Asked.{Asked}
 use Rattle.jettyfig.specs.Verdicts.{by_asked, chosen, above, not_above}
--- the tests from each choice on
 use Rattle.jettyfig.proofs.check_asked.Goals as goal
 
--- `jettyfig::check_asked`: the mode, then each choice.
 -- the tests from each choice on
 abbrev from-readings : Asked → List (Option Refusal)
 from-readings a = when (ltb most_choice a.readings) refused_readings 0 ∷ []

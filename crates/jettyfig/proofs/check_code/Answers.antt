@@ -4,7 +4,6 @@ use native.Mathlib.Omega.{arith}
 use Rattle.jettyfig.specs.Verdicts.{no_code, lettered-code, other-letters, other_length}
 use Rattle.jettyfig.proofs.check_code.Goals as goal
 
--- `jettyfig::check_code`: one law for each way out.
 pub returns-then-code-eq0 : goal.returns-then-code-eq0
 returns-then-code-eq0 c = no_code c.args.code.now (omega arith)
 

@@ -8,7 +8,6 @@ use Rattle.decomp.specs.declared.Grew.{Grew}
 use Rattle.jettyfig.specs.Verdicts.{returned}
 use Rattle.jettyfig.specs.Steps.{FirstPassed}
 use Rattle.jettyfig.proofs.Firsts.{first_stops}
--- where the function began
 use Rattle.jettyfig.proofs.conclude.Goals as goal
 
 pub returns-in-NoSlot : goal.returns-in-NoSlot

@@ -11,7 +11,6 @@ use Rattle.second_pass.specs.Starts.{Standing}
 use Rattle.second_pass.specs.SecondPass.{SecondPass}
 use Rattle.jettyfig.specs.Verdicts.{given, returned}
 use Rattle.jettyfig.proofs.Finished.{both_passes, table_ready, fall_ready, second_stops, second-whole, second-shown}
--- where the function began, where it had both parts of what is prepared, and where the second pass had answered
 use Rattle.jettyfig.proofs.finish.Goals as goal
 
 pub add_rom_fall_back_singles-requires : goal.add_rom_fall_back_singles-requires

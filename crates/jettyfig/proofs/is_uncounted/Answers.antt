@@ -5,7 +5,6 @@ use Rattle.definition.specs.Endings.{string-counted}
 use Rattle.jettyfig.specs.Calls.{counted-by}
 use Rattle.jettyfig.proofs.is_uncounted.Goals as goal
 
--- `jettyfig::is_uncounted`: what has rows is measured with its header.
 pub returns-then-mode-eq0 : goal.returns-then-mode-eq0
 returns-then-mode-eq0 c = λ w e. sym (string-counted c.args.mode w (omega arith))
 

@@ -8,7 +8,6 @@ use Rattle.definition.specs.Limits.{most_characters}
 use Rattle.definition.specs.Utf8.{decoded}
 use Rattle.utf8.specs.Read.{text_means, few_read}
 use Rattle.jettyfig.proofs.Parts.{lent_length, laid_out}
--- a text of so many characters was read into a line as long as before
 use Rattle.jettyfig.proofs.lay_out.Goals as goal
 
 pub overflow_add-n : goal.overflow_add-n

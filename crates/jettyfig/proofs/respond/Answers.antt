@@ -4,7 +4,6 @@ use Prim.Native.Nat.{ℕ}
 use native.Mathlib.Omega.{arith}
 use lib.ListN.{length, replicate, length-replicate}
 use Rattle.definition.specs.Utf8Turns.{decoded_few}
--- the output is zeros, as long as it was
 use Rattle.jettyfig.proofs.respond.Goals as goal
 
 pub respond_short-requires : goal.respond_short-requires

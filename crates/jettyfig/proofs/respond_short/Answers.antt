@@ -17,10 +17,8 @@ use Rattle.jettyfig.specs.Verdicts.{chosen, given, returned}
 use Rattle.jettyfig.specs.Calls.{as_refused, call-refused, call-accepted}
 use Rattle.jettyfig.specs.Steps.{few_characters, LineRoom, asking, used_for, world_of, Accepting, SetsUp}
 use Rattle.jettyfig.proofs.Parts.{asking-mode, asking-choices, enough as zeros-enough}
--- zeros with room for the text, in which what is asked stands
 use Rattle.jettyfig.proofs.respond_short.Goals as goal
 
--- `jettyfig::respond_short`: what is asked is written over zeros, with room for the text behind; then the refusal of what is set up, or its lattice.
 -- zeros with room for the text, in which what is asked stands
 abbrev room : ℕ
 room = 2 * (few_characters + line_spaces)

@@ -18,7 +18,6 @@ use Rattle.decomp_pass.specs.Passes.{Begins}
 use Rattle.jettyfig.specs.Steps.{FirstPassed, few_characters}
 use Rattle.jettyfig.proofs.Wholes.{cut-zeros, back_is}
 use Rattle.jettyfig.proofs.Firsts.{first-came, first-passed, first_concluded}
--- where the function began, and where it had the text's length
 use Rattle.jettyfig.proofs.romanize_short.Goals as goal
 
 -- Zeros are cut to one for each character and one for the end

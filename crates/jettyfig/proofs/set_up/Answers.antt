@@ -13,7 +13,6 @@ use Rattle.jettyfig.specs.Verdicts.{verdict_means, Indexed, chosen, given, passe
 use Rattle.jettyfig.specs.Calls.{first-refused}
 use Rattle.jettyfig.proofs.Parts.{forms-lent, asked, asked-mode, asked-choices, asked_blank, asked-room}
 use Rattle.jettyfig.proofs.Setting.{sets}
--- where the tables were checked: the verdict is on what was asked, and the index has come back
 use Rattle.jettyfig.proofs.set_up.Goals as goal
 
 pub check-requires : goal.check-requires

@@ -11,7 +11,6 @@ use Rattle.words.specs.Given.{all_ready}
 use Rattle.jettyfig.specs.Steps.{used_for, TextMade}
 use Rattle.jettyfig.proofs.Parts.{cut, whole, whole_long, cut-mode, cut-choices, cut-forms, cut_line, cut_blank}
 use Rattle.jettyfig.proofs.Wholes.{back_is, back_inside}
--- an accepted text: it is not too long, and its line has come back as long as it was lent
 use Rattle.jettyfig.proofs.set_up_text.Goals as goal
 
 pub overflow_add-n : goal.overflow_add-n

@@ -8,7 +8,6 @@ use Rattle.definition.specs.Call.{Inputs, uncounted}
 use Rattle.output.specs.Shows.{Shows}
 use Rattle.jettyfig.specs.Verdicts.{returned}
 use Rattle.jettyfig.specs.Calls.{shown_large, shown-fits, shown_misses}
--- where the function begins, and where it knew what was needed
 use Rattle.jettyfig.proofs.show.Goals as goal
 
 pub returns-then-is_uncounted : goal.returns-then-is_uncounted

@@ -15,7 +15,6 @@ use Rattle.passes.specs.Starts.{Began}
 use Rattle.second_pass.specs.Starts.{Standing}
 use Rattle.lattice.specs.Lattice.{Lattice}
 use Rattle.lattice.proofs.Whole.{whole-lattice, whole_ready, whole_began}
--- where the text was measured, where the function began, and the first pass as it answered
 use Rattle.lattice.proofs.build_lattice.Goals as goal
 
 pub add_romanization-done-requires : goal.add_romanization-done-requires

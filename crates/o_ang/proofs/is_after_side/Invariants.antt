@@ -7,7 +7,6 @@ use Rattle.words.specs.Given.{World, Lent}
 use Rattle.words.specs.Choosing.{choices_of}
 use Rattle.o_ang.proofs.is_after_side.Given as goal
 
--- `o_ang::is_after_side`: the walk goes on from where it has come to as from its start, and ends where the definition's does.
 abbrev pub invariant-loop-at : goal.invariant-loop-at
 invariant-loop-at l =
     ((x : World) → Lent x l.line l.places → let c = choices_of l.choices in

@@ -4,7 +4,6 @@ use native.Mathlib.Omega.{arith}
 use Rattle.o_ang.proofs.Sounds.{none_beside, some_beside}
 use Rattle.o_ang.proofs.is_beside.Goals as goal
 
--- `o_ang::is_beside`
 pub returns-then-text-eq0 : goal.returns-then-text-eq0
 returns-then-text-eq0 c = none_beside c.args.text.now (omega arith)
 

@@ -5,7 +5,6 @@ use Rattle.base.specs.Lists.{same}
 use Rattle.offers.proofs.Telling.{core-none, core-same}
 use Rattle.offers.proofs.is_core.Goals as goal
 
--- `offers::is_core`: only one annotation has a core; its text is its own bytes.
 pub returns-then-e-ne-CORE : goal.returns-then-e-ne-CORE
 returns-then-e-ne-CORE c =
     core-none c.args.e c.args.text.now c.args.w.now (λ z. omega arith)

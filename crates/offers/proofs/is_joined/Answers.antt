@@ -10,7 +10,6 @@ use Rattle.base.specs.Lists.{same}
 use Rattle.offers.proofs.Seeking.{joined-short, joined_same}
 use Rattle.offers.proofs.is_joined.Goals as goal
 
--- `offers::is_joined`: the front with the one, the rest with the other.
 pub returns-then-w-n : goal.returns-then-w-n
 returns-then-w-n c =
     let a = c.args in joined-short a.w.now a.u.now a.v.now (omega arith)

@@ -7,7 +7,6 @@ use Rattle.base.specs.Pick.{pick}
 use Rattle.offers.specs.Texts.{count_of}
 use Rattle.offers.proofs.offers_count.Goals as goal
 
--- `offers::offers_count`: each target counts where it is offered.
 abbrev one : Bool → ℕ
 one b = pick b 1 0
 

@@ -10,7 +10,6 @@ use Rattle.offers.specs.Texts.{texts}
 use Rattle.offers.proofs.Seeking.{left_of}
 use Rattle.offers.proofs.row_offers.Given as goal
 
--- `offers::row_offers`: the texts still to come have it where all have.
 abbrev pub invariant-loop-k : goal.invariant-loop-k
 invariant-loop-k l =
     let all = texts (offers l.readings (edge_by l.e l.text) (rule_of (drop l.row l.rules))) in

@@ -6,7 +6,6 @@ use Rattle.offers.specs.Texts.{holding}
 use Rattle.offers.proofs.Seeking.{among_all}
 use Rattle.offers.proofs.rows_offer.Given as goal
 
--- `offers::rows_offer`: the rows still to come offer it where all do.
 abbrev pub invariant-loop-left : goal.invariant-loop-left
 invariant-loop-left l =
     let x = edge_by l.e l.text in

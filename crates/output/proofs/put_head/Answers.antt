@@ -10,7 +10,6 @@ use Rattle.base.specs.Big.{four}
 use Rattle.lent_bytes.specs.Puts.{put_at}
 use Rattle.output.proofs.put_head.Goals as goal
 
--- `output::put_head`: the test is whether all of the listing fits.
 pub returns-then-out-end : goal.returns-then-out-end
 unfolding pick
 returns-then-out-end c =

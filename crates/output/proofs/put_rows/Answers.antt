@@ -17,7 +17,6 @@ use Rattle.listing.specs.Items.{put_items, put_items-append}
 use Rattle.words.specs.Given.{size, line-size}
 use Rattle.output.specs.Whole.{whole_laid}
 use Rattle.output.specs.Shows.{lists-all, lists-alternatives, lists-path}
--- where the function begins
 use Rattle.output.proofs.put_rows.Goals as goal
 
 pub put_all_edges-requires : goal.put_all_edges-requires

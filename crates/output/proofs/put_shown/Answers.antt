@@ -14,7 +14,6 @@ use Rattle.listing.specs.Items.{put_items}
 use Rattle.words.specs.Given.{size, line-size}
 use Rattle.output.specs.Whole.{whole_laid}
 use Rattle.output.specs.Shows.{Shows, listed, shown-string, shown-listed, shows_string, rows_end, shows_listing}
--- where the function begins
 use Rattle.output.proofs.put_shown.Goals as goal
 
 pub put_path-requires : goal.put_path-requires

@@ -8,7 +8,6 @@ use Rattle.words.specs.Goes.{letter_byte}
 use Rattle.passes.specs.Endings.{last_letter}
 use Rattle.passes.proofs.ends_in_letter.Goals as goal
 
--- `passes::ends_in_letter`: what was told of the last byte.
 pub returns-then-text-eq0 : goal.returns-then-text-eq0
 unfolding last_letter
 returns-then-text-eq0 c = no_last (letter_byte c.args.ready.now) c.args.text.now (omega arith)

@@ -8,7 +8,6 @@ use Rattle.edge.specs.Slots.{edges_of}
 use Rattle.paths.specs.Orders.{last_end}
 use Rattle.paths.proofs.last_end.Given as goal
 
--- `paths::last_end`: the last end so far, and those still to come, have the last end of all.
 abbrev pub invariant-loop-left : goal.invariant-loop-left
 invariant-loop-left l =
     ((room : List ℕ) → last_end l.p l.bound l.best (edges_of room l.left (drop l.slot l.slots)) ≡ last_end l.p l.bound l.p (edges_of room l.count l.slots))

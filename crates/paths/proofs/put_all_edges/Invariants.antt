@@ -9,7 +9,6 @@ use Rattle.listing.specs.Sizes.{start_most}
 use Rattle.listing.specs.Items.{put_items}
 use Rattle.paths.proofs.put_all_edges.Given as goal
 
--- `paths::put_all_edges`: what was written and the starts still to come leave what all starts leave.
 abbrev pub invariant-loop-p : goal.invariant-loop-p
 invariant-loop-p l =
     (put_items true (sorted (edges_of l.room l.count l.slots) (l.n - l.p) l.p) (l.end, l.out) ≡ put_items true (sorted (edges_of l.room l.count l.slots) l.n 0) (l.at, l.initial.out))

@@ -9,7 +9,6 @@ use Rattle.listing.specs.Sizes.{rows_most}
 use Rattle.listing.specs.Items.{put_items}
 use Rattle.paths.proofs.put_longer.Given as goal
 
--- `paths::put_longer`: ends that no edge has are passed over, and so each turn writes the next longest edges.
 abbrev pub invariant-loop-e : goal.invariant-loop-e
 invariant-loop-e l =
     (put_items true (longer (edges_of l.room l.count l.slots) l.p (l.e - l.p)) (l.end, l.out) ≡ put_items true (longer (edges_of l.room l.count l.slots) l.p (l.n - l.p)) (l.at, l.initial.out))

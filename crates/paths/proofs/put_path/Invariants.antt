@@ -8,7 +8,6 @@ use Rattle.listing.specs.Sizes.{row_most}
 use Rattle.listing.specs.Items.{put_items}
 use Rattle.paths.proofs.put_path.Given as goal
 
--- `paths::put_path`: what was written and what is left of the path leave what the whole path leaves.
 abbrev pub invariant-loop-p : goal.invariant-loop-p
 invariant-loop-p l =
     (put_items l.rows (path_from (l.n - l.p) l.p (edges_of l.room l.count l.slots)) (l.end, l.out) ≡ put_items l.rows (path_from l.n 0 (edges_of l.room l.count l.slots)) (l.at, l.initial.out))

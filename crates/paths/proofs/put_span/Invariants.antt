@@ -10,7 +10,6 @@ use Rattle.listing.specs.Items.{put_items}
 use Rattle.paths.specs.Orders.{over}
 use Rattle.paths.proofs.put_span.Given as goal
 
--- `paths::put_span`: what was written and the slots still to come leave what all slots leave.
 abbrev pub invariant-loop-left : goal.invariant-loop-left
 invariant-loop-left l =
     (put_items true (over (edges_of l.room l.left (drop l.slot l.slots)) l.p l.e) (l.end, l.out) ≡ put_items true (over (edges_of l.room l.count l.slots) l.p l.e) (l.at, l.initial.out))

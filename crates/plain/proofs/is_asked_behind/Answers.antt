@@ -3,7 +3,6 @@ use native.Mathlib.Omega.{arith}
 use Rattle.plain.specs.Ways.{none_asked}
 use Rattle.plain.proofs.is_asked_behind.Goals as goal
 
--- `plain::is_asked_behind`: none of the eight, by their ranges and one after another.
 pub returns-then-c-lt-GRAVE : goal.returns-then-c-lt-GRAVE
 returns-then-c-lt-GRAVE c = λ e. none_asked c.args.c (λ z. omega arith) (λ z. omega arith) (λ z. omega arith) (λ z. omega arith) (λ z. omega arith) (λ z. omega arith) (λ z. omega arith) (λ z. omega arith)
 

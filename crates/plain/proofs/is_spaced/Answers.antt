@@ -7,7 +7,6 @@ use lib.Seq.{length-take-le, get_or-take}
 use Rattle.plain.specs.Ways.{nothing_spaced, no_spaces}
 use Rattle.plain.proofs.is_spaced.Goals as goal
 
--- `plain::is_spaced`: the first byte, and the one at the length less one.
 pub returns-then-n-eq0 : goal.returns-then-n-eq0
 returns-then-n-eq0 c =
     λ e. nothing_spaced (take c.args.n c.args.bytes.now) (omega (arith, length-take-le c.args.n c.args.bytes.now c.requires))

@@ -5,7 +5,6 @@ use lib.ListN.{length, drop}
 use Rattle.replay.specs.Given.{zeros}
 use Rattle.replay.proofs.are_zero.Given as goal
 
--- `replay::are_zero`: what is left of the bytes answers as they all do.
 abbrev pub invariant-loop-i : goal.invariant-loop-i
 invariant-loop-i l = zeros (drop l.i l.s) ≡ zeros (drop l.from l.s)
 

@@ -4,7 +4,6 @@ use mathlib.Core.Path.{◌≡◌}
 use lib.ListN.{length}
 use Rattle.replay.proofs.fill.Given as goal
 
--- `replay::fill` is safe and ends: it goes up to the end of the bytes, whose number stays.
 abbrev pub invariant-loop-i : goal.invariant-loop-i
 invariant-loop-i l = length l.s ≡ length l.initial.s
 

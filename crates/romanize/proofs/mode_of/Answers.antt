@@ -3,7 +3,6 @@ use native.Mathlib.Omega.{arith}
 use Rattle.romanize.proofs.Cases.{no_digit, below, above, digit}
 use Rattle.romanize.proofs.mode_of.Goals as goal
 
--- `romanize::mode_of`: one byte, and that is a digit.
 pub returns-then-arg-ne1 : goal.returns-then-arg-ne1
 returns-then-arg-ne1 c = no_digit c.args.arg.now (λ e. omega arith)
 

@@ -3,7 +3,6 @@ use native.Mathlib.Omega.{arith}
 use Rattle.romanize.proofs.Cases.{no_text, ended, not_ended}
 use Rattle.romanize.proofs.without_line_end.Goals as goal
 
--- `romanize::without_line_end`: a line end at the end is left off.
 pub returns-then-n-eq0 : goal.returns-then-n-eq0
 returns-then-n-eq0 c = no_text c.args.text.now (omega arith)
 

@@ -7,7 +7,6 @@ use Rattle.base.specs.Rows.{counted}
 use Rattle.definition.specs.RuleRows.{code_of, target_at, rule_codes}
 use Rattle.rule_choice.proofs.matches_lcode.Given as goal
 
--- `rule_choice::matches_lcode`: the codes still to come have the language where all of the row have.
 abbrev pub invariant-loop-left : goal.invariant-loop-left
 invariant-loop-left l =
     (any (same l.code) (counted code_of 3 l.left (drop l.at l.rules)) ≡ any (same l.code) (rule_codes (drop l.row l.rules)))

@@ -3,7 +3,6 @@ use native.Mathlib.Omega.{arith}
 use Rattle.rule_reader.specs.Here.{none-next, last-next, some_next}
 use Rattle.rule_reader.proofs.next_at.Goals as goal
 
--- `rule_reader::next_at`: behind the row by its size, or at the end.
 pub returns-then-table-at : goal.returns-then-table-at
 returns-then-table-at c = none-next _ _ (omega arith)
 

@@ -4,7 +4,6 @@ use Rattle.rule_row_faults.specs.Row.{fault-near}
 use Rattle.rule_reader.specs.Here.{at_end, row_read, fault-read}
 use Rattle.rule_reader.proofs.row_at.Goals as goal
 
--- `rule_reader::row_at`: a row as it was read, with its fault's offset in the table.
 pub returns-then-table-at : goal.returns-then-table-at
 returns-then-table-at c = at_end _ _ (omega arith)
 

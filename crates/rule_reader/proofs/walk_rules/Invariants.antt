@@ -5,7 +5,6 @@ use Rattle.rule_table_check.specs.Marks.{mark_at}
 use Rattle.rule_reader.specs.Counting.{Gone}
 use Rattle.rule_reader.proofs.walk_rules.Given as goal
 
--- `rule_reader::walk_rules`: from each row on the check and the count lead where the whole leads (`Gone`).
 abbrev pub invariant-loop-at : goal.invariant-loop-at
 invariant-loop-at l = Gone l.table l.at l.rows (mark_at l.table l.old l.low)
 

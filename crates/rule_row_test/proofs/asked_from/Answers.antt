@@ -2,10 +2,8 @@
 use native.Mathlib.Omega.{arith}
 use lib.ListN.{drop}
 use Rattle.rule_row_test.specs.Fields.{from_second}
--- src/lib.rt:138:8
 use Rattle.rule_row_test.proofs.asked_from.Goals as goal
 
--- src/lib.rt:139:9
 pub returns-then-three_there-lt55296 : goal.returns-then-three_there-lt55296
 returns-then-three_there-lt55296 c =
     let a = c.args in

@@ -7,9 +7,9 @@ use native.Mathlib.Omega.{arith}
 use lib.ListN.{drop}
 use Rattle.definition.specs.RuleRows.{rule_source, rises}
 use Rattle.rule_table_check.specs.Marks.{mark_at, no_mark, mark-is}
--- any row rises over no source
 use Rattle.rule_table_check.proofs.rises_over.Goals as goal
 
+-- any row rises over no source
 first : (b : List ℕ) (at old low : ℕ) → low ≡ 0 → true ≡ rises (mark_at b old low) (rule_source (drop at b))
 unfolding rises
 first b at old low e = sym (rw (e, no_mark b old))

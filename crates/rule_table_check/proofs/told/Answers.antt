@@ -12,9 +12,9 @@ use Rattle.definition.specs.Refusals.{Refusal, when, refused_rows, refused_order
 use Rattle.definition.specs.RuleFields.{read_row}
 use Rattle.definition.specs.RuleFaults.{field_fault}
 use Rattle.rule_table_check.specs.Told.{told_of}
--- the first that there is of three
 use Rattle.rule_table_check.proofs.told.Goals as goal
 
+-- the first that there is of three
 of_three : (n f o : Option Refusal) → or_else n (or_else f o) ≡ first_of (n ∷ f ∷ o ∷ [])
 unfolding first_of
 of_three n f o = ap (λ y. or_else n (or_else f y)) (sym (first_only o))

@@ -21,7 +21,6 @@ use Rattle.passes.specs.Reached.{Over}
 use Rattle.second_pass.specs.Fallback.{single_numbers, search_note, category_text, spaced, unspaced, own-inside}
 use Rattle.second_pass.proofs.Falls.{at-inside, at_few, at_own, at-bytes, at_size, note_at, Ready, fall_ready}
 use Rattle.second_pass.proofs.Falls.{Puts, Ended, category-fits, category-puts, search_places, search_fits, search_puts}
--- where the function began
 use Rattle.second_pass.proofs.add_fallback.Goals as goal
 
 pub single-numbers-requires : goal.single-numbers-requires

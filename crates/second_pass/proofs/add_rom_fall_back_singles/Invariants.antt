@@ -15,7 +15,6 @@ use Rattle.second_pass.specs.Fallback.{chars_in}
 use Rattle.second_pass.proofs.Falling.{Behind}
 use Rattle.second_pass.proofs.add_rom_fall_back_singles.Given as goal
 
--- `second_pass::add_rom_fall_back_singles`: what is left of the starts does what all of them do, and each fallback has the next number.
 abbrev pub invariant-loop-p : goal.invariant-loop-p
 invariant-loop-p l =
     ((vowels : List ℕ) (w : World) → Over w l.ready l.line l.initial.slots l.initial.room l.initial.places (record { count = l.first; used = l.initial.bytes; since = 0 })

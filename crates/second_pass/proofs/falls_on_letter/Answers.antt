@@ -5,7 +5,6 @@ use Rattle.base.specs.Pick.{pick}
 use Prim.Native.Nat.{◌+◌}
 use Rattle.words.specs.Given.{kind_in, alpha_kind}
 use Rattle.passes.specs.Endings.{last_letter}
--- the answer, by whether a target was told
 use Rattle.second_pass.proofs.falls_on_letter.Goals as goal
 
 pub returns-then-is_told : goal.returns-then-is_told

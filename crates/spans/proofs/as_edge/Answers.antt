@@ -6,7 +6,6 @@ use Rattle.definition.specs.Notes.{note_core}
 use Rattle.spans.specs.Ways.{edge_by, by_expansion, by-vowels, by-tail, as_plain}
 use Rattle.spans.proofs.as_edge.Goals as goal
 
--- `spans::as_edge`: one law for each annotation.
 pub returns-then-note-ne-UNTOUCHED : goal.returns-then-note-ne-UNTOUCHED
 returns-then-note-ne-UNTOUCHED c = λ rom new w g k. by_expansion c.args.tail rom new w c.args.from c.args.to c.args.note (λ z. omega (arith, z))
 

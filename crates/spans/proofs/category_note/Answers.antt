@@ -4,7 +4,6 @@ use Rattle.base.specs.Pick.{pick}
 use Rattle.spans.specs.Spans.{category_note}
 use Rattle.spans.proofs.category_note.Goals as goal
 
--- `spans::category_note`: by the category.
 pub returns-then-category-eq-NONSPACING : goal.returns-then-category-eq-NONSPACING
 unfolding category_note pick
 returns-then-category-eq-NONSPACING c = search eq-eqb

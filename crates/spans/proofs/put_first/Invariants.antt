@@ -5,7 +5,6 @@ use Prim.Native.Nat.{◌≤◌, ◌-◌}
 use lib.ListN.{length, take, drop}
 use Rattle.spans.proofs.put_first.Given as goal
 
--- `spans::put_first`: the first `i` bytes are copied.
 abbrev pub invariant-loop-i : goal.invariant-loop-i
 invariant-loop-i l = (l.i ≤ l.n) × (length l.room ≡ length l.initial.room) × (l.room ≡ take l.i l.bytes ++ drop l.i l.initial.room)
 

@@ -14,10 +14,8 @@ use Rattle.standing.specs.declared.Stretch.{Stretch}
 use Rattle.standing.specs.Starts.{stretch_of}
 use Rattle.standing.specs.Stands.{stretch-within}
 use Rattle.standing.specs.Right.{longer, found-wide, fallback_found, right-single, right_near}
--- the best of a stretch
 use Rattle.standing.proofs.best_right_neighbor_edge.Goals as goal
 
--- `standing::best_right_neighbor_edge`: of the stretch, or else the fallback.
 -- the best of a stretch
 abbrev best-in : List ℕ → List ℕ → ℕ → Stretch → Option Edge
 best-in room slots p s = best longer (starting (edges_of room (s.end - s.first) (drop (s.first * slot_bytes) slots)) p)

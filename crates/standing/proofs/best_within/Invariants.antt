@@ -12,7 +12,6 @@ use Rattle.edge.specs.Best.{best_means, Found}
 use Rattle.standing.specs.Right.{longer}
 use Rattle.standing.proofs.best_within.Given as goal
 
--- `standing::best_within`: the best so far and those still to come have the best of the stretch.
 abbrev pub invariant-loop-i : goal.invariant-loop-i
 invariant-loop-i l =
     ((room : List ℕ) → best_after longer (best_means room l.slots l.best) (starting (edges_of room (l.end - l.i) (drop (l.i * slot_bytes) l.slots)) l.p)

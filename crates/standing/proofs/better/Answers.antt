@@ -9,10 +9,8 @@ use lib.ListN.{drop}
 use borrow.Author.Tests.{eq-eqb, ne_eqb}
 use Rattle.edge.specs.Slots.{from_of, edge_by, numbers_of, edge_of}
 use Rattle.standing.specs.Right.{here, elsewhere, first_one, longer-one, shorter_one}
--- by the start that was read
 use Rattle.standing.proofs.better.Goals as goal
 
--- `standing::better`: one law for each way out.
 -- by the start that was read
 is-here : (room s : List ℕ) (f p : ℕ) → f ≡ from_of s → f ≡ p → here p (edge_of room s) ≡ true
 unfolding edge_by numbers_of

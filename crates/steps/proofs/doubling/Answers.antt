@@ -12,7 +12,6 @@ use Rattle.steps.proofs.Outcomes.{at_front, no_tsu, other-script, no_letter, a_l
 use Rattle.words.specs.Given.{kinds, line-size, char_before}
 use Rattle.steps.proofs.doubling.Goals as goal
 
--- `steps::doubling`: one law for each way out; at the front of the text a space stands before, which is no small tsu.
 pub returns-then-o-eq0 : goal.returns-then-o-eq0
 returns-then-o-eq0 c =
     ((λ u h. at_front (kinds u) u.text c.args.o (work_in c.args.bytes.now c.args.g) (omega arith)), c.requires.0, omega arith, omega arith, refl)

@@ -6,7 +6,6 @@ use Rattle.steps.specs.Works.{kana}
 use Rattle.steps.proofs.Outcomes.{katakana_left}
 use Rattle.steps.proofs.is_kana.Goals as goal
 
--- `steps::is_kana`: the two scripts one after another.
 pub returns-then-script-eq-HIRAGANA : goal.returns-then-script-eq-HIRAGANA
 unfolding kana
 returns-then-script-eq-HIRAGANA c = let e : c.args.script ≡ script_hiragana = omega arith in sym (ap kana e)

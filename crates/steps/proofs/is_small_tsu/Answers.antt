@@ -6,7 +6,6 @@ use Rattle.definition.specs.Expansion.{small_tsu}
 use Rattle.steps.proofs.Outcomes.{addak-left}
 use Rattle.steps.proofs.is_small_tsu.Goals as goal
 
--- `steps::is_small_tsu`: the characters one after another.
 pub returns-then-c-eq-HIRAGANA_TSU : goal.returns-then-c-eq-HIRAGANA_TSU
 unfolding small_tsu among
 returns-then-c-eq-HIRAGANA_TSU c = let e : c.args.c ≡ 0x3063 = omega arith in sym (ap small_tsu e)

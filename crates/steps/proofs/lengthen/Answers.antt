@@ -11,7 +11,6 @@ use Rattle.rom.specs.Rom.{text-length, bytes-length, text-by, len_by, clean_by}
 use Rattle.steps.proofs.Letters.{last-at, last-there, not_empty}
 use Rattle.steps.proofs.lengthen.Goals as goal
 
--- `steps::lengthen`: a text that ends in a vowel has a last letter.
 pub overflow_sub-letter : goal.overflow_sub-letter
 unfolding last_is
 overflow_sub-letter c =

@@ -8,7 +8,6 @@ use Rattle.steps.specs.Works.{last_of}
 use Rattle.steps.proofs.Letters.{some_last, all_but_last, back_space, back-text, back-letter}
 use Rattle.steps.proofs.trim_back.Goals as goal
 
--- `steps::trim_back`
 pub slice_bounds-last-end : goal.slice_bounds-last-end
 slice_bounds-last-end c =
     omega (arith, bytes-length c.requires, c.requires.fits)

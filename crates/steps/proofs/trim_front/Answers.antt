@@ -6,7 +6,6 @@ use Rattle.rom.specs.Rom.{rom, text-length, bytes-length}
 use Rattle.steps.proofs.Letters.{all_but_first, front_space, front-text, front-letter}
 use Rattle.steps.proofs.trim_front.Goals as goal
 
--- `steps::trim_front`
 pub slice_bounds-byte-end : goal.slice_bounds-byte-end
 slice_bounds-byte-end c =
     omega (arith, bytes-length c.requires, c.requires.fits)

@@ -9,7 +9,6 @@ use Rattle.steps.proofs.Tries.{not_done, tries_as, around_on, blank_pre, not_fra
 use Rattle.words.specs.Given.{kinds, line-size}
 use Rattle.steps.proofs.vowel_around.Goals as goal
 
--- `steps::vowel_around`: the first of three tries that was done; at the front of the text a space stands before, which has no flag.
 pub returns-then-from-eq0 : goal.returns-then-from-eq0
 returns-then-from-eq0 c =
     let b = c.args.bytes.now in

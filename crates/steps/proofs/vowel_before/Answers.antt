@@ -16,7 +16,6 @@ use Rattle.steps.proofs.Tries.{behind-there, blank_pre, not_before, by_rule, unf
 use Rattle.words.specs.Given.{kinds, size, line-size, char_before}
 use Rattle.steps.proofs.vowel_before.Goals as goal
 
--- `steps::vowel_before`: one law for each way out; at the front of the text a space stands before, which has no flag.
 pub returns-then-from-eq0 : goal.returns-then-from-eq0
 returns-then-from-eq0 c =
     let b = c.args.bytes.now in

@@ -6,7 +6,6 @@ use Rattle.rom.specs.Sets.{in_vowels}
 use Rattle.syllables.specs.Sounds.{none-opens, first-opens}
 use Rattle.syllables.proofs.starts_with_vowel.Goals as goal
 
--- `syllables::starts_with_vowel`: no text starts with none, and another with its first byte.
 pub returns-then-text-eq0 : goal.returns-then-text-eq0
 returns-then-text-eq0 c = none-opens c.args.text.now (omega arith)
 

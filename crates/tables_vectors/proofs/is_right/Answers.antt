@@ -5,7 +5,6 @@ use Rattle.tables_vectors.specs.Given.{judged_means, fault_of}
 use Rattle.tables_vectors.proofs.Cases.{fifth, by_answer}
 use Rattle.tables_vectors.proofs.is_right.Goals as goal
 
--- `tables_vectors::is_right`: a fifth kind, or what the check answers.
 pub returns-then-kind-gt3 : goal.returns-then-kind-gt3
 returns-then-kind-gt3 c = fifth c.args.input.now c.args.kind c.args.at c.args.len (omega arith)
 
