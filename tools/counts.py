@@ -35,7 +35,7 @@ def crate(name):
 
 def crates():
     """each row of the table of crates"""
-    row = re.compile(r"^\| (\w+)(?: \((?:a program, )?(\d+) functions?\))? \| ([\d,]*) \| \d+ s \| (\d*) \|$", re.M)
+    row = re.compile(r"^\| (\w+)(?: \((?:a program, )?(\d+) functions?\))? \| ([\d,]*) \| (?:\d+ s)? \| (\d*) \|$", re.M)
     found = row.findall(page("docs/MEASURES.md"))
     for name, *stated in found:
         for what, one, other in zip(("functions", "lines of specs and laws", "wrong edits"), map(number, stated), crate(name)):
