@@ -1,5 +1,5 @@
--- Theorems about stretches that rest on a law which a wrong definition makes false: the main ones are `demand` in Proved, and
--- `strings` and `driven` in Strings and Driven. Each module but Lattice goes with the one of its name in specs/, whose Lib has the
+-- Theorems about stretches that a wrong definition makes false, or that rest on such a one: the main ones are `demand` in Proved,
+-- and `strings` and `driven` in Strings and Driven. Each module but Lattice goes with the one of its name in specs/, whose Lib has the
 -- reading order; Lattice goes before Path there.
 pub mod Alternatives
 pub mod Applied
