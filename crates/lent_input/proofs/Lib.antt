@@ -1,0 +1,2 @@
+-- What stands in lent bytes after a read into their end.
+pub mod Filled
