@@ -8,7 +8,7 @@ use rule_reader::RowHere;
 use rule_row_faults::{Fault, RowParts};
 use rule_table_check::RulesRead;
 use std::io;
-use std::io::{BufWriter, Write};
+use std::io::Write;
 
 // The bit of a row's flags that says that it has a target.
 const TARGET_BIT: u32 = 5;
@@ -132,8 +132,7 @@ fn conclude<W: Write>(out: &mut W, table: &[u8]) -> io::Result<()> {
 fn main(rt: HostRuntime) -> io::Result<()> {
     let mut table = table_room();
     let n = lent_input::read_full(&mut rt.reader(), &mut table)?;
-    let mut out = BufWriter::new(rt.alloc(), rt.stdout())?;
+    let mut out = rt.stdout();
     list(&mut out, &table[..n])?;
-    conclude(&mut out, &table[..n])?;
-    out.flush()
+    conclude(&mut out, &table[..n])
 }

@@ -19,7 +19,7 @@ use std::alloc::{AllocError, Global};
 use std::env::FillError;
 use std::fs::File;
 use std::io;
-use std::io::{BufWriter, Read, Write};
+use std::io::{Cursor, Read, Write};
 use std::rt::{Env, Files};
 
 // What an annotation is called, eight letters each: its number is its place.
@@ -163,31 +163,33 @@ fn read_argument<R: Env>(rt: &R, i: usize, buf: &mut [u8]) -> usize
 }
 
 // What an error says before its number.
-fn reason(said: &str) -> &str {
-    match said.split_once(" (os error ") {
-        Some((reason, _)) => reason,
-        None => said,
+fn reason(said: &[u8]) -> &[u8] {
+    match str::from_utf8(said) {
+        Ok(text) => match text.split_once(" (os error ") {
+            Some((reason, _)) => reason.as_bytes(),
+            None => said,
+        },
+        Err(_) => said,
     }
 }
 
-// Why a file was not opened, as the system says it.
-fn say_failure<W: Write>(
-    err: &mut W,
-    alloc: Global,
-    name: &[u8],
-    error: io::Error,
-) -> io::Result<()> {
-    let said = format!(in alloc; "{error}")?;
+// Why a file was not opened, as the system says it: 256 bytes at most, and its number behind them.
+fn say_failure<W: Write>(err: &mut W, name: &[u8], error: io::Error) -> io::Result<()> {
+    let mut said = Cursor::new([0u8; 320]);
+    write!(said, "{error}")?;
+    let n = said.position() as usize;
+    let bytes = said.into_inner();
     err.write_all(name)?;
-    let reason = reason(said.as_str());
-    writeln!(err, ": {reason}")
+    err.write_all(b": ")?;
+    err.write_all(reason(lent_bytes::part_or_none(&bytes, 0, n)))?;
+    err.write_all(b"\n")
 }
 
 // All of the file that an argument names; a full buffer's length where there is none, or too much of it, and a line says so.
 //
-// An error is that of a read or, where there is a line to say, of a write or of no memory for it, and no other: a file that can't
-// be opened is none. It leaves in `buf` no bytes that count, may have cut the line, and the file is closed.
-fn read_table<R: Env + Files + AllocGlobal, W: Write>(
+// An error is that of a read or, where there is a line to say, of a write, and no other: a file that can't be opened is none. It
+// leaves in `buf` no bytes that count, may have cut the line, and the file is closed.
+fn read_table<R: Env + Files, W: Write>(
     rt: &R,
     err: &mut W,
     i: usize,
@@ -209,7 +211,7 @@ fn read_table<R: Env + Files + AllocGlobal, W: Write>(
     match File::open(rt, path) {
         Ok(mut file) => read_all(&mut file, err, name, buf),
         Err(e) => {
-            say_failure(err, rt.alloc(), name, e)?;
+            say_failure(err, name, e)?;
             Ok(buf.len())
         }
     }
@@ -576,7 +578,7 @@ fn romanize<'a, O: Write, W: Write>(
         let written = lent_bytes::part_or_none(&out, 0, answer.length as usize);
         print_output(output, mode, written)?;
     }
-    output.flush()
+    Ok(())
 }
 
 // The tables are read; code, mode and text are not yet.
@@ -604,7 +606,7 @@ fn with_tables(
     }
     romanize(
         rt.alloc(),
-        &mut BufWriter::new(rt.alloc(), rt.stdout())?,
+        &mut rt.stdout(),
         &mut err,
         mode_of(&mode[..m]),
         chosen,

@@ -7,7 +7,7 @@ ghost use Rattle.sample.specs.Hex.{hex_digit};
 
 use jettyfig::Answer;
 use std::io;
-use std::io::{BufWriter, Write};
+use std::io::Write;
 
 // The sample tables, as tests/generate/sample.py makes them.
 // Rules.
@@ -89,9 +89,7 @@ fn main(rt: HostRuntime) -> io::Result<()> {
         &mut out,
     );
     if number == 0 {
-        let mut line = BufWriter::new(rt.alloc(), rt.stdout())?;
-        print_hex(&mut line, &out, length as usize)?;
-        return line.flush();
+        return print_hex(&mut rt.stdout(), &out, length as usize);
     }
     eprintln!(rt; "refused with {number} at {place}")
 }
