@@ -173,7 +173,8 @@ fn reason(said: &[u8]) -> &[u8] {
     }
 }
 
-// Why a file was not opened, as the system says it: 256 bytes at most, and its number behind them.
+// Why a file was not opened, as the system says it. An error is written as a reason of at most 256 bytes and, behind it, a number,
+// so 320 bytes are enough for it.
 fn say_failure<W: Write>(err: &mut W, name: &[u8], error: io::Error) -> io::Result<()> {
     let mut said = Cursor::new([0u8; 320]);
     write!(said, "{error}")?;
