@@ -1,5 +1,5 @@
--- Theorems about the definition that a wrong definition makes false, or that rest on such a one. Each module goes with the one of
--- its name in specs/, whose Lib has the reading order.
+-- Theorems about the definition whose proofs fail where a definition is wrong, or that rest on such a one. Each module goes with
+-- the one of its name in specs/, whose Lib has the reading order.
 pub mod Absent
 pub mod Accepted
 pub mod Alt2

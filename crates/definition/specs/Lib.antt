@@ -1,5 +1,5 @@
--- The definition: document 01 as mathematics, and laws about it. A theorem that rests on a law which a wrong definition makes
--- false stands in proofs/, in the module of the same name.
+-- The definition: document 01 as mathematics, and laws about it. A theorem whose proof fails where a definition is wrong, or that
+-- rests on such a one, stands in proofs/, in the module of the same name.
 --
 -- What the definition is about
 pub mod Limits

@@ -1,6 +1,6 @@
--- Theorems about stretches that a wrong definition makes false, or that rest on such a one: the main ones are `demand` in Proved,
--- and `strings` and `driven` in Strings and Driven. Each module but Lattice goes with the one of its name in specs/, whose Lib has the
--- reading order; Lattice goes before Path there.
+-- Theorems about stretches whose proofs fail where a definition is wrong, or that rest on such a one: the main ones are `demand` in
+-- Proved, and `strings` and `driven` in Strings and Driven. Each module but Lattice goes with the one of its name in specs/, whose
+-- Lib has the reading order; Lattice goes before Path there.
 pub mod Alternatives
 pub mod Applied
 pub mod Building

@@ -1,4 +1,5 @@
--- Demand 3. A theorem that rests on a law which a wrong definition makes false stands in proofs/, in the module of the same name.
+-- Demand 3. A theorem whose proof fails where a definition is wrong, or that rests on such a one, stands in proofs/, in the module
+-- of the same name.
 --
 -- The statement
 pub mod Demand
