@@ -1,1 +1,2 @@
 pub mod Alikes
+pub mod Unslotted

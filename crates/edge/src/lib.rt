@@ -189,6 +189,7 @@ fn put_slot(slots: &mut [u8], at: usize, e: Numbers, offset: usize, len: usize)
 }
 
 // `add_edge`: one more edge, unless one equal to it is there. Its text goes into the room from the first free byte on.
+#[tactic(auto, using(crate::proofs::Unslotted::answer_unslotted, crate::proofs::Unslotted::slots_unslotted, crate::proofs::Unslotted::room_unslotted))]
 pub fn add_edge(slots: &mut [u8], room: &mut [u8], filled: Filled, e: Numbers, text: &[u8]) -> Added
     requires { Addable slots.old room.old filled e text.now }
     ensures { Adds slots.old room.old filled.count filled.used e text.now

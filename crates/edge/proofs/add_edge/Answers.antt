@@ -1,7 +1,7 @@
 -- `edge::add_edge`: all is decided before anything is written.
 use mathlib.Core.Path.{sym, ◌∙◌}
 use native.Mathlib.Omega.{arith}
-use Rattle.edge.specs.Adding.{kept, unslotted, roomless, entered}
+use Rattle.edge.specs.Adding.{kept, roomless, entered}
 use Rattle.edge.specs.Asked.{stored_readable}
 use Rattle.edge.proofs.add_edge.Goals as goal
 
@@ -21,14 +21,6 @@ returns-then-is_there c =
     let R = a.room.now in
     let t = a.text.now in
     kept S R a.filled.count a.filled.used a.e t (sym c.is_there.ensures ∙ c.if-is_there.true)
-
-pub returns-then-slots-at-lt-SLOT_BYTES : goal.returns-then-slots-at-lt-SLOT_BYTES
-returns-then-slots-at-lt-SLOT_BYTES c =
-    let a = c.args in
-    let S = a.slots.now in
-    let R = a.room.now in
-    let t = a.text.now in
-    unslotted S R a.filled.count a.filled.used a.e t (sym c.is_there.ensures ∙ c.if-is_there.false) (omega arith)
 
 pub returns-then-room-used : goal.returns-then-room-used
 returns-then-room-used c =
