@@ -3,6 +3,8 @@ pub mod Values
 pub mod Sequences
 pub mod Ranges
 pub mod Bytes
+-- What a byte counts that continues no character
+pub mod Firsts
 -- The loops, and the answers
 pub mod Walks
 pub mod Answers

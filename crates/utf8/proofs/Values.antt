@@ -1,4 +1,5 @@
--- The cases of `checked`, each by the facts of numbers that lead to it.
+-- The cases of `checked`, each by the facts of numbers that lead to it. That of the surrogates is named on the function, so
+-- that no answer there hangs on the words of its condition.
 use mathlib.Core.Path.{◌≡◌}
 use Prim.Native.Nat.{ℕ, ◌<◌, ◌≤◌}
 use native.Mathlib.Omega.{arith}

@@ -66,6 +66,7 @@ pub fn six(b: u32) -> u32
 }
 
 // A character of `size` bytes: none that fewer could hold, whose lowest is `low`, and a scalar value.
+#[tactic(auto, using(crate::proofs::Values::surrogate))]
 fn checked(low: u32, size: usize, v: u32) -> CharRead
     ensures { char_means result ≡ checked low size v }
 {
@@ -246,6 +247,7 @@ pub fn first_left_out(chars: &[u32]) -> Found
 }
 
 // 1 for a byte that continues no character.
+#[tactic(auto, using(crate::proofs::Firsts::one_where_no_six))]
 fn begins(b: u32) -> usize
     ensures { (result ≡ begins b) × (result ≤ 1) }
 {

@@ -1,14 +1,10 @@
 -- `utf8::begins`: a byte without the six bits of a continuation byte.
 use mathlib.Core.Path.{sym}
 use native.Mathlib.Omega.{arith}
-use borrow.Author.Tests.{eq-eqb, ne_eqb}
+use borrow.Author.Tests.{ne_eqb}
 use Rattle.base.specs.Pick.{pick}
 use Rattle.definition.specs.Utf8.{six}
 use Rattle.utf8.proofs.begins.Goals as goal
-
-pub returns-then-six-eq64 : goal.returns-then-six-eq64
-unfolding pick
-returns-then-six-eq64 c = let b = c.args.b in (sym (rw (eq-eqb (six b) 64 (omega (arith, c.six.ensures)))), omega arith)
 
 pub returns : goal.returns
 unfolding pick
