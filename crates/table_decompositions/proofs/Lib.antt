@@ -1,2 +1,3 @@
 pub mod RowTests
 pub mod Holding
+pub mod Tags

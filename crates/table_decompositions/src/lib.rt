@@ -59,6 +59,7 @@ pub fn into_at(table: &[u8], row: usize, i: usize) -> u32
 }
 
 // A row within the table, of a scalar value that rises and is no space, with a known tag.
+#[tactic(auto, using(crate::proofs::Tags::tag_past))]
 fn fits(table: &[u8], row: usize, low: u32) -> bool
     ensures { result ≡ decomposition_fits low (drop row table.now) }
 {
@@ -238,6 +239,7 @@ pub fn row_of(table: &[u8], index: &[u32], c: u32) -> usize
 }
 
 // The offset of a character's row where that gives an edge, 0 where it has none that does.
+#[tactic(auto, using(crate::specs::Told::edge_here))]
 pub fn edge_row_of(table: &[u8], index: &[u32], c: u32) -> usize
     requires { Ready table.now index.now }
     ensures { EdgeFound table.now c result }

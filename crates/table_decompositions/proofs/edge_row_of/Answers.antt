@@ -1,15 +1,10 @@
 -- `table_decompositions::edge_row_of`
 use native.Mathlib.Omega.{arith}
-use Rattle.table_decompositions.specs.Told.{edge_none, edge_here, edge_other}
+use Rattle.table_decompositions.specs.Told.{edge_none, edge_other}
 use Rattle.table_decompositions.proofs.edge_row_of.Goals as goal
 
 pub returns-then-row-eq0 : goal.returns-then-row-eq0
 returns-then-row-eq0 c = let a = c.args in edge_none a.table.now a.c _ c.row_of-row.ensures (omega arith)
-
-pub returns-then-at-eq-OTHER : goal.returns-then-at-eq-OTHER
-returns-then-at-eq-OTHER c =
-    let a = c.args in
-    edge_here a.table.now a.c _ c.row_of-row.ensures (omega arith) _ c.at.ensures.0 (omega arith)
 
 pub returns : goal.returns
 returns c =

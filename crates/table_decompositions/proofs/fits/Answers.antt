@@ -1,9 +1,9 @@
--- `table_decompositions::fits`: one case for each test.
+-- `table_decompositions::fits`: a case for each test but that of the tag, whose law the attribute names.
 use mathlib.Core.Path.{◌∙◌}
 use native.Mathlib.Omega.{arith}
 use lib.ListN.{drop, length-drop}
 use Rattle.definition.specs.DecompositionRows.{decomposition_size}
-use Rattle.table_decompositions.proofs.RowTests.{fits-short, fits_low, fits_space, fits-tag, fits_else}
+use Rattle.table_decompositions.proofs.RowTests.{fits-short, fits_low, fits_space, fits_else}
 use Rattle.table_decompositions.proofs.fits.Goals as goal
 
 pub returns-then-table-row : goal.returns-then-table-row
@@ -30,12 +30,6 @@ returns-then-c-eq-SPACE c =
     let a = c.args in
     let s = drop a.row a.table.now in
     fits_space s a.low (omega arith)
-
-pub returns-then-at-gt-OTHER : goal.returns-then-at-gt-OTHER
-returns-then-at-gt-OTHER c =
-    let a = c.args in
-    let s = drop a.row a.table.now in
-    fits-tag s a.low (omega arith)
 
 pub returns : goal.returns
 returns c =
