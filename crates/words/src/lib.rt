@@ -120,6 +120,7 @@ fn is_fresh(line: &[u32], places: &[u32], p: usize) -> bool
 }
 
 // Worked out at first asking, then remembered: a later edge doesn't change it.
+#[tactic(auto, using(crate::proofs::Afresh::value_afresh, crate::proofs::Afresh::memory_afresh, crate::proofs::Afresh::told_afresh))]
 pub fn is_at_start_of_word(line: &[u32], places: &mut [u32], p: usize) -> bool
     requires { p < size_in line.now }
     ensures { (w : World) → Lent w line.now places.old

@@ -1,15 +1,8 @@
 -- `words::is_at_start_of_word`: what is remembered, or what is found and remembered now.
 use native.Mathlib.Omega.{arith}
 use Rattle.words.specs.Given.{line-size}
-use Rattle.words.proofs.Starts.{start-asked, start-known}
+use Rattle.words.proofs.Starts.{start-known}
 use Rattle.words.proofs.is_at_start_of_word.Goals as goal
-
-pub returns-then-known-eq0 : goal.returns-then-known-eq0
-returns-then-known-eq0 c =
-    let a = c.args in
-    λ w g. let z = line-size g.text in
-    start-asked w a.p (omega arith) a.places.now _ c.start-known.ensures (omega arith) _
-    (c.is_fresh-start.ensures w g) _ c.remember.ensures
 
 pub returns : goal.returns
 returns c =
