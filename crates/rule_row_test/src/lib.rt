@@ -98,6 +98,7 @@ fn past_texts(s: &[u8], from: usize, end: usize, count: u32) -> usize
 }
 
 // Whether the texts of a row are right and end where it does: its targets, then its alternatives.
+#[tactic(auto, using(crate::proofs::Alternatives::many_alternatives))]
 fn texts_right(s: &[u8], row: usize, target: usize, end: usize) -> bool
     requires { (target ≡ row + target_at (drop row s.now)) × (end ≡ row + rule_size (drop row s.now))
         × (target < end) × (end ≤ length s.now) × (get_or (drop row s.now) 2 0 < 128) }

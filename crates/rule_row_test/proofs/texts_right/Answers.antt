@@ -2,7 +2,7 @@
 use native.Mathlib.Omega.{arith}
 use mathlib.Core.Path.{refl}
 use lib.ListN.{drop}
-use Rattle.rule_row_test.specs.Fields.{target_late, targets_wrong, no_count, too_many, others-told}
+use Rattle.rule_row_test.specs.Fields.{target_late, targets_wrong, no_count, others-told}
 use Rattle.rule_row_test.proofs.texts_right.Goals as goal
 
 pub at_there-flags-requires : goal.at_there-flags-requires
@@ -32,16 +32,6 @@ returns-then-end-others c =
     let a = t.args in
     let q = t.requires in
     no_count a.s.now a.row a.target a.end q.4 q.0 q.1 _ t.at_there-flags.ensures.0 _ w.past_texts-others.ensures (omega arith) (omega arith)
-
-pub returns-then-count-gt-MOST_ALTERNATIVES : goal.returns-then-count-gt-MOST_ALTERNATIVES
-returns-then-count-gt-MOST_ALTERNATIVES c =
-    let k = c in
-    let w = k in
-    let t = w in
-    let a = t.args in
-    let q = t.requires in
-    too_many a.s.now a.row a.target a.end q.4 q.0 q.1 _ t.at_there-flags.ensures.0 _ w.past_texts-others.ensures
-    (omega arith) _ k.at_there-count.ensures.0 (omega arith)
 
 pub returns : goal.returns
 returns c =
