@@ -2,11 +2,10 @@
 // output or rooms are other than given. Slots, text room and output are full of rubbish before each call.
 #![tactic(auto)]
 
-ghost use Rattle.std.specs.Prelude.{◌≡◌, ◌+◌, ◌<◌, length, drop, IfOk, vec_len};
+ghost use Rattle.std.specs.Prelude.{◌≡◌, ◌+◌, ◌<◌, length, drop};
 ghost use Rattle.replay.specs.Given.{number_at, zeros, are_numbers, is_right};
 
 use jettyfig::Answer;
-use std::alloc::{AllocError, Global};
 use std::io;
 
 // What stands in the rooms before a call.
@@ -180,27 +179,22 @@ fn run_one(input: &[u8], at: usize, slots: &mut [u8], room: &mut [u8], out: &mut
     run_in(input, at, &mut slots[..s], &mut room[..r], &mut out[..o])
 }
 
-// Room for slots, text and output, and room for the calls: on the heap, since all of it is more than a stack may have. The one
-// error is that there is no memory, and it leaves nothing of the room.
-fn lent_room(alloc: Global) -> Result<Vec<u8>, AllocError>
-    ensures { IfOk result (λ v. vec_len v ≡ 400000) }
-{
-    vec![in alloc; 0u8; 400000]
+// Room for slots, text and output, and room for the calls. Each is apart so that its user knows its length alone.
+fn lent_room() -> [u8; 400000] {
+    [0u8; 400000]
 }
 
-fn calls_room(alloc: Global) -> Result<Vec<u8>, AllocError>
-    ensures { IfOk result (λ v. vec_len v ≡ 4900000) }
-{
-    vec![in alloc; 0u8; 4900000]
+fn calls_room() -> [u8; 4900000] {
+    [0u8; 4900000]
 }
 
-// All calls, one behind the other. The one error is that there is no memory for the rooms, before the first call.
-fn run_all(alloc: Global, input: &[u8]) -> Result<Tally, AllocError>
+// All calls, one behind the other.
+fn run_all(input: &[u8]) -> Tally
     requires { length input.now < 16777216 }
 {
-    let mut slots = lent_room(alloc)?;
-    let mut room = lent_room(alloc)?;
-    let mut out = lent_room(alloc)?;
+    let mut slots = lent_room();
+    let mut room = lent_room();
+    let mut out = lent_room();
     let mut at: usize = 0;
     let mut calls: u64 = 0;
     let mut differ: u64 = 0;
@@ -212,13 +206,12 @@ fn run_all(alloc: Global, input: &[u8]) -> Result<Tally, AllocError>
         calls += 1;
         at = ran.next;
     }
-    Ok(Tally { calls, differ })
+    Tally { calls, differ }
 }
 
 fn main(rt: HostRuntime) -> io::Result<()> {
-    let mut room = calls_room(rt.alloc())?;
-    let input = room.as_mut_slice();
-    let n = lent_input::read_full(&mut rt.reader(), input)?;
-    let Tally { calls, differ } = run_all(rt.alloc(), &input[..n])?;
+    let mut input = calls_room();
+    let n = lent_input::read_full(&mut rt.reader(), &mut input)?;
+    let Tally { calls, differ } = run_all(&input[..n]);
     println!(rt; "{calls} calls, {differ} differ")
 }

@@ -7,7 +7,7 @@
 // standard error, and nothing is written.
 #![tactic(auto)]
 
-ghost use Rattle.std.specs.Prelude.{◌&&◌, ◌≡◌, ◌+◌, ◌<◌, ◌≤◌, eqb, length, IfOk, vec_len};
+ghost use Rattle.std.specs.Prelude.{◌&&◌, ◌≡◌, ◌+◌, ◌<◌, ◌≤◌, eqb, length};
 ghost use Rattle.std.specs.Io.{ReadsAtMost};
 ghost use Rattle.definition.specs.Limits.{most_rows};
 ghost use Rattle.romanize.specs.Arguments.{mode_of, with_choice, is_dash, code_of, without_line_end};
@@ -15,7 +15,6 @@ ghost use Rattle.romanize.specs.Arguments.{mode_of, with_choice, is_dash, code_o
 use jettyfig::Answer;
 use rule_row_faults::Fault;
 use rule_table_check::RulesRead;
-use std::alloc::{AllocError, Global};
 use std::env::FillError;
 use std::fs::File;
 use std::io;
@@ -43,68 +42,46 @@ pub struct Chosen {
     pub right: bool,
 }
 
-// What this program holds: as many slots as any text can need, which are 17 of 12 bytes for each of 4,096 characters and of the
-// 18 that a decomposition may have; but not as much text room, which would be 42 million bytes, nor the output of every text.
+// What this program holds, on its stack alone: as many slots as any text can need, which are 17 of 12 bytes for each of 4,096
+// characters and of the 18 that a decomposition may have; but not as much text room, which would be 42 million bytes, nor the
+// output of every text.
 const SLOTS: usize = 839256;
 
 const TEXT_ROOM: usize = 1783980;
 
 const OUTPUT: usize = 1793029;
 
-// The rooms are on the heap, since all of them are more than a stack may have. The one error is that there is no memory, and it
-// leaves nothing of the room.
-fn zeros(alloc: Global, bytes: usize) -> Result<Vec<u8>, AllocError>
-    ensures { IfOk result (λ v. vec_len v ≡ bytes) }
-{
-    vec![in alloc; 0u8; bytes]
+// The rooms are returned by functions, so that `main` knows their lengths alone.
+fn rules_room() -> [u8; 1048577] {
+    [0u8; 1048577]
 }
 
-fn rules_room(alloc: Global) -> Result<Vec<u8>, AllocError>
-    ensures { IfOk result (λ v. vec_len v ≡ 1048577) }
-{
-    zeros(alloc, 1048577)
+fn classes_room() -> [u8; 65536] {
+    [0u8; 65536]
 }
 
-fn classes_room(alloc: Global) -> Result<Vec<u8>, AllocError>
-    ensures { IfOk result (λ v. vec_len v ≡ 65536) }
-{
-    zeros(alloc, 65536)
+fn vowels_room() -> [u8; 4096] {
+    [0u8; 4096]
 }
 
-fn vowels_room(alloc: Global) -> Result<Vec<u8>, AllocError>
-    ensures { IfOk result (λ v. vec_len v ≡ 4096) }
-{
-    zeros(alloc, 4096)
+fn decompositions_room() -> [u8; 524288] {
+    [0u8; 524288]
 }
 
-fn decompositions_room(alloc: Global) -> Result<Vec<u8>, AllocError>
-    ensures { IfOk result (λ v. vec_len v ≡ 524288) }
-{
-    zeros(alloc, 524288)
+fn text_room() -> [u8; 65536] {
+    [0u8; 65536]
 }
 
-fn text_room(alloc: Global) -> Result<Vec<u8>, AllocError>
-    ensures { IfOk result (λ v. vec_len v ≡ 65536) }
-{
-    zeros(alloc, 65536)
+fn slots_room() -> [u8; SLOTS] {
+    [0u8; SLOTS]
 }
 
-fn slots_room(alloc: Global) -> Result<Vec<u8>, AllocError>
-    ensures { IfOk result (λ v. vec_len v ≡ SLOTS) }
-{
-    zeros(alloc, SLOTS)
+fn edges_room() -> [u8; TEXT_ROOM] {
+    [0u8; TEXT_ROOM]
 }
 
-fn edges_room(alloc: Global) -> Result<Vec<u8>, AllocError>
-    ensures { IfOk result (λ v. vec_len v ≡ TEXT_ROOM) }
-{
-    zeros(alloc, TEXT_ROOM)
-}
-
-fn out_room(alloc: Global) -> Result<Vec<u8>, AllocError>
-    ensures { IfOk result (λ v. vec_len v ≡ OUTPUT) }
-{
-    zeros(alloc, OUTPUT)
+fn out_room() -> [u8; OUTPUT] {
+    [0u8; OUTPUT]
 }
 
 // No argument is longer, and no path.
@@ -542,7 +519,6 @@ fn print_refusal<W: Write>(err: &mut W, answer: Answer, rules: &[u8]) -> io::Res
 
 // One call, and what it answers, printed.
 fn romanize<'a, O: Write, W: Write>(
-    alloc: Global,
     output: &mut O,
     err: &mut W,
     mode: u8,
@@ -554,9 +530,9 @@ fn romanize<'a, O: Write, W: Write>(
     code: &[u8],
     text: &'a [u8],
 ) -> io::Result<()> {
-    let mut slots = slots_room(alloc)?;
-    let mut room = edges_room(alloc)?;
-    let mut out = out_room(alloc)?;
+    let mut slots = slots_room();
+    let mut room = edges_room();
+    let mut out = out_room();
     let answer = jettyfig::jettyfig_romanize(
         mode,
         chosen.capitals,
@@ -599,14 +575,12 @@ fn with_tables(
     };
     let mut mode = [0u8; 2];
     let m = read_argument(rt, 6, &mut mode);
-    let mut room = text_room(rt.alloc())?;
-    let text = room.as_mut_slice();
-    let t = read_all(&mut rt.reader(), &mut err, b"standard input", text)?;
+    let mut text = text_room();
+    let t = read_all(&mut rt.reader(), &mut err, b"standard input", &mut text)?;
     if t == text.len() {
         return Ok(());
     }
     romanize(
-        rt.alloc(),
         &mut rt.stdout(),
         &mut err,
         mode_of(&mode[..m]),
@@ -626,27 +600,23 @@ fn main(rt: HostRuntime) -> io::Result<()> {
     if !chosen.right {
         return usage(&mut err);
     }
-    let mut rules_room = rules_room(rt.alloc())?;
-    let rules = rules_room.as_mut_slice();
-    let r = read_table(&rt, &mut err, 1, rules)?;
+    let mut rules = rules_room();
+    let r = read_table(&rt, &mut err, 1, &mut rules)?;
     if r == rules.len() {
         return Ok(());
     }
-    let mut classes_room = classes_room(rt.alloc())?;
-    let classes = classes_room.as_mut_slice();
-    let c = read_table(&rt, &mut err, 2, classes)?;
+    let mut classes = classes_room();
+    let c = read_table(&rt, &mut err, 2, &mut classes)?;
     if c == classes.len() {
         return Ok(());
     }
-    let mut vowels_room = vowels_room(rt.alloc())?;
-    let vowels = vowels_room.as_mut_slice();
-    let v = read_table(&rt, &mut err, 3, vowels)?;
+    let mut vowels = vowels_room();
+    let v = read_table(&rt, &mut err, 3, &mut vowels)?;
     if v == vowels.len() {
         return Ok(());
     }
-    let mut decompositions_room = decompositions_room(rt.alloc())?;
-    let decompositions = decompositions_room.as_mut_slice();
-    let d = read_table(&rt, &mut err, 4, decompositions)?;
+    let mut decompositions = decompositions_room();
+    let d = read_table(&rt, &mut err, 4, &mut decompositions)?;
     if d == decompositions.len() {
         return Ok(());
     }
