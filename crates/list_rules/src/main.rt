@@ -1,5 +1,8 @@
 // Lists the rows of the rule table on standard input through the reader: offset, source, target and flags, a line for each; then
 // how many rows are right, and the first fault where there is one.
+//
+// A function that writes answers the error of a write that failed, as the writer gave it, and no other. What was written before
+// the failure stays, and nothing is written after it.
 #![tactic(auto)]
 
 ghost use Rattle.std.specs.Prelude.{◌<◌};

@@ -5,6 +5,9 @@
 // all edges; these are written a line for each edge: start, end, annotation, core length and text. The words `capitals`, `o_ang`
 // and `readings`, in any order, turn these choices on. One line end behind the text is no part of it. A refusal is one line on
 // standard error, and nothing is written.
+//
+// A function that writes answers the error of a write that failed, as the writer gave it, and no other but a failed read where it
+// reads. What was written before the failure stays, and nothing is written after it.
 #![tactic(auto)]
 
 ghost use Rattle.std.specs.Prelude.{◌&&◌, ◌≡◌, ◌+◌, ◌<◌, ◌≤◌, eqb, length};

@@ -1,5 +1,8 @@
 // Document 01's sample program: all of standard input is the text, mode 1, the sample tables, no decompositions and no code;
 // the output in lower-case hex and a line end. A refusal goes to standard error with its number and place.
+//
+// A function that writes answers the error of a write that failed, as the writer gave it, and no other. What was written before
+// the failure stays, and nothing is written after it.
 #![tactic(auto)]
 
 ghost use Rattle.std.specs.Prelude.{◌≡◌, ◌<◌};
