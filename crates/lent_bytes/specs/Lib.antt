@@ -1,2 +1,3 @@
 pub mod Puts
 pub mod Parts
+pub mod Library

@@ -1,7 +1,7 @@
 // Lent bytes: a text put at a place, a part, two parts compared, and clearing.
 #![tactic(auto)]
 
-ghost use Rattle.std.specs.Prelude.{◌≡◌, ◌++◌, ◌+◌, ◌-◌, ◌≤◌, length, take, drop, replicate};
+ghost use Rattle.std.specs.Prelude.{◌≡◌, ◌++◌, ◌+◌, ◌≤◌, length, take, drop, replicate};
 ghost use Rattle.base.specs.Lists.{same};
 ghost use Rattle.lent_bytes.specs.Puts.{put_at};
 ghost use Rattle.lent_bytes.specs.Parts.{part_or_none};
@@ -11,11 +11,7 @@ pub fn put_text(room: &mut [u8], text: &[u8])
     requires { length text.now ≤ length room.old }
     ensures { room.new ≡ text.now ++ drop (length text.now) room.old }
 {
-    let mut i = 0;
-    while i < text.len() {
-        room[i] = text[i];
-        i += 1;
-    }
+    room[..text.len()].copy_from_slice(text);
 }
 
 // Puts a text at a place: the writer is lent the part that starts there.
@@ -38,39 +34,23 @@ pub fn part(s: &[u8], at: usize, len: usize) -> &[u8]
 pub fn part_or_none(s: &[u8], at: usize, len: usize) -> &[u8]
     ensures { result.now ≡ part_or_none s.now at len }
 {
-    if s.len() < at {
-        return &s[..0];
-    }
-    if s.len() - at < len {
-        return &s[..0];
+    if s.len() < at || s.len() - at < len {
+        return &[];
     }
     part(s, at, len)
 }
 
 // Are two texts equal?
+#[tactic(auto, using(crate::specs::Library::same_texts))]
 pub fn same(a: &[u8], b: &[u8]) -> bool
     ensures { result ≡ same a.now b.now }
 {
-    if a.len() != b.len() {
-        return false;
-    }
-    let mut i: usize = 0;
-    while i < a.len() {
-        if a[i] != b[i] {
-            return false;
-        }
-        i += 1;
-    }
-    true
+    a == b
 }
 
 // All of what is lent becomes zero.
 pub fn clear(s: &mut [u8])
     ensures { s.new ≡ replicate (length s.old) 0 }
 {
-    let mut i = 0;
-    while i < s.len() {
-        s[i] = 0;
-        i += 1;
-    }
+    s.fill(0);
 }

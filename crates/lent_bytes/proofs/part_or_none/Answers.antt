@@ -7,9 +7,6 @@ use Rattle.lent_bytes.proofs.part_or_none.Goals as goal
 pub returns-then-s-at : goal.returns-then-s-at
 returns-then-s-at c = let a = c.args in part-past a.s.now a.at a.len (omega arith)
 
-pub returns-then-s-at-2 : goal.returns-then-s-at-2
-returns-then-s-at-2 c = let a = c.args in part-past a.s.now a.at a.len (omega arith)
-
 pub returns : goal.returns
 returns c =
     let a = c.args in
