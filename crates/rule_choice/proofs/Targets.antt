@@ -17,8 +17,8 @@ use Rattle.rule_table.specs.Doors.{with_source}
 use Rattle.rule_table.specs.Seek.{first_at, equal_rows}
 use Rattle.words.specs.Did.{Did}
 use Rattle.words.specs.Found.{Row, none_in, one_in, row_read, found_at}
-use Rattle.rule_choice.specs.declared.Choice.{Choice}
-use Rattle.rule_choice.specs.declared.Choice.TheVariants.{Matched}
+use Rattle.std.specs.Prelude.{Some}
+use Rattle.std.specs.Prelude as rust
 use Rattle.rule_choice.specs.Chosen.{choice_means}
 use Rattle.rule_choice.specs.Fold.{beats}
 
@@ -67,7 +67,7 @@ module _ (y x : List ℕ) (a b : Bool) (p : a ≡ rule_flag y target_bit) (q : b
   beats_unlike e = unlike a b h e ∙ by_targets
 
 -- of the row that was chosen
-module _ (R : List ℕ) (choice : Choice) (row : ℕ) (e : choice ≡ Matched row) where
+module _ (R : List ℕ) (choice : rust.Option ℕ) (row : ℕ) (e : choice ≡ Some row) where
   chosen-target : (rule_of (drop row R)).target ≡ bind (choice_means R choice) (λ x. x.target)
   chosen-target = ap (λ c. bind (choice_means R c) (λ x. x.target)) (sym e)
 

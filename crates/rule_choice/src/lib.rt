@@ -17,19 +17,11 @@ ghost use Rattle.rule_choice.specs.Chosen.{choice_means, Rowed, chosen_means, Sa
 
 use words::{Look, Span};
 
-// The row of the rule that wins a span, if there is one.
+// The stretch of the rule table that a search answers: a row's own target, or its target at an end of syllable.
 #[derive(Clone, Copy)]
-pub enum Choice {
-    Matched(usize),
-    Nothing,
-}
-
-// The stretch of the rule table that a search answers: the target of a row, its end-of-syllable target, or none.
-#[derive(Clone, Copy)]
-pub enum Chosen {
-    Target(usize),
-    EndTarget(usize),
-    Untold,
+pub enum Target {
+    Own(usize),
+    AtEnd(usize),
 }
 
 // `matches_lcode`: the language code is one of the codes, or there are none.
@@ -210,20 +202,19 @@ fn beats(rules: &[u8], row: usize, other: usize) -> bool
 }
 
 // The best so far, where the rule in a row is valid and may beat it.
-fn improve(rules: &[u8], row: usize, valid: bool, best: Choice) -> Choice
+fn improve(rules: &[u8], row: usize, valid: bool, best: Option<usize>) -> Option<usize>
     requires { Row (drop row rules.now) × Rowed rules.now best }
     ensures { (choice_means rules.now result
         ≡ pick valid (improve (choice_means rules.now best) (rule_of (drop row rules.now))) (choice_means rules.now best))
         × Rowed rules.now result }
 {
     if valid {
-        let Choice::Matched(other) = best else {
-            return Choice::Matched(row);
+        let Some(other) = best else {
+            return Some(row);
         };
         if beats(rules, row, other) {
-            return Choice::Matched(row);
+            return Some(row);
         }
-        return Choice::Matched(other);
     }
     best
 }
@@ -237,14 +228,14 @@ pub fn top_rule(
     line: &[u32],
     places: &mut [u32],
     look: Look,
-) -> Choice
+) -> Option<usize>
     requires { Prepared rules.now ready.now × Looked rules.now line.now look }
     ensures { Answers rules.now ready.now code.now line.now places.old places.new
         (λ L t v. choose L t v look.from look.to) (choice_means rules.now result) × Rowed rules.now result }
 {
     let mut row = look.first;
     let mut left = look.count;
-    let mut best = Choice::Nothing;
+    let mut best = None;
     while 0 < left {
         let span = Span {
             from: look.from,
@@ -259,17 +250,16 @@ pub fn top_rule(
 }
 
 // The target of the rule that was chosen, where it has one.
-pub fn target_of(rules: &[u8], choice: Choice) -> Chosen
+pub fn target_of(rules: &[u8], choice: Option<usize>) -> Option<Target>
     requires { Rowed rules.now choice }
     ensures { (chosen_means rules.now result ≡ bind (choice_means rules.now choice) (λ x. x.target)) × Said rules.now result }
 {
-    let Choice::Matched(row) = choice else {
-        return Chosen::Untold;
-    };
+    let row = choice?;
     if rule_row::flag(rules, row, rule_row::TARGET_BIT) {
-        return Chosen::Target(row);
+        Some(Target::Own(row))
+    } else {
+        None
     }
-    Chosen::Untold
 }
 
 // Simple search: the winner's target. A span past the text has none.
@@ -280,13 +270,13 @@ pub fn simple_top_romanization_candidate_for_span(
     line: &[u32],
     places: &mut [u32],
     span: Span,
-) -> Chosen
+) -> Option<Target>
     requires { Prepared rules.now ready.now × (span.from < span.to) }
     ensures { Answers rules.now ready.now code.now line.now places.old places.new
         (λ L t v. simple L t v span.from span.to) (chosen_means rules.now result) × Said rules.now result }
 {
     if words::text_len(line) < span.to {
-        return Chosen::Untold;
+        return None;
     }
     let look = words::look_up(rules, ready, line, span);
     let best = top_rule(rules, ready, code, line, places, look);
@@ -294,36 +284,25 @@ pub fn simple_top_romanization_candidate_for_span(
 }
 
 // The target of the first row with a source, whatever its codes and flags.
-pub fn romanization_by_first_rule(rules: &[u8], ready: &[u32], source: &[u32]) -> Chosen
+pub fn romanization_by_first_rule(rules: &[u8], ready: &[u32], source: &[u32]) -> Option<Target>
     requires { Prepared rules.now ready.now }
     ensures { (chosen_means rules.now result ≡ first_rule (rules_of rules.now) source.now) × Said rules.now result }
 {
     let found = rule_memo::look_up(rules, words::index_in(ready), source);
     if found.count == 0 {
-        return Chosen::Untold;
+        return None;
     }
-    target_of(rules, Choice::Matched(found.first))
-}
-
-// Did a search answer a text?
-pub fn is_told(chosen: Chosen) -> bool
-    ensures { (rules : List ℕ) → result ≡ has (chosen_means rules chosen) }
-{
-    match chosen {
-        Chosen::Target(_) => true,
-        Chosen::EndTarget(_) => true,
-        Chosen::Untold => false,
-    }
+    target_of(rules, Some(found.first))
 }
 
 // The text that was chosen, a part of the lent table.
-pub fn chosen_text<'a>(rules: &'a [u8], chosen: Chosen) -> &'a [u8]
+pub fn chosen_text<'a>(rules: &'a [u8], chosen: Option<Target>) -> &'a [u8]
     requires { Said rules.now chosen }
     ensures { result.now ≡ or_nothing (chosen_means rules.now chosen) }
 {
     match chosen {
-        Chosen::Target(row) => rule_row::target_text(rules, row),
-        Chosen::EndTarget(row) => rule_row::end_target_text(rules, row),
-        Chosen::Untold => &rules[..0],
+        Some(Target::Own(row)) => rule_row::target_text(rules, row),
+        Some(Target::AtEnd(row)) => rule_row::end_target_text(rules, row),
+        None => &rules[..0],
     }
 }

@@ -19,18 +19,18 @@ pub returns-then-beats : goal.returns-then-beats
 unfolding pick
 returns-then-beats c = (
   against c.args.valid (choice_means c.args.rules.now c.args.best) (rule_of (drop c.args.row c.args.rules.now)) c.if-valid.true
-      _ (ap (choice_means c.args.rules.now) c.in-Matched.is) true (sym c.beats.ensures ∙ c.if-beats.true),
+      _ (ap (choice_means c.args.rules.now) c.in-Some.is) true (sym c.beats.ensures ∙ c.if-beats.true),
   c.requires.0,
 )
 
-pub returns-then-valid : goal.returns-then-valid
+pub returns-else-beats : goal.returns-else-beats
 unfolding pick
-returns-then-valid c = (
+returns-else-beats c = (
   against c.args.valid (choice_means c.args.rules.now c.args.best) (rule_of (drop c.args.row c.args.rules.now)) c.if-valid.true
-      _ (ap (choice_means c.args.rules.now) c.in-Matched.is) false (sym c.beats.ensures ∙ c.if-beats.false),
-  subst (Rowed c.args.rules.now) c.in-Matched.is c.requires.1,
+      _ (ap (choice_means c.args.rules.now) c.in-Some.is) false (sym c.beats.ensures ∙ c.if-beats.false),
+  subst (Rowed c.args.rules.now) c.in-Some.is c.requires.1,
 )
 
-pub returns : goal.returns
-returns c =
+pub returns-else-valid : goal.returns-else-valid
+returns-else-valid c =
     (not_valid c.args.valid (choice_means c.args.rules.now c.args.best) (rule_of (drop c.args.row c.args.rules.now)) c.if-valid.false, c.requires.1)

@@ -7,8 +7,8 @@ use Rattle.rule_choice.proofs.target_of.Goals as goal
 pub returns-then-flag : goal.returns-then-flag
 returns-then-flag c =
     let f = sym c.flag.ensures ∙ c.if-flag.true in
-    (with_target c.args.rules.now c.args.choice _ c.in-Matched.is f, (subst (Rowed c.args.rules.now) c.in-Matched.is c.requires, f))
+    (with_target c.args.rules.now c.args.choice _ c.in_ok-row.was f, (subst (Rowed c.args.rules.now) c.in_ok-row.was c.requires, f))
 
-pub returns : goal.returns
-returns c =
-    (without_target c.args.rules.now c.args.choice _ c.in-Matched.is (sym c.flag.ensures ∙ c.if-flag.false), tt)
+pub returns-else-flag : goal.returns-else-flag
+returns-else-flag c =
+    (without_target c.args.rules.now c.args.choice _ c.in_ok-row.was (sym c.flag.ensures ∙ c.if-flag.false), tt)
