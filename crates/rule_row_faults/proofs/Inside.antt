@@ -1,35 +1,19 @@
--- One field after another: what a cursor passes on, and where it stands.
-use mathlib.Core.Bool.{Bool}
-use mathlib.Core.Path.{◌≡◌, sym, ap, ◌∙◌, subst}
+-- Parts of a row one after another: where one that was read ends, and what a faulty one passes on.
+use mathlib.Core.Path.{◌≡◌, ap}
 use Prim.Native.Nat.{ℕ, ◌≤◌}
-use Rattle.definition.specs.RuleFields as definition
-use Rattle.definition.specs.RuleFields.{and_then, field}
+use Rattle.std.specs.Prelude.{Result, Ok, Err, IsErrAnd}
+use Rattle.definition.specs.RuleFields.{Cursor, next, wrong}
 use Rattle.definition.specs.FieldsWithin.{place}
 use Rattle.definition.specs.FieldsWithin.{In}
-use Rattle.definition.proofs.FieldsWithin.{in_field}
-use Rattle.rule_row_faults.specs.declared.Fault.{Fault}
-use Rattle.rule_row_faults.specs.declared.Cursor.{Cursor}
-use Rattle.rule_row_faults.specs.declared.Cursor.TheVariants.{Next, Wrong}
-use Rattle.rule_row_faults.specs.Kinds.{cursor_means}
+use Rattle.rule_row_faults.specs.declared.RuleFault.{RuleFault}
+use Rattle.rule_row_faults.specs.Kinds.{fault_number, read_means}
 
--- what a cursor that goes on and one that is a fault do, `r` being the code's
-module _ (r : Cursor) (c : definition.Cursor) (h : cursor_means r ≡ c) where
-  stands : (d : Cursor) → r ≡ d → c ≡ cursor_means d
-  stands d e = sym h ∙ ap (λ x. cursor_means x) e
+-- not past the row's end
+pub at_most : {c : Cursor} {z p : ℕ} → next p ≡ c → In z c → p ≤ z
+unfolding place
+at_most e i = rw (← e) at i
 
-  pub onward : (p : ℕ) (f : ℕ → definition.Cursor) → r ≡ Next p → f p ≡ and_then c f
-  unfolding and_then
-  onward p f e = sym (ap (λ x. and_then x f) (stands (Next p) e))
-
-  pub faulty : (k : Fault) (p : ℕ) (f : ℕ → definition.Cursor) → r ≡ Wrong k p → cursor_means r ≡ and_then c f
-  unfolding and_then
-  faulty k p f e = h ∙ stands (Wrong k p) e ∙ sym (ap (λ x. and_then x f) (stands (Wrong k p) e))
-
-  -- and where it goes on, it stands where the definition's does
-  pub at_most : (z p : ℕ) → In z c → r ≡ Next p → p ≤ z
-  unfolding place
-  at_most z p i e = subst (In z) (stands (Next p) e) i
-
--- past a field
-pub past-field : (z o n k : ℕ) (ok : Bool) (r : Cursor) (p : ℕ) → o ≤ z → cursor_means r ≡ field z o n k ok → r ≡ Next p → p ≤ z
-past-field z o n k ok r p h e f = at_most r (field z o n k ok) e z p (in_field z o n k ok h) f
+-- a `?` returns the fault that it met
+pub passed_on : (r : Result ℕ RuleFault) (f : RuleFault) → IsErrAnd r (λ e. e ≡ f) → read_means r ≡ wrong (fault_number f.kind) f.at
+passed_on (Ok o) f h = absurd h
+passed_on (Err e) f h = ap (λ g. wrong (fault_number g.kind) g.at) h

@@ -1,5 +1,5 @@
 -- What the kinds of fields and faults stand for in the definition.
-use Rattle.std.specs.Prelude.{Bool, ◌&&◌, List, ℕ, leb, get_or}
+use Rattle.std.specs.Prelude.{Bool, ◌&&◌, List, ℕ, leb, get_or, Result, Ok, Err}
 use Rattle.definition.specs.Refusals.{refused_length, refused_range, refused_letter, refused_byte, refused_order, refused_rows}
 use Rattle.definition.specs.RuleFields as definition
 use Rattle.definition.specs.RuleFields.{and_then, field, fields, character_right, code_small, byte_right}
@@ -7,8 +7,7 @@ use Rattle.rule_row_faults.specs.declared.Fault.{Fault}
 use Rattle.rule_row_faults.specs.declared.Fault.TheVariants.{Length, Range, Letter, Byte, Order, Rows}
 use Rattle.rule_row_faults.specs.declared.Kind.{Kind}
 use Rattle.rule_row_faults.specs.declared.Kind.TheVariants.{Character, Code, TextByte}
-use Rattle.rule_row_faults.specs.declared.Cursor.{Cursor}
-use Rattle.rule_row_faults.specs.declared.Cursor.TheVariants.{Next, Wrong}
+use Rattle.rule_row_faults.specs.declared.RuleFault.{RuleFault}
 
 -- a fault's number
 abbrev pub fault_number : Fault → ℕ
@@ -41,7 +40,7 @@ read_counted kind least most z s o =
     and_then (field z o 1 refused_range (leb least (get_or s o 0) && leb (get_or s o 0) most))
     (fields (kind_right kind) (kind_size kind) (kind_number kind) z s (get_or s o 0))
 
--- where the walk over a row's fields stands
-abbrev pub cursor_means : Cursor → definition.Cursor
-cursor_means (Next o) = definition.next o
-cursor_means (Wrong k o) = definition.wrong (fault_number k) o
+-- where the walk over a row's fields stands: where the next begins, or the first fault
+abbrev pub read_means : Result ℕ RuleFault → definition.Cursor
+read_means (Ok o) = definition.next o
+read_means (Err f) = definition.wrong (fault_number f.kind) f.at

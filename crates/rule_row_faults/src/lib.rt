@@ -8,7 +8,7 @@ ghost use Rattle.definition.specs.RuleRows.{target_at, end_target_at, others_at}
 ghost use Rattle.definition.specs.RuleFields.{field, fields, code_small, read_text, read_texts, read_text_if, read_flags};
 ghost use Rattle.definition.specs.RuleFields.{read_source, read_codes, read_others, read_end, read_tail, read_parts, read_row};
 ghost use Rattle.rule_row.specs.Sizes.{size_limit};
-ghost use Rattle.rule_row_faults.specs.Kinds.{fault_number, kind_size, kind_right, kind_number, read_counted, cursor_means};
+ghost use Rattle.rule_row_faults.specs.Kinds.{fault_number, kind_size, kind_right, kind_number, read_counted, read_means};
 ghost use Rattle.rule_row_faults.specs.Row.{row_means, Parted};
 
 // What a row may hold at most (document 01).
@@ -23,7 +23,7 @@ const ZERO_BIT: u32 = 7;
 
 // What is wrong with a rule table: its header or a length, a flag or count out of its range, a character of a source or a
 // language code, a byte of a target text, the order of rows, or too many rows. The last two are no row's by itself.
-#[derive(Clone, Copy)]
+#[derive(Clone, Copy, Debug, PartialEq, Eq)]
 pub enum Fault {
     Length,
     Range,
@@ -33,18 +33,28 @@ pub enum Fault {
     Rows,
 }
 
-// The numbers that refuse a rule table, as the definition names them.
-pub const REFUSED_LENGTH: u64 = 20;
+impl Fault {
+    // The number that refuses a rule table with this fault, as the definition names it.
+    pub fn number(self) -> u64
+        ensures { result ≡ fault_number self }
+    {
+        match self {
+            Fault::Length => 20,
+            Fault::Range => 21,
+            Fault::Letter => 22,
+            Fault::Byte => 23,
+            Fault::Order => 24,
+            Fault::Rows => 25,
+        }
+    }
+}
 
-pub const REFUSED_RANGE: u64 = 21;
-
-pub const REFUSED_LETTER: u64 = 22;
-
-pub const REFUSED_BYTE: u64 = 23;
-
-pub const REFUSED_ORDER: u64 = 24;
-
-pub const REFUSED_ROWS: u64 = 25;
+// A fault, and where its field begins: an offset in the row, or in the table where a whole table was read.
+#[derive(Clone, Copy, Debug, PartialEq, Eq)]
+pub struct RuleFault {
+    pub kind: Fault,
+    pub at: usize,
+}
 
 // The fields that come several at a time: characters of a source, language codes, bytes of a text.
 #[derive(Clone, Copy)]
@@ -65,42 +75,11 @@ pub struct RowParts {
     pub others: usize,
 }
 
-// What is read of a row: its parts, or the first fault and its field's offset in the row.
-#[derive(Clone, Copy)]
-pub enum RowRead {
-    Parts(RowParts),
-    Wrong(Fault, usize),
-}
-
-// Where the next field of a row begins, or the first fault and its field's offset in the row.
-#[derive(Clone, Copy)]
-pub enum Cursor {
-    Next(usize),
-    Wrong(Fault, usize),
-}
-
-// The number of a fault.
-pub fn fault_number(fault: Fault) -> u64
-    ensures { result ≡ fault_number fault }
-{
-    match fault {
-        Fault::Length => REFUSED_LENGTH,
-        Fault::Range => REFUSED_RANGE,
-        Fault::Letter => REFUSED_LETTER,
-        Fault::Byte => REFUSED_BYTE,
-        Fault::Order => REFUSED_ORDER,
-        Fault::Rows => REFUSED_ROWS,
-    }
-}
-
 // A byte, character or count in a range.
 fn between(low: u32, c: u32, high: u32) -> bool
     ensures { result ≡ (leb low c && leb c high) }
 {
-    if c < low {
-        return false;
-    }
-    c <= high
+    low <= c && c <= high
 }
 
 // A byte of a target text.
@@ -111,17 +90,20 @@ pub fn printable(c: u32) -> bool
 }
 
 // A field of `n` bytes at `o` of a row of size `z`: the next begins behind it, where it fits and is right.
-fn field(z: usize, o: usize, n: usize, fault: Fault, ok: bool) -> Cursor
+fn field(z: usize, o: usize, n: usize, fault: Fault, ok: bool) -> Result<usize, RuleFault>
     requires { (o < size_limit) × (n < 4) }
-    ensures { cursor_means result ≡ field z o n (fault_number fault) ok }
+    ensures { read_means result ≡ field z o n (fault_number fault) ok }
 {
     if z < o + n {
-        return Cursor::Wrong(Fault::Length, o);
+        return Err(RuleFault {
+            kind: Fault::Length,
+            at: o,
+        });
     }
-    if ok {
-        return Cursor::Next(o + n);
+    if !ok {
+        return Err(RuleFault { kind: fault, at: o });
     }
-    Cursor::Wrong(fault, o)
+    Ok(o + n)
 }
 
 // Are the three bytes of a language code, which the table has, all letters?
@@ -129,12 +111,9 @@ pub fn code_letters(rules: &[u8], row: usize, o: usize) -> bool
     requires { (o < size_limit) × (o + 3 ≤ length (drop row rules.now)) }
     ensures { result ≡ code_small (drop o (drop row rules.now)) }
 {
-    if table_blocks::small(base::at_there(rules, row, o)) {
-        if table_blocks::small(base::at_there(rules, row, o + 1)) {
-            return table_blocks::small(base::at_there(rules, row, o + 2));
-        }
-    }
-    false
+    table_blocks::small(base::at_there(rules, row, o))
+        && table_blocks::small(base::at_there(rules, row, o + 1))
+        && table_blocks::small(base::at_there(rules, row, o + 2))
 }
 
 // A kind's bytes, its fault, and whether such a field is right.
@@ -142,8 +121,7 @@ fn kind_size(kind: Kind) -> usize
     ensures { (result ≡ kind_size kind) × (0 < result) × (result < 4) }
 {
     match kind {
-        Kind::Character => 3,
-        Kind::Code => 3,
+        Kind::Character | Kind::Code => 3,
         Kind::TextByte => 1,
     }
 }
@@ -152,8 +130,7 @@ fn kind_fault(kind: Kind) -> Fault
     ensures { fault_number result ≡ kind_number kind }
 {
     match kind {
-        Kind::Character => Fault::Letter,
-        Kind::Code => Fault::Letter,
+        Kind::Character | Kind::Code => Fault::Letter,
         Kind::TextByte => Fault::Byte,
     }
 }
@@ -170,35 +147,53 @@ fn kind_right(rules: &[u8], row: usize, o: usize, kind: Kind) -> bool
 }
 
 // As many fields of a kind.
-fn read_fields(rules: &[u8], row: usize, z: usize, n: usize, o: usize, kind: Kind) -> Cursor
+fn read_fields(
+    rules: &[u8],
+    row: usize,
+    z: usize,
+    n: usize,
+    o: usize,
+    kind: Kind,
+) -> Result<usize, RuleFault>
     requires { (z < size_limit) × (o ≤ z) × (z ≤ length (drop row rules.now)) }
-    ensures { cursor_means result ≡ fields (kind_right kind) (kind_size kind) (kind_number kind) z (drop row rules.now) n o }
+    ensures { read_means result ≡ fields (kind_right kind) (kind_size kind) (kind_number kind) z (drop row rules.now) n o }
 {
     let size = kind_size(kind);
-    let mut left = n;
+    let fault = kind_fault(kind);
     let mut at = o;
-    while 0 < left {
+    for _turn in 0..n {
         if z < at + size {
-            return Cursor::Wrong(Fault::Length, at);
+            return Err(RuleFault {
+                kind: Fault::Length,
+                at,
+            });
         }
-        if kind_right(rules, row, at, kind) {
-            at += size;
-            left -= 1;
-        } else {
-            return Cursor::Wrong(kind_fault(kind), at);
+        if !kind_right(rules, row, at, kind) {
+            return Err(RuleFault { kind: fault, at });
         }
+        at += size;
     }
-    Cursor::Next(at)
+    Ok(at)
 }
 
 // A count or a length byte, from `least` to `most`.
-fn read_count(rules: &[u8], row: usize, z: usize, o: usize, least: u32, most: u32) -> Cursor
+fn read_count(
+    rules: &[u8],
+    row: usize,
+    z: usize,
+    o: usize,
+    least: u32,
+    most: u32,
+) -> Result<usize, RuleFault>
     requires { (z < size_limit) × (o ≤ z) × (z ≤ length (drop row rules.now)) }
-    ensures { cursor_means result ≡ field z o 1 refused_range
+    ensures { read_means result ≡ field z o 1 refused_range
         (leb least (get_or (drop row rules.now) o 0) && leb (get_or (drop row rules.now) o 0) most) }
 {
     if z <= o {
-        return Cursor::Wrong(Fault::Length, o);
+        return Err(RuleFault {
+            kind: Fault::Length,
+            at: o,
+        });
     }
     let n = base::at_there(rules, row, o);
     field(z, o, 1, Fault::Range, between(least, n, most))
@@ -213,167 +208,137 @@ fn read_counted(
     least: u32,
     most: u32,
     kind: Kind,
-) -> Cursor
+) -> Result<usize, RuleFault>
     requires { (z < size_limit) × (o ≤ z) × (z ≤ length (drop row rules.now)) }
-    ensures { cursor_means result ≡ read_counted kind least most z (drop row rules.now) o }
+    ensures { read_means result ≡ read_counted kind least most z (drop row rules.now) o }
 {
-    let c = read_count(rules, row, z, o, least, most);
-    let Cursor::Next(next) = c else {
-        return c;
-    };
+    let next = read_count(rules, row, z, o, least, most)?;
     let n = base::at(rules, row, o) as usize;
     read_fields(rules, row, z, n, next, kind)
 }
 
 // A text: its length byte, then its bytes.
-fn read_text(rules: &[u8], row: usize, z: usize, o: usize) -> Cursor
+fn read_text(rules: &[u8], row: usize, z: usize, o: usize) -> Result<usize, RuleFault>
     requires { (z < size_limit) × (o ≤ z) × (z ≤ length (drop row rules.now)) }
-    ensures { cursor_means result ≡ read_text z (drop row rules.now) o }
+    ensures { read_means result ≡ read_text z (drop row rules.now) o }
 {
     read_counted(rules, row, z, o, 0, MOST_TARGET, Kind::TextByte)
 }
 
 // As many texts.
-fn read_texts(rules: &[u8], row: usize, z: usize, n: usize, o: usize) -> Cursor
+fn read_texts(rules: &[u8], row: usize, z: usize, n: usize, o: usize) -> Result<usize, RuleFault>
     requires { (z < size_limit) × (o ≤ z) × (z ≤ length (drop row rules.now)) }
-    ensures { cursor_means result ≡ read_texts z (drop row rules.now) n o }
+    ensures { read_means result ≡ read_texts z (drop row rules.now) n o }
 {
-    let mut left = n;
     let mut at = o;
-    while 0 < left {
-        let c = read_text(rules, row, z, at);
-        let Cursor::Next(next) = c else {
-            return c;
-        };
-        left -= 1;
-        at = next;
+    for _turn in 0..n {
+        at = read_text(rules, row, z, at)?;
     }
-    Cursor::Next(at)
+    Ok(at)
 }
 
 // A text, where the row has one.
-fn read_text_if(rules: &[u8], row: usize, z: usize, o: usize, there: bool) -> Cursor
+fn read_text_if(
+    rules: &[u8],
+    row: usize,
+    z: usize,
+    o: usize,
+    there: bool,
+) -> Result<usize, RuleFault>
     requires { (z < size_limit) × (o ≤ z) × (z ≤ length (drop row rules.now)) }
-    ensures { cursor_means result ≡ read_text_if there z (drop row rules.now) o }
+    ensures { read_means result ≡ read_text_if there z (drop row rules.now) o }
 {
     if there {
-        return read_text(rules, row, z, o);
+        read_text(rules, row, z, o)
+    } else {
+        Ok(o)
     }
-    Cursor::Next(o)
 }
 
 // The parts of a row: flags and restriction count.
-fn read_flags(rules: &[u8], row: usize, z: usize) -> Cursor
+fn read_flags(rules: &[u8], row: usize, z: usize) -> Result<usize, RuleFault>
     requires { (2 ≤ z) × (z < size_limit) }
-    ensures { cursor_means result ≡ read_flags z (drop row rules.now) }
+    ensures { read_means result ≡ read_flags z (drop row rules.now) }
 {
     let zero = rule_row::flag(rules, row, ZERO_BIT);
-    let c = field(z, 2, 1, Fault::Range, !zero);
-    let Cursor::Next(o) = c else {
-        return c;
-    };
+    let o = field(z, 2, 1, Fault::Range, !zero)?;
     field(z, o, 2, Fault::Range, true)
 }
 
 // The source.
-fn read_source(rules: &[u8], row: usize, z: usize, o: usize) -> Cursor
+fn read_source(rules: &[u8], row: usize, z: usize, o: usize) -> Result<usize, RuleFault>
     requires { (z < size_limit) × (o ≤ z) × (z ≤ length (drop row rules.now)) }
-    ensures { cursor_means result ≡ read_source z (drop row rules.now) o }
+    ensures { read_means result ≡ read_source z (drop row rules.now) o }
 {
     read_counted(rules, row, z, o, 1, rule_row::MOST_SOURCE, Kind::Character)
 }
 
 // The language codes.
-fn read_codes(rules: &[u8], row: usize, z: usize, o: usize) -> Cursor
+fn read_codes(rules: &[u8], row: usize, z: usize, o: usize) -> Result<usize, RuleFault>
     requires { (z < size_limit) × (o ≤ z) × (z ≤ length (drop row rules.now)) }
-    ensures { cursor_means result ≡ read_codes z (drop row rules.now) o }
+    ensures { read_means result ≡ read_codes z (drop row rules.now) o }
 {
     read_counted(rules, row, z, o, 0, MOST_CODES, Kind::Code)
 }
 
 // The alternatives.
-fn read_others(rules: &[u8], row: usize, z: usize, o: usize) -> Cursor
+fn read_others(rules: &[u8], row: usize, z: usize, o: usize) -> Result<usize, RuleFault>
     requires { (z < size_limit) × (o ≤ z) × (z ≤ length (drop row rules.now)) }
-    ensures { cursor_means result ≡ read_others z (drop row rules.now) o }
+    ensures { read_means result ≡ read_others z (drop row rules.now) o }
 {
-    let c = read_count(rules, row, z, o, 0, MOST_ALTERNATIVES);
-    let Cursor::Next(next) = c else {
-        return c;
-    };
+    let next = read_count(rules, row, z, o, 0, MOST_ALTERNATIVES)?;
     let n = base::at(rules, row, o) as usize;
     read_texts(rules, row, z, n, next)
 }
 
 // Nothing is left over.
-fn read_end(z: usize, o: usize) -> Cursor
-    ensures { cursor_means result ≡ read_end z o }
+fn read_end(z: usize, o: usize) -> Result<usize, RuleFault>
+    ensures { read_means result ≡ read_end z o }
 {
-    if z <= o {
-        return Cursor::Next(o);
+    if o < z {
+        return Err(RuleFault {
+            kind: Fault::Length,
+            at: o,
+        });
     }
-    Cursor::Wrong(Fault::Length, o)
+    Ok(o)
 }
 
 // The texts of a row from its target on, and its end.
-fn read_tail(rules: &[u8], row: usize, z: usize, o: usize) -> Cursor
+fn read_tail(rules: &[u8], row: usize, z: usize, o: usize) -> Result<usize, RuleFault>
     requires { (z < size_limit) × (o ≤ z) × (z ≤ length (drop row rules.now)) }
-    ensures { cursor_means result ≡ read_tail z (drop row rules.now) o }
+    ensures { read_means result ≡ read_tail z (drop row rules.now) o }
 {
-    let target = read_text_if(
-        rules,
-        row,
-        z,
-        o,
-        rule_row::flag(rules, row, rule_row::TARGET_BIT),
-    );
-    let Cursor::Next(end_target_at) = target else {
-        return target;
-    };
-    let end_target = read_text_if(
-        rules,
-        row,
-        z,
-        end_target_at,
-        rule_row::flag(rules, row, rule_row::END_TARGET_BIT),
-    );
-    let Cursor::Next(others_at) = end_target else {
-        return end_target;
-    };
-    let others = read_others(rules, row, z, others_at);
-    let Cursor::Next(end) = others else {
-        return others;
-    };
+    let target = rule_row::flag(rules, row, rule_row::TARGET_BIT);
+    let end_target_at = read_text_if(rules, row, z, o, target)?;
+    let end_target = rule_row::flag(rules, row, rule_row::END_TARGET_BIT);
+    let others_at = read_text_if(rules, row, z, end_target_at, end_target)?;
+    let end = read_others(rules, row, z, others_at)?;
     read_end(z, end)
 }
 
 // All parts of a row that lies in the table.
-fn read_parts(rules: &[u8], row: usize, z: usize) -> Cursor
+fn read_parts(rules: &[u8], row: usize, z: usize) -> Result<usize, RuleFault>
     requires { (2 ≤ z) × (z < size_limit) × (z ≤ length (drop row rules.now)) }
-    ensures { cursor_means result ≡ read_parts z (drop row rules.now) }
+    ensures { read_means result ≡ read_parts z (drop row rules.now) }
 {
-    let flags = read_flags(rules, row, z);
-    let Cursor::Next(source_at) = flags else {
-        return flags;
-    };
-    let source = read_source(rules, row, z, source_at);
-    let Cursor::Next(codes_at) = source else {
-        return source;
-    };
-    let codes = read_codes(rules, row, z, codes_at);
-    let Cursor::Next(target_at) = codes else {
-        return codes;
-    };
+    let source_at = read_flags(rules, row, z)?;
+    let codes_at = read_source(rules, row, z, source_at)?;
+    let target_at = read_codes(rules, row, z, codes_at)?;
     read_tail(rules, row, z, target_at)
 }
 
 // All fields of the row at `row`. One past the table's end is a fault of length at its start.
-fn walk_row(rules: &[u8], row: usize) -> Cursor
+fn walk_row(rules: &[u8], row: usize) -> Result<usize, RuleFault>
     requires { row ≤ length rules.now }
-    ensures { cursor_means result ≡ read_row (drop row rules.now) }
+    ensures { read_means result ≡ read_row (drop row rules.now) }
 {
     let z = rule_row::size(rules, row);
     if rules.len() - row < z {
-        return Cursor::Wrong(Fault::Length, 0);
+        return Err(RuleFault {
+            kind: Fault::Length,
+            at: 0,
+        });
     }
     read_parts(rules, row, z)
 }
@@ -394,13 +359,11 @@ fn row_parts(rules: &[u8], row: usize, size: usize) -> RowParts
     }
 }
 
-// The row at `row`: its parts, or its first fault.
-pub fn read_row(rules: &[u8], row: usize) -> RowRead
+// The row at `row`: its parts, or its first fault with its field's offset in the row.
+pub fn read_row(rules: &[u8], row: usize) -> Result<RowParts, RuleFault>
     requires { row ≤ length rules.now }
     ensures { (row_means result ≡ read_row (drop row rules.now)) × Parted (drop row rules.now) result }
 {
-    match walk_row(rules, row) {
-        Cursor::Next(size) => RowRead::Parts(row_parts(rules, row, size)),
-        Cursor::Wrong(fault, o) => RowRead::Wrong(fault, o),
-    }
+    let size = walk_row(rules, row)?;
+    Ok(row_parts(rules, row, size))
 }

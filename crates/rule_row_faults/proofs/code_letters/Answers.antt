@@ -4,30 +4,31 @@ use lib.ListN.{drop}
 use Rattle.definition.specs.Blocks.{small}
 use Rattle.rule_row_faults.proofs.Tests.{not_first, not_second, by_third}
 use Rattle.rule_row_faults.proofs.code_letters.Goals as goal
+use Rattle.rule_row_faults.proofs.code_letters.Goals.{then-small, else-small}
 
 pub returns-then-small-2 : goal.returns-then-small-2
 returns-then-small-2 c =
-    let k = c in
-    let i = k in
-    let p = i in
-    c.small-then-small-2.ensures
-    ∙ ap small c.at_there-then-small-2.ensures.0
-    ∙ by_third (drop p.args.row p.args.rules.now) p.args.o p.requires.1
-    (sym (i.small.ensures ∙ ap small i.at_there.ensures.0) ∙ k.if-small.true)
-    (sym (k.small-then-small.ensures ∙ ap small k.at_there-then-small.ensures.0) ∙ c.if-small-2.true)
+    let s = drop c.args.row c.args.rules.now in
+    elim c.if-small.branch [
+      | then-small w ↦
+          c.small-then-small-2.ensures
+          ∙ ap small c.at_there-then-small-2.ensures.0
+          ∙ by_third s c.args.o c.requires.1
+          (sym (c.small.ensures ∙ ap small c.at_there.ensures.0) ∙ w.if-small.true)
+          (sym (w.small-then-small.ensures ∙ ap small w.at_there-then-small.ensures.0) ∙ sym w.value-is ∙ c.if-small-2.true)
+      | else-small w ↦ cc
+    ]
 
 pub returns-else-small-2 : goal.returns-else-small-2
 returns-else-small-2 c =
-    let k = c in
-    let i = k in
-    let p = i in
-    not_second (drop p.args.row p.args.rules.now) p.args.o p.requires.1
-    (sym (i.small.ensures ∙ ap small i.at_there.ensures.0) ∙ k.if-small.true)
-    (sym (k.small-then-small.ensures ∙ ap small k.at_there-then-small.ensures.0) ∙ c.if-small-2.false)
-
-pub returns-else-small : goal.returns-else-small
-returns-else-small c =
-    let i = c in
-    let p = i in
-    not_first (drop p.args.row p.args.rules.now) p.args.o p.requires.1
-    (sym (i.small.ensures ∙ ap small i.at_there.ensures.0) ∙ c.if-small.false)
+    let s = drop c.args.row c.args.rules.now in
+    elim c.if-small.branch [
+      | then-small w ↦
+          c.if-small-2.false
+          ∙ not_second s c.args.o c.requires.1
+          (sym (c.small.ensures ∙ ap small c.at_there.ensures.0) ∙ w.if-small.true)
+          (sym (w.small-then-small.ensures ∙ ap small w.at_there-then-small.ensures.0) ∙ sym w.value-is ∙ c.if-small-2.false)
+      | else-small w ↦
+          c.if-small-2.false
+          ∙ not_first s c.args.o c.requires.1 (sym (c.small.ensures ∙ ap small c.at_there.ensures.0) ∙ w.if-small.false)
+    ]

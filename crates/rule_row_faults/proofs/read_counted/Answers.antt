@@ -1,29 +1,19 @@
 -- `rule_row_faults::read_counted`: a count, and as many fields.
+use mathlib.Core.Path.{◌∙◌}
 use native.Mathlib.Omega.{arith}
-use lib.ListN.{drop}
-use Rattle.definition.specs.RuleFields.{fields}
-use Rattle.rule_row_faults.specs.Kinds.{kind_size, kind_right, kind_number}
-use Rattle.rule_row_faults.proofs.Inside.{faulty, past-field}
-use Rattle.rule_row_faults.proofs.Chains.{counted}
+use Rattle.definition.specs.RuleFields.{and_then}
+use Rattle.definition.proofs.FieldsWithin.{in_field}
+use Rattle.rule_row_faults.proofs.Inside.{passed_on, at_most}
 use Rattle.rule_row_faults.proofs.read_counted.Goals as goal
 
-pub returns-in_default : goal.returns-in_default
-returns-in_default c =
-    let f = c in
-    faulty _ _ f.read_count-c.ensures _ _ _ c.in_default.is
+pub returns-in_err-next : goal.returns-in_err-next
+unfolding and_then
+returns-in_err-next c = passed_on _ _ c.from_residual.ensures.1 ∙ rw (← c.in_err-next.ensures)
 
 pub read_fields-requires : goal.read_fields-requires
 read_fields-requires c =
-    let k = c in
-    let f = k in
-    let h = past-field _ _ _ _ _ _ _ f.requires.1 f.read_count-c.ensures c.in-Next.is in
-    (omega arith, h, omega arith)
+    (omega arith, at_most c.in_ok-next.ensures (in_field _ _ _ _ _ c.requires.1), omega arith)
 
 pub returns : goal.returns
-returns c =
-    let n = c in
-    let k = n in
-    let f = k in
-    counted _ _ _ ((let k = f.args.kind in
-    fields (kind_right k) (kind_size k) (kind_number k) f.args.z (drop f.args.row f.args.rules.now))) _ _ n.at-n.ensures.0 _ _
-    f.read_count-c.ensures c.in-Next.is _ c.read_fields.ensures
+unfolding and_then
+returns c = rw (← c.in_ok-next.ensures, ← c.at-n.ensures.0) c.read_fields.ensures

@@ -5,10 +5,10 @@ use Rattle.base.specs.Pick.{pick}
 use Rattle.definition.specs.RuleFields.{read_end}
 use Rattle.rule_row_faults.proofs.read_end.Goals as goal
 
-pub returns-then-z-o : goal.returns-then-z-o
+pub returns-then-o-z : goal.returns-then-o-z
 unfolding read_end pick
-returns-then-z-o c = let a = c.args in rw (le-leb a.z a.o (omega arith))
+returns-then-o-z c = rw (lt-leb c.args.z c.args.o (omega arith))
 
 pub returns : goal.returns
 unfolding read_end pick
-returns c = let a = c.args in rw (lt-leb a.z a.o (omega arith))
+returns c = rw (le-leb c.args.z c.args.o (omega arith))

@@ -1,79 +1,42 @@
 -- `rule_row_faults::read_parts`: three parts and the rest, each where the one before it ended.
+use mathlib.Core.Path.{◌∙◌}
 use native.Mathlib.Omega.{arith}
-use lib.ListN.{drop}
-use Rattle.definition.specs.RuleFields.{read_tail, read_parts}
+use Rattle.definition.specs.RuleFields.{and_then, read_parts}
 use Rattle.definition.proofs.FieldsWithin.{in_flags, in_source, in_codes}
-use Rattle.rule_row_faults.proofs.Inside.{at_most}
-use Rattle.rule_row_faults.proofs.Chains.{in_first, in_second, in_third, past-third}
+use Rattle.rule_row_faults.proofs.Inside.{passed_on, at_most}
 use Rattle.rule_row_faults.proofs.read_parts.Goals as goal
 
-pub returns-in_default : goal.returns-in_default
-unfolding read_parts read_tail
-returns-in_default c =
-    let f = c in
-    in_first _ _ _ _ _ _ _ f.read_flags-flags.ensures c.in_default.is
+pub returns-in_err-source_at : goal.returns-in_err-source_at
+unfolding and_then read_parts
+returns-in_err-source_at c = passed_on _ _ c.from_residual.ensures.1 ∙ rw (← c.in_err-source_at.ensures)
 
-pub read_source-source-requires : goal.read_source-source-requires
-read_source-source-requires c =
-    let f = c in
-    let t = f in
-    let z = t.args.z in
-    (omega arith, at_most _ _ f.read_flags-flags.ensures z _ (in_flags z ((drop t.args.row t.args.rules.now)) t.requires.0) c.in-Next.is, omega arith)
+pub read_source-requires : goal.read_source-requires
+read_source-requires c =
+    (omega arith, at_most c.in_ok-source_at.ensures (in_flags _ _ c.requires.0), omega arith)
 
-pub returns-in_default-source : goal.returns-in_default-source
-unfolding read_parts read_tail
-returns-in_default-source c =
-    let g = c in
-    let k = g in
-    in_second _ _ _ _
-    _ _ k.read_flags-flags.ensures c.in-Next.is
-    _ _ _ g.read_source-source.ensures c.in_default-source.is
+pub returns-in_err-codes_at : goal.returns-in_err-codes_at
+unfolding and_then read_parts
+returns-in_err-codes_at c = passed_on _ _ c.from_residual-in_err-codes_at.ensures.1 ∙ rw (← c.in_ok-source_at.ensures, ← c.in_err-codes_at.ensures)
 
-pub read_codes-codes-requires : goal.read_codes-codes-requires
-read_codes-codes-requires c =
-    let g = c in
-    let k = g in
-    let f = k in
-    let t = f in
-    let z = t.args.z in
-    let h = at_most _ _ f.read_flags-flags.ensures z _ (in_flags z ((drop t.args.row t.args.rules.now)) t.requires.0) c.in-Next.is in
-    let i = at_most _ _ g.read_source-source.ensures z _ (in_source z ((drop t.args.row t.args.rules.now)) _ h) c.in-Next-source.is in
-    (omega arith, i, omega arith)
+pub read_codes-requires : goal.read_codes-requires
+read_codes-requires c =
+    let h = at_most c.in_ok-source_at.ensures (in_flags _ _ c.requires.0) in
+    (omega arith, at_most c.in_ok-codes_at.ensures (in_source _ _ _ h), omega arith)
 
-pub returns-in_default-codes : goal.returns-in_default-codes
-unfolding read_parts read_tail
-returns-in_default-codes c =
-    let i = c in
-    let m = i in
-    let g = m in
-    let k = g in
-    in_third _ _ _ _
-    _ _ k.read_flags-flags.ensures c.in-Next.is
-    _ _ g.read_source-source.ensures c.in-Next-source.is
-    _ _ _ i.read_codes-codes.ensures c.in_default-codes.is
+pub returns-in_err-target_at : goal.returns-in_err-target_at
+unfolding and_then read_parts
+returns-in_err-target_at c =
+    passed_on _ _ c.from_residual-in_err-target_at.ensures.1
+    ∙ rw (← c.in_ok-source_at.ensures, ← c.in_ok-codes_at.ensures, ← c.in_err-target_at.ensures)
 
 pub read_tail-requires : goal.read_tail-requires
 read_tail-requires c =
-    let i = c in
-    let m = i in
-    let g = m in
-    let k = g in
-    let f = k in
-    let t = f in
-    let z = t.args.z in
-    let h = at_most _ _ f.read_flags-flags.ensures z _ (in_flags z ((drop t.args.row t.args.rules.now)) t.requires.0) c.in-Next.is in
-    let j = at_most _ _ g.read_source-source.ensures z _ (in_source z ((drop t.args.row t.args.rules.now)) _ h) c.in-Next-source.is in
-    (omega arith, at_most _ _ i.read_codes-codes.ensures z _ (in_codes z ((drop t.args.row t.args.rules.now)) _ j) c.in-Next-codes.is, omega arith)
+    let h = at_most c.in_ok-source_at.ensures (in_flags _ _ c.requires.0) in
+    let i = at_most c.in_ok-codes_at.ensures (in_source _ _ _ h) in
+    (omega arith, at_most c.in_ok-target_at.ensures (in_codes _ _ _ i), omega arith)
 
 pub returns : goal.returns
-unfolding read_parts read_tail
+unfolding and_then read_parts
 returns c =
-    let n = c in
-    let i = n in
-    let m = i in
-    let g = m in
-    let k = g in
-    past-third _ _ _ _
-    _ _ k.read_flags-flags.ensures c.in-Next.is
-    _ _ g.read_source-source.ensures c.in-Next-source.is
-    _ _ _ i.read_codes-codes.ensures c.in-Next-codes.is c.read_tail.ensures
+    rw (← c.in_ok-source_at.ensures, ← c.in_ok-codes_at.ensures, ← c.in_ok-target_at.ensures)
+    c.read_tail.ensures

@@ -7,6 +7,6 @@ pub returns-then-there : goal.returns-then-there
 unfolding read_text_if pick
 returns-then-there c = rw c.if-there.true c.read_text.ensures
 
-pub returns : goal.returns
+pub returns-else-there : goal.returns-else-there
 unfolding read_text_if pick
-returns c = rw c.if-there.false
+returns-else-there c = rw c.if-there.false

@@ -1,17 +1,18 @@
--- `rule_row_faults::read_texts`: what is left to read leads where the whole leads (`Left`), and each turn keeps that.
+-- `rule_row_faults::read_texts`: reading what is left leads where the whole leads (`Left`), and each turn keeps that.
+use mathlib.Core.Path.{◌∙◌}
 use native.Mathlib.Omega.{arith}
-use Rattle.rule_row_faults.proofs.Chains.{no_more, text_faulty, text-passed}
+use Rattle.rule_row_faults.proofs.Chains.{begun, no_more, text_faulty, text-passed}
+use Rattle.rule_row_faults.proofs.Inside.{passed_on}
 use Rattle.rule_row_faults.proofs.read_texts.Goals as goal
 
-pub returns-in_default : goal.returns-in_default
-returns-in_default c =
-    let r = c in
-    text_faulty r.loop-left.invariant (omega arith) _ r.read_text-c.ensures _ _ c.in_default.is
+pub loop-turn-init : goal.loop-turn-init
+loop-turn-init c = begun c.requires.1
 
-pub loop-left-preserved : goal.loop-left-preserved
-loop-left-preserved c =
-    let r = c in
-    text-passed r.loop-left.invariant (omega arith) _ r.read_text-c.ensures _ c.in-Next.is
+pub returns-in_err-at : goal.returns-in_err-at
+returns-in_err-at c = passed_on _ _ c.from_residual.ensures.1 ∙ text_faulty c.loop-turn.invariant (omega arith) c.in_err-at.ensures
+
+pub loop-turn-preserved : goal.loop-turn-preserved
+loop-turn-preserved c = text-passed c.loop-turn.invariant (omega arith) c.in_ok-at.ensures
 
 pub returns : goal.returns
-returns c = no_more c.loop-left.invariant (omega arith)
+returns c = no_more c.loop-turn.invariant (omega arith)
