@@ -7,13 +7,14 @@ use mathlib.Core.Path.{◌≡◌, sym}
 use lib.ListN.{length}
 use Rattle.definition.specs.Limits.{slot_bytes}
 use Rattle.edge.specs.declared.Numbers.{Numbers}
-use Rattle.edge.specs.declared.Added.TheVariants.{NoSlot}
+use Rattle.std.specs.Prelude.{Err}
+use Rattle.edge.specs.declared.Full.TheVariants.{Slots}
 use Rattle.edge.specs.Slots.{edge_by, edges_of}
 use Rattle.edge.specs.Adding.{there, added, slots_after, room_after, unslotted}
 
 module _ (slots room : List ℕ) (count used : ℕ) (e : Numbers) (text : List ℕ) where
   pub answer_unslotted : there (edges_of room count slots) (edge_by e text) ≡ false → length slots - count * slot_bytes < slot_bytes
-      → added slots room count used e text ≡ NoSlot e.from
+      → added slots room count used e text ≡ Err (Slots e.from)
   answer_unslotted a h = sym (unslotted slots room count used e text a h).0
 
   pub slots_unslotted : there (edges_of room count slots) (edge_by e text) ≡ false → length slots - count * slot_bytes < slot_bytes

@@ -1,5 +1,5 @@
 -- One more edge: what adding answers, what it does to the bytes, and to the edges.
-use Rattle.std.specs.Prelude.{ℕ, suc, ◌+◌, ◌-◌, ◌*◌, ◌/◌, ◌%◌, ◌<◌, ◌≤◌, Bool, not, ◌&&◌, List, [], ◌∷◌, ◌++◌, leb, take, drop}
+use Rattle.std.specs.Prelude.{Err, ℕ, suc, ◌+◌, ◌-◌, ◌*◌, ◌/◌, ◌%◌, ◌<◌, ◌≤◌, Bool, not, ◌&&◌, List, [], ◌∷◌, ◌++◌, leb, take, drop}
 use Rattle.std.proofs.Math.Bool.{true, false}
 use Rattle.std.proofs.Math.Option.{some}
 use Rattle.std.proofs.Math.Path.{◌≡◌, refl, sym, subst}
@@ -19,8 +19,8 @@ use Rattle.utf8.specs.Encodings.{TextBytes}
 use Rattle.lent_bytes.specs.Puts.{put_at, put-before, put-from, put-there, put-length}
 use Rattle.edge.specs.declared.Numbers.{Numbers}
 use Rattle.edge.specs.declared.Filled.{Filled}
-use Rattle.edge.specs.declared.Added.{Added}
-use Rattle.edge.specs.declared.Added.TheVariants.{Fits, NoSlot, NoRoom}
+use Rattle.edge.specs.Answers.{Answer, fits, fits-count, fits-used}
+use Rattle.edge.specs.declared.Full.TheVariants.{Slots, Room}
 use Rattle.edge.specs.Slots.{two_bytes, four_bytes, offset_of, length_of, bytes_of, edge_by, numbers_of, edge_of, edges_of, slot_of}
 use Rattle.edge.specs.Counted.{counted_snoc, counted-agree, all_snoc, all-agree}
 use Rattle.edge.specs.Stored.{Slot, Stored, edge-agree, slot-agree}
@@ -36,9 +36,9 @@ unfoldable pub room_left : ℕ → ℕ → ℕ → Bool
 room_left room used len = leb len (room - used)
 
 -- The answers, in document 01's order
-unfoldable pub answer : Bool → Bool → Bool → ℕ → ℕ → ℕ → ℕ → Added
+unfoldable pub answer : Bool → Bool → Bool → ℕ → ℕ → ℕ → ℕ → Answer
 answer t s r count used start len =
-    pick t (Fits count used) (pick s (pick r (Fits (count + 1) (used + len)) (NoRoom start)) (NoSlot start))
+    pick t (fits count used) (pick s (pick r (fits (count + 1) (used + len)) (Err (Room start))) (Err (Slots start)))
 
 unfoldable pub enters : Bool → Bool → Bool → Bool
 enters t s r = not t && (s && r)
@@ -53,7 +53,7 @@ module _ (slots room : List ℕ) (count used : ℕ) (e : Numbers) (text : List �
   abbrev has_room : Bool
   has_room = room_left (length room) used (length text)
 
-  unfoldable pub added : Added
+  unfoldable pub added : Answer
   added = answer is_there has_slot has_room count used e.from (length text)
 
   -- slots and room afterwards
@@ -64,23 +64,23 @@ module _ (slots room : List ℕ) (count used : ℕ) (e : Numbers) (text : List �
   room_after = pick (enters is_there has_slot has_room) (put_at used text room) room
 
   -- All that adding does: it answers `r` and leaves the slots `S` and the room `R`
-  abbrev pub Adds : Added → List ℕ → List ℕ → Type 0
+  abbrev pub Adds : Answer → List ℕ → List ℕ → Type 0
   Adds r S R = (r ≡ added) × (S ≡ slots_after) × (R ≡ room_after)
 
   -- One law for each way out
-  pub kept : is_there ≡ true → Adds (Fits count used) slots room
+  pub kept : is_there ≡ true → Adds (fits count used) slots room
   unfolding added slots_after room_after answer enters pick
   kept a = (sym (rw a), sym (rw a), sym (rw a))
 
   module _ (a : is_there ≡ false) where
-    pub unslotted : length slots - count * slot_bytes < slot_bytes → Adds (NoSlot e.from) slots room
+    pub unslotted : length slots - count * slot_bytes < slot_bytes → Adds (Err (Slots e.from)) slots room
     unfolding added slots_after room_after answer enters pick
     unslotted h =
         let b : has_slot ≡ false = unfold slot_left in lt-leb slot_bytes (length slots - count * slot_bytes) h in
         (sym (rw (a, b)), sym (rw (a, b)), sym (rw (a, b)))
 
     module _ (h : slot_bytes ≤ length slots - count * slot_bytes) where
-      pub roomless : length room - used < length text → Adds (NoRoom e.from) slots room
+      pub roomless : length room - used < length text → Adds (Err (Room e.from)) slots room
       unfolding added slots_after room_after answer enters pick
       roomless g =
           let b : has_slot ≡ true = unfold slot_left in le-leb slot_bytes (length slots - count * slot_bytes) h in
@@ -88,7 +88,7 @@ module _ (slots room : List ℕ) (count used : ℕ) (e : Numbers) (text : List �
           (sym (rw (a, b, c)), sym (rw (a, b, c)), sym (rw (a, b, c)))
 
       pub entered : length text ≤ length room - used
-          → Adds (Fits (count + 1) (used + length text)) (put_at (count * slot_bytes) (slot_of e used (length text)) slots) (put_at used text room)
+          → Adds (fits (count + 1) (used + length text)) (put_at (count * slot_bytes) (slot_of e used (length text)) slots) (put_at used text room)
       unfolding added slots_after room_after answer enters pick
       entered g =
           let b : has_slot ≡ true = unfold slot_left in le-leb slot_bytes (length slots - count * slot_bytes) h in
@@ -227,20 +227,18 @@ module _ (slots room : List ℕ) (count used : ℕ) (e : Numbers) (text : List �
   abbrev Grown : List ℕ → List ℕ → ℕ → ℕ → Type 0
   Grown S R n u = (edges_of R n S ≡ add es (some x)) × Stored S R n u
 
-  settled : (S R : List ℕ) (a b n u : ℕ) → Fits a b ≡ Fits n u → Grown S R a b → Grown S R n u
+  settled : (S R : List ℕ) (a b n u : ℕ) → fits a b ≡ fits n u → Grown S R a b → Grown S R n u
   settled S R a b n u q g =
-      let p : a ≡ n = cc in
-      let r : b ≡ u = cc in
-      subst (λ (m : ℕ). Grown S R m u) p (subst (Grown S R a) r g)
+      subst (λ (m : ℕ). Grown S R m u) (fits-count q) (subst (Grown S R a) (fits-used q) g)
 
-  pub grown : (n u : ℕ) → added slots room count used e text ≡ Fits n u
+  pub grown : (n u : ℕ) → added slots room count used e text ≡ fits n u
       → Grown (slots_after slots room count used e text) (room_after slots room count used e text) n u
   unfolding added slots_after room_after answer enters pick add new_in there
   grown n u q = go (any (alike x) (starting es x.from)) (slot_left (length slots) count) (room_left (length room) used (length text)) refl refl refl q
     where
       go : (t s r : Bool) → any (alike x) (starting es x.from) ≡ t → slot_left (length slots) count ≡ s
           → room_left (length room) used (length text) ≡ r
-          → pick t (Fits count used) (pick s (pick r (Fits (count + 1) (used + length text)) (NoRoom e.from)) (NoSlot e.from)) ≡ Fits n u
+          → pick t (fits count used) (pick s (pick r (fits (count + 1) (used + length text)) (Err (Room e.from))) (Err (Slots e.from))) ≡ fits n u
           → Grown (pick (not t && (s && r)) (put_at (count * slot_bytes) (slot_of e used (length text)) slots) slots)
           (pick (not t && (s && r)) (put_at used text room) room) n u
       go true s r a b c q = settled slots room count used n u q (sym (ap (λ t. pick t es (es ++ x ∷ [])) a), st)
@@ -273,13 +271,13 @@ module _ (slots room : List ℕ) (count used : ℕ) (e : Numbers) (text : List �
       go false false r a b = refl
 
   -- no more is used than the text takes
-  pub added_used : (n u : ℕ) → added slots room count used e text ≡ Fits n u → u ≤ used + length text
+  pub added_used : (n u : ℕ) → added slots room count used e text ≡ fits n u → u ≤ used + length text
   unfolding added answer pick
   added_used n u q = go (there es x) (slot_left (length slots) count) (room_left (length room) used (length text)) q
     where
-      go : (t s r : Bool) → pick t (Fits count used) (pick s (pick r (Fits (count + 1) (used + length text)) (NoRoom e.from)) (NoSlot e.from)) ≡ Fits n u
+      go : (t s r : Bool) → pick t (fits count used) (pick s (pick r (fits (count + 1) (used + length text)) (Err (Room e.from))) (Err (Slots e.from))) ≡ fits n u
           → u ≤ used + length text
-      go true s r q = let p : used ≡ u = cc in omega arith
-      go false true true q = let p : used + length text ≡ u = cc in omega arith
+      go true s r q = let p = fits-used q in omega arith
+      go false true true q = let p = fits-used q in omega arith
       go false true false q = absurd (let z : ◌≡◌ {A = ℕ} 0 1 = cc in omega arith)
       go false false r q = absurd (let z : ◌≡◌ {A = ℕ} 0 1 = cc in omega arith)

@@ -1,6 +1,6 @@
 -- An edge that did not fit is the first that the definition's scan finds no slot or room for, whatever comes after it.
 use Prim.Native.Nat.{ℕ, zero, suc, ◌+◌, ◌-◌, ◌*◌, ◌/◌, ◌≤◌}
-use Rattle.std.specs.Prelude.{Bool, List, [], ◌∷◌, ◌++◌, ◌≡◌}
+use Rattle.std.specs.Prelude.{Ok, Err, Bool, List, [], ◌∷◌, ◌++◌, ◌≡◌}
 use Rattle.std.proofs.Math.Bool.{true, false}
 use Rattle.std.proofs.Math.Option.{Option, none, some}
 use Rattle.std.proofs.Math.Path.{refl, ap}
@@ -17,8 +17,8 @@ use Rattle.definition.specs.Refusals.{Refusal, refuse, refused_slots, refused_ro
 use Rattle.definition.specs.Capacity.{bytes, misfit}
 use Rattle.definition.specs.Growth.{all_bytes, misfit-after}
 use Rattle.edge.specs.declared.Numbers.{Numbers}
-use Rattle.edge.specs.declared.Added.{Added}
-use Rattle.edge.specs.declared.Added.TheVariants.{Fits, NoSlot, NoRoom}
+use Rattle.edge.specs.Answers.{Answer, fits}
+use Rattle.edge.specs.declared.Full.TheVariants.{Slots, Room}
 use Rattle.edge.specs.Slots.{edge_by, edges_of}
 use Rattle.edge.specs.Stored.{Stored, edge_count}
 use Rattle.edge.specs.Adding.{there, slot_left, room_left, answer, added, Writable, written-bytes}
@@ -88,10 +88,10 @@ module _ (slots room : List ℕ) (count used : ℕ) (e : Numbers) (text : List �
       (ap (λ n. leb n (length room - used)) (written-bytes used e text w) ∙ k)
 
   -- what adding answered
-  abbrev pub Told : Added → Type 0
-  Told (Fits n u) = Unit {0}
-  Told (NoSlot p) = (p ≡ e.from) × Stopped 9
-  Told (NoRoom p) = (p ≡ e.from) × Stopped 10
+  abbrev pub Told : Answer → Type 0
+  Told (Ok t) = Unit {0}
+  Told (Err (Slots p)) = (p ≡ e.from) × Stopped 9
+  Told (Err (Room p)) = (p ≡ e.from) × Stopped 10
 
   pub stopped : Told (added slots room count used e text)
   unfolding added answer pick there
@@ -99,7 +99,7 @@ module _ (slots room : List ℕ) (count used : ℕ) (e : Numbers) (text : List �
     where
       go : (t s r : Bool) → any (alike x) (starting es x.from) ≡ t → slot_left (length slots) count ≡ s
           → room_left (length room) used (length text) ≡ r
-          → Told (pick t (Fits count used) (pick s (pick r (Fits (count + 1) (used + length text)) (NoRoom e.from)) (NoSlot e.from)))
+          → Told (pick t (fits count used) (pick s (pick r (fits (count + 1) (used + length text)) (Err (Room e.from))) (Err (Slots e.from))))
       go true s r a b c = tt
       go false true true a b c = tt
       go false true false a b c = (refl, record { new = is-new a; scan = roomless b c })

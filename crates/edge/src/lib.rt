@@ -83,20 +83,18 @@ pub struct Filled {
     pub since: usize,
 }
 
-// What adding an edge did: how many edges there are now and how much room they take; or the edge, with its start, found
-// no slot, or a slot but not enough room.
+// How many edges there are now, and how much room they take.
 #[derive(Clone, Copy)]
-pub enum Added {
-    Fits { count: usize, used: usize },
-    NoSlot(usize),
-    NoRoom(usize),
+pub struct Taken {
+    pub count: usize,
+    pub used: usize,
 }
 
-// The slot of an edge, where there is one.
+// An edge, with its start, found no slot, or a slot but not enough room.
 #[derive(Clone, Copy)]
-pub enum BestEdge {
-    At(usize),
-    Nothing,
+pub enum Full {
+    Slots { at: usize },
+    Room { at: usize },
 }
 
 // The numbers of the edge in a slot.
@@ -133,6 +131,7 @@ fn is_alike(slots: &[u8], room: &[u8], slot: usize, e: Numbers, text: &[u8]) -> 
     ensures { result ≡ (eqb (edge_of room.now (drop slot slots.now)).from e.from
         && alike (edge_by e text.now) (edge_of room.now (drop slot slots.now))) }
 {
+    // one test after another: joined by `&&`, the proof leaves the goals at the joins open
     let other = numbers_at(slots, slot);
     if other.from != e.from {
         return false;
@@ -152,16 +151,10 @@ pub fn is_there(slots: &[u8], room: &[u8], filled: Filled, e: Numbers, text: &[u
         × (there (edges_of room.now filled.since slots.now) (edge_by e text.now) ≡ false) }
     ensures { result ≡ there (edges_of room.now filled.count slots.now) (edge_by e text.now) }
 {
-    let count = filled.count;
-    let since = filled.since;
-    let mut left = count - since;
-    let mut slot = since * SLOT_BYTES;
-    while 0 < left {
-        if is_alike(slots, room, slot, e, text) {
+    for number in filled.since..filled.count {
+        if is_alike(slots, room, number * SLOT_BYTES, e, text) {
             return true;
         }
-        left -= 1;
-        slot += SLOT_BYTES;
     }
     false
 }
@@ -190,7 +183,13 @@ fn put_slot(slots: &mut [u8], at: usize, e: Numbers, offset: usize, len: usize)
 
 // `add_edge`: one more edge, unless one equal to it is there. Its text goes into the room from the first free byte on.
 #[tactic(auto, using(crate::proofs::Unslotted::answer_unslotted, crate::proofs::Unslotted::slots_unslotted, crate::proofs::Unslotted::room_unslotted))]
-pub fn add_edge(slots: &mut [u8], room: &mut [u8], filled: Filled, e: Numbers, text: &[u8]) -> Added
+pub fn add_edge(
+    slots: &mut [u8],
+    room: &mut [u8],
+    filled: Filled,
+    e: Numbers,
+    text: &[u8],
+) -> Result<Taken, Full>
     requires { Addable slots.old room.old filled e text.now }
     ensures { Adds slots.old room.old filled.count filled.used e text.now
         result slots.new room.new }
@@ -198,20 +197,20 @@ pub fn add_edge(slots: &mut [u8], room: &mut [u8], filled: Filled, e: Numbers, t
     let count = filled.count;
     let used = filled.used;
     if is_there(slots, room, filled, e, text) {
-        return Added::Fits { count, used };
+        return Ok(Taken { count, used });
     }
     let at = count * SLOT_BYTES;
     if slots.len() - at < SLOT_BYTES {
-        return Added::NoSlot(e.from);
+        return Err(Full::Slots { at: e.from });
     }
     let len = text.len();
     if room.len() - used < len {
-        return Added::NoRoom(e.from);
+        return Err(Full::Room { at: e.from });
     }
     put_slot(slots, at, e, used, len);
     lent_bytes::put_at(room, used, text);
-    Added::Fits {
+    Ok(Taken {
         count: count + 1,
         used: used + len,
-    }
+    })
 }

@@ -12,7 +12,7 @@ ghost use Rattle.edge.specs.Adding.{Adds, Addable};
 ghost use Rattle.edge_places.specs.Shows.{Ends};
 ghost use Rattle.noting.specs.Noting.{places_after};
 
-use edge::{Added, Filled, Numbers};
+use edge::{Filled, Full, Numbers, Taken};
 use edge_places::Ending;
 
 // How a text ends, asked once, when its edge is added; whether in a letter or mark is told.
@@ -38,25 +38,15 @@ pub fn add_edge(
     e: Numbers,
     text: &[u8],
     end: Ending,
-) -> Added
+) -> Result<Taken, Full>
     requires { Addable slots.old room.old filled e text.now × (e.from < e.to) × (e.to < length places.old) }
     ensures edge { Adds slots.old room.old filled.count filled.used e text.now
         result slots.new room.new }
     ensures places { places.new ≡ places_after result filled.count e end places.old }
 {
-    let count = filled.count;
-    let done = edge::add_edge(slots, room, filled, e, text);
-    match done {
-        Added::Fits {
-            count: more,
-            used: _,
-        } => {
-            if count < more {
-                edge_places::note_edge(places, e.from, e.to, end);
-            }
-            done
-        }
-        Added::NoSlot(_) => done,
-        Added::NoRoom(_) => done,
+    let taken = edge::add_edge(slots, room, filled, e, text)?;
+    if filled.count < taken.count {
+        edge_places::note_edge(places, e.from, e.to, end);
     }
+    Ok(taken)
 }

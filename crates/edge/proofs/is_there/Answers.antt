@@ -1,9 +1,9 @@
 -- `edge::is_there`: the first have none like it; those still to come have one where all have.
-use mathlib.Core.Path.{sym, ◌∙◌, subst}
+use mathlib.Core.Path.{◌≡◌, sym, ◌∙◌, subst}
 use mathlib.Core.List.{List}
-use Prim.Native.Nat.{ℕ, ◌-◌, ◌<◌, ◌+◌}
+use Prim.Native.Nat.{ℕ, ◌-◌, ◌*◌, ◌<◌, ◌+◌}
 use native.Mathlib.Omega.{arith}
-use lib.ListN.{length, drop, length-drop}
+use lib.ListN.{length, drop}
 use Rattle.base.specs.Rows.{all_some}
 use Rattle.definition.specs.Limits.{slot_bytes}
 use Rattle.edge.specs.Slots.{edge_of}
@@ -13,11 +13,8 @@ use Rattle.edge.specs.Asked.{Readable, readable_slots, any-over, any_here, any_n
 use Rattle.edge.proofs.Alikes.{like, there-behind}
 use Rattle.edge.proofs.is_there.Goals as goal
 
-pub overflow_mul-slot : goal.overflow_mul-slot
-overflow_mul-slot c = omega (arith, readable_slots c.args.slots.now c.args.room.now c.args.filled.count c.requires.0)
-
-pub loop-left-init : goal.loop-left-init
-loop-left-init c =
+pub loop-number-init : goal.loop-number-init
+loop-number-init c =
     let S = c.args.slots.now in
     let R = c.args.room.now in
     let f = c.args.filled in (
@@ -31,27 +28,37 @@ here : (S R : List ℕ) (left slot : ℕ) → Readable (drop slot S) R left → 
     → Slot R (length R) (drop slot S) × Readable (drop (slot + slot_bytes) S) R (left - 1)
 here S R left slot r h = all_some (Slot R (length R)) slot_bytes left slot S h r
 
+pub overflow_mul-number : goal.overflow_mul-number
+overflow_mul-number c =
+    let n = c.loop-number.number in
+    omega (arith, readable_slots c.args.slots.now c.args.room.now c.args.filled.count c.requires.0)
+
 pub is_alike-requires : goal.is_alike-requires
-is_alike-requires c = ((here c.args.slots.now c.args.room.now c.loop-left.left c.loop-left.slot c.loop-left.invariant.1 (omega arith)).0, c.requires.1)
+is_alike-requires c =
+    let n = c.loop-number.number in
+    ((here c.args.slots.now c.args.room.now (c.args.filled.count - n) (n * slot_bytes) c.loop-number.invariant.1 (omega arith)).0, c.requires.1)
 
 pub returns-then-is_alike : goal.returns-then-is_alike
 returns-then-is_alike c =
-    any_here (edge_of c.args.room.now) slot_bytes c.args.slots.now c.loop-left.left c.loop-left.slot (like c.args.e c.args.text.now) (omega arith) (sym c.is_alike.ensures ∙ c.if-is_alike.true)
-    ∙ c.loop-left.invariant.0
+    let n = c.loop-number.number in
+    any_here (edge_of c.args.room.now) slot_bytes c.args.slots.now (c.args.filled.count - n) (n * slot_bytes) (like c.args.e c.args.text.now)
+    (omega arith) (sym c.is_alike.ensures ∙ c.if-is_alike.true)
+    ∙ c.loop-number.invariant.0
 
-pub overflow_add-slot : goal.overflow_add-slot
-overflow_add-slot c =
-    let h = (here c.args.slots.now c.args.room.now c.loop-left.left c.loop-left.slot c.loop-left.invariant.1 (omega arith)).0.row in
-    omega (arith, length-drop c.loop-left.slot c.args.slots.now)
-
-pub loop-left-preserved : goal.loop-left-preserved
-loop-left-preserved c = (
-  any_next (edge_of c.args.room.now) slot_bytes c.args.slots.now c.loop-left.left c.loop-left.slot (like c.args.e c.args.text.now) (omega arith) (sym c.is_alike.ensures ∙ c.if-is_alike.false)
-      ∙ c.loop-left.invariant.0,
-  (here c.args.slots.now c.args.room.now c.loop-left.left c.loop-left.slot c.loop-left.invariant.1 (omega arith)).1,
-)
+pub loop-number-preserved : goal.loop-number-preserved
+loop-number-preserved c =
+    let n = c.loop-number.number in
+    let count = c.args.filled.count in
+    let left : count - (n + 1) ≡ count - n - 1 = omega arith in
+    let slot : (n + 1) * slot_bytes ≡ n * slot_bytes + slot_bytes = omega arith in (
+      rw (left, slot) (any_next (edge_of c.args.room.now) slot_bytes c.args.slots.now (count - n) (n * slot_bytes) (like c.args.e c.args.text.now)
+          (omega arith) (sym c.is_alike.ensures ∙ c.if-is_alike.false)
+          ∙ c.loop-number.invariant.0),
+      rw (left, slot) (here c.args.slots.now c.args.room.now (count - n) (n * slot_bytes) c.loop-number.invariant.1 (omega arith)).1,
+    )
 
 pub returns : goal.returns
 returns c =
-    any-over (edge_of c.args.room.now) slot_bytes c.args.slots.now c.loop-left.left c.loop-left.slot (like c.args.e c.args.text.now) (omega arith)
-    ∙ c.loop-left.invariant.0
+    let n = c.loop-number.number in
+    any-over (edge_of c.args.room.now) slot_bytes c.args.slots.now (c.args.filled.count - n) (n * slot_bytes) (like c.args.e c.args.text.now) (omega arith)
+    ∙ c.loop-number.invariant.0

@@ -1,18 +1,8 @@
--- `noting::add_edge`: one law for each answer.
-use mathlib.Core.Path.{sym, subst}
-use Rattle.noting.specs.Noting.{Refused, after-refused}
+-- `noting::add_edge`: an edge that did not fit leaves the places.
+use Rattle.noting.specs.Noting.{refused-exit, after-refused}
 use Rattle.noting.proofs.add_edge.Goals as goal
 
-pub returns-in-NoSlot : goal.returns-in-NoSlot
-returns-in-NoSlot c =
-    let A = c.add_edge-done.ensures in record {
-      edge = A;
-      places = after-refused c.add_edge-done.result (subst Refused (sym c.in-NoSlot.is) tt) c.args.filled.count c.args.e c.args.end c.args.places.now;
-    }
-
-pub returns-in-NoRoom : goal.returns-in-NoRoom
-returns-in-NoRoom c =
-    let A = c.add_edge-done.ensures in record {
-      edge = A;
-      places = after-refused c.add_edge-done.result (subst Refused (sym c.in-NoRoom.is) tt) c.args.filled.count c.args.e c.args.end c.args.places.now;
-    }
+pub returns-in_err-taken-clause-places : goal.returns-in_err-taken-clause-places
+returns-in_err-taken-clause-places c =
+    after-refused c.from_residual.result (refused-exit _ c.from_residual.result c.from_residual.ensures.1)
+    c.args.filled.count c.args.e c.args.end c.args.places.now
