@@ -1,6 +1,6 @@
 -- The best edge that starts at a position: of its stretch, or else its fallback.
 use Prim.Native.Nat.{ℕ, zero, suc, ◌+◌, ◌-◌, ◌*◌, ◌<◌, ◌≤◌}
-use Rattle.std.specs.Prelude.{Bool, ◌&&◌, ◌≡◌, ltb, take, drop}
+use Rattle.std.specs.Prelude.{Some, None, Bool, ◌&&◌, ◌≡◌, ltb, take, drop}
 use Rattle.std.proofs.Math.Bool.{true, false}
 use mathlib.Core.List.{List, [], ◌∷◌, ◌++◌, append-nil}
 use Rattle.std.proofs.Math.Option.{Option, none, some}
@@ -17,12 +17,10 @@ use Rattle.base.specs.Alls.{All, All-map, All-left, All-kept}
 use Rattle.definition.specs.Limits.{slot_bytes}
 use Rattle.definition.specs.Edges.{Edge, starting, right_best}
 use Rattle.definition.specs.Paths.{join}
-use Rattle.edge.specs.declared.BestEdge.{BestEdge}
-use Rattle.edge.specs.declared.BestEdge.TheVariants.{At, Nothing}
 use Rattle.edge.specs.Slots.{edge_of, edges_of}
 use Rattle.edge.specs.Stored.{edge_count}
 use Rattle.edge.specs.Asked.{better, best_after, best-here, best-next}
-use Rattle.edge.specs.Best.{best_means, Found}
+use Rattle.edge.specs.Best.{BestEdge, best_means, Found}
 use Rattle.standing.specs.Starts.{begun, fall_of, end_of, stretch_of, fallback_of}
 use Rattle.standing.specs.Fallen.{numbered, only_within}
 use Rattle.standing.specs.Stands.{Stands, Ahead, fallbacks, between, edges-from, edges-between, stretch-within, fallen_of, by-stretch, fallen-over, fallen_few}
@@ -43,7 +41,7 @@ module _ (p : ℕ) (room slots : List ℕ) where
   unfoldable pub improved : ℕ → BestEdge → BestEdge
   improved o b =
       let x = edge_of room (drop o slots) in
-      pick (here p x && better longer (best_means room slots b) x) (At o) b
+      pick (here p x && better longer (best_means room slots b) x) (Some o) b
 
   module _ (o : ℕ) (b : BestEdge) where
     abbrev x : Edge
@@ -53,12 +51,12 @@ module _ (p : ℕ) (room slots : List ℕ) where
     unfolding improved pick
     elsewhere e = sym (rw e)
 
-    pub first_one : here p x ≡ true → b ≡ Nothing → At o ≡ improved o b
+    pub first_one : here p x ≡ true → b ≡ None → Some o ≡ improved o b
     unfolding improved pick
     first_one e f = sym (rw (e, f))
 
-    module _ (r : ℕ) (e : here p x ≡ true) (f : b ≡ At r) where
-      pub longer-one : longer x (edge_of room (drop r slots)) ≡ true → At o ≡ improved o b
+    module _ (r : ℕ) (e : here p x ≡ true) (f : b ≡ Some r) where
+      pub longer-one : longer x (edge_of room (drop r slots)) ≡ true → Some o ≡ improved o b
       unfolding improved pick
       longer-one g = sym (rw (e, f, g))
 
@@ -73,7 +71,7 @@ module _ (p : ℕ) (room slots : List ℕ) where
     best_turn n h = go (here p x && better longer (best_means room slots b) x) refl
       where
         go : (t : Bool) → (here p x && better longer (best_means room slots b) x) ≡ t
-            → best_after longer (best_means room slots (pick t (At o) b)) (keep (here p) (edges_of room (n - 1) (drop (o + slot_bytes) slots)))
+            → best_after longer (best_means room slots (pick t (Some o) b)) (keep (here p) (edges_of room (n - 1) (drop (o + slot_bytes) slots)))
             ≡ best_after longer (best_means room slots b) (keep (here p) (edges_of room n (drop o slots)))
         go true e = best-here (edge_of room) slot_bytes slots n o (here p) longer (best_means room slots b) h e
         go false e = best-next (edge_of room) slot_bytes slots n o (here p) longer (best_means room slots b) h e
@@ -82,13 +80,13 @@ module _ (p : ℕ) (room slots : List ℕ) where
     unfolding improved pick
     improved-found count i h e f = go (here p x && better longer (best_means room slots b) x)
       where
-        go : (t : Bool) → Found count (pick t (At o) b)
+        go : (t : Bool) → Found count (pick t (Some o) b)
         go true = (i, h, e)
         go false = f
 
 pub found-wide : (m n : ℕ) → m ≤ n → (b : BestEdge) → Found m b → Found n b
-found-wide m n h Nothing f = tt
-found-wide m n h (At o) f = (f.0, omega (arith, f.1), f.2)
+found-wide m n h None f = tt
+found-wide m n h (Some o) f = (f.0, omega (arith, f.1), f.2)
 
 -- Edges behind which one over one character is put: it is the best only where there is no other
 best_none : (l : List Edge) → best longer l ≡ none → l ≡ []
@@ -132,7 +130,7 @@ module _ (slots starts : List ℕ) (count : ℕ) (s : Stands slots starts count)
   unfolding fallback_of pick
   fallback_found = go (eqb (fall_of starts p) 0) refl
     where
-      go : (t : Bool) → eqb (fall_of starts p) 0 ≡ t → Found count (pick t Nothing (At ((made + (fall_of starts p - 1)) * slot_bytes)))
+      go : (t : Bool) → eqb (fall_of starts p) 0 ≡ t → Found count (pick t None (Some ((made + (fall_of starts p - 1)) * slot_bytes)))
       go true e = tt
       go false e = (made + (fall_of starts p - 1), (let z = eqb-false (fall_of starts p) 0 e in omega (arith, inside [], some_fall z)), refl)
         where
@@ -149,10 +147,10 @@ module _ (slots starts : List ℕ) (count : ℕ) (s : Stands slots starts count)
     fallback_edge = go (fall_of starts p) (inside room)
       where
         go : (k : ℕ) → k ≤ count - made
-            → best_means room slots (pick (eqb k 0) Nothing (At ((made + (k - 1)) * slot_bytes))) ≡ best longer (numbered (fallbacks starts es) k)
+            → best_means room slots (pick (eqb k 0) None (Some ((made + (k - 1)) * slot_bytes))) ≡ best longer (numbered (fallbacks starts es) k)
         go zero h = refl
         go (suc i) h =
-            ap (λ (t : Bool). best_means room slots (pick t Nothing (At ((made + (suc i - 1)) * slot_bytes)))) (ne_eqb (suc i) 0 (λ z. omega arith))
+            ap (λ (t : Bool). best_means room slots (pick t None (Some ((made + (suc i - 1)) * slot_bytes)))) (ne_eqb (suc i) 0 (λ z. omega arith))
             ∙ ap (λ (j : ℕ). some (edge_of room (drop (j * slot_bytes) slots))) {x = made + (suc i - 1)} {y = made + i} (omega arith)
             ∙ sym (ap (best longer) (ap (take 1) (drop-drop i made es) ∙ numbered-edge room slots (made + i) count (omega arith)))
 
@@ -185,7 +183,7 @@ module _ (slots starts : List ℕ) (count : ℕ) (s : Stands slots starts count)
       all_of = ap (best longer) (by-stretch slots starts count s p l room)
 
       -- none
-      pub right-single : b ≡ Nothing → best_means room slots (fallback_of starts p) ≡ right_best es p
+      pub right-single : b ≡ None → best_means room slots (fallback_of starts p) ≡ right_best es p
       right-single q =
           let n : near ≡ [] = best_none near (sym found ∙ ap (best_means room slots) q) in
           fallback_edge ∙ sym (all_of ∙ ap (λ (k : List Edge). best longer (k ++ fallen_of slots starts count s p l room)) n)
@@ -200,7 +198,7 @@ module _ (slots starts : List ℕ) (count : ℕ) (s : Stands slots starts count)
           (λ z j. let q = eqb-true z.from p j.1 in omega (arith, j.0.0, q)) (starting es p)
           (All-kept (λ z. Ahead (end_of starts) z.from z.to) (here p) es (s.ahead room))))
 
-      pub right_near : (o : ℕ) → b ≡ At o → best_means room slots b ≡ right_best es p
+      pub right_near : (o : ℕ) → b ≡ Some o → best_means room slots b ≡ right_best es p
       right_near o q =
           let x = edge_of room (drop o slots) in
           let f : best_means room slots b ≡ some x = ap (best_means room slots) q in

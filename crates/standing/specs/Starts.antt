@@ -1,14 +1,13 @@
 -- What is kept of one start, in one number: how many edges there were when the search began there, and above it 0, or
 -- one more than the number that its fallback has among the fallbacks.
-use Rattle.std.specs.Prelude.{ℕ, ◌+◌, ◌-◌, ◌*◌, ◌/◌, ◌%◌, ◌<◌, ◌≤◌, List, ◌≡◌, eqb, ltb, length, get_or, set}
+use Rattle.std.specs.Prelude.{Some, None, ℕ, ◌+◌, ◌-◌, ◌*◌, ◌/◌, ◌%◌, ◌<◌, ◌≤◌, List, ◌≡◌, eqb, ltb, length, get_or, set}
 use Rattle.std.proofs.Common.{sym, ◌∙◌, get_or-set_same, get_or-set_other, eq-eqb, ne_eqb, lt-ltb, le-ltb}
 use Rattle.std.proofs.Math.Path.{ap}
 use native.Mathlib.Omega.{arith}
 use Rattle.std.proofs.Math.Decide.{ℕ_discrete}
 use Rattle.base.specs.Pick.{pick}
 use Rattle.definition.specs.Limits.{slot_bytes}
-use Rattle.edge.specs.declared.BestEdge.{BestEdge}
-use Rattle.edge.specs.declared.BestEdge.TheVariants.{At, Nothing}
+use Rattle.edge.specs.Best.{BestEdge}
 use Rattle.standing.specs.declared.Stretch.{Stretch}
 
 -- 17 edges for each of 4,096 characters stay below it
@@ -61,17 +60,17 @@ stretch-short starts p a b e f h = sym (rw (le-ltb (end_of starts) (p + 3) h) (s
 -- the slot of a fallback: they stand behind the first pass's edges
 unfoldable pub fallback_of : List ℕ → ℕ → BestEdge
 fallback_of starts p =
-    pick (eqb (fall_of starts p) 0) Nothing (At ((begun starts (end_of starts) + (fall_of starts p - 1)) * slot_bytes))
+    pick (eqb (fall_of starts p) 0) None (Some ((begun starts (end_of starts) + (fall_of starts p - 1)) * slot_bytes))
 
-pub fallback_none : (starts : List ℕ) (p k : ℕ) → k ≡ fall_of starts p → k ≡ 0 → Nothing ≡ fallback_of starts p
+pub fallback_none : (starts : List ℕ) (p k : ℕ) → k ≡ fall_of starts p → k ≡ 0 → None ≡ fallback_of starts p
 unfolding fallback_of pick
 fallback_none starts p k e h = sym (rw (eq-eqb (fall_of starts p) 0 (sym e ∙ h)))
 
 pub fallback_some : (starts : List ℕ) (p m k : ℕ) → m ≡ begun starts (end_of starts) → k ≡ fall_of starts p → (k ≡ 0 → ⊥)
-    → At ((m + (k - 1)) * slot_bytes) ≡ fallback_of starts p
+    → Some ((m + (k - 1)) * slot_bytes) ≡ fallback_of starts p
 unfolding fallback_of pick
 fallback_some starts p m k e f h =
-    ap (λ (i : ℕ). At ((i + (k - 1)) * slot_bytes)) e ∙ ap (λ (i : ℕ). At ((begun starts (end_of starts) + (i - 1)) * slot_bytes)) f
+    ap (λ (i : ℕ). Some ((i + (k - 1)) * slot_bytes)) e ∙ ap (λ (i : ℕ). Some ((begun starts (end_of starts) + (i - 1)) * slot_bytes)) f
     ∙ sym (rw (ne_eqb (fall_of starts p) 0 (λ z. h (f ∙ z))))
 
 -- `p` got the fallback with number `k`

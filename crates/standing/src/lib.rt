@@ -15,8 +15,6 @@ ghost use Rattle.standing.specs.Starts.{begun_limit, fall_limit, begun, fall_of,
 ghost use Rattle.standing.specs.Stands.{Stands, Arranged};
 ghost use Rattle.standing.specs.Right.{longer, improved, RightBest};
 
-use edge::BestEdge;
-
 // An entry's number of edges stays below this, and what it tells of a fallback stands above.
 const BEGUN: u32 = 131072;
 
@@ -99,17 +97,17 @@ pub fn stretch_at(starts: &[u32], p: usize) -> Stretch
 }
 
 // The slot of the fallback of `p`, where it got one: fallbacks stand behind all edges of the first pass.
-pub fn fallback(starts: &[u32], p: usize) -> BestEdge
+pub fn fallback(starts: &[u32], p: usize) -> Option<usize>
     requires { p + 1 < length starts.now }
     ensures { result ≡ fallback_of starts.now p }
 {
     let k = fallen_at(starts, p);
     if k == 0 {
-        return BestEdge::Nothing;
+        return None;
     }
     let n = starts.len() - 1;
     let made = begun_at(starts, n);
-    BestEdge::At((made + (k - 1)) * edge::SLOT_BYTES)
+    Some((made + (k - 1)) * edge::SLOT_BYTES)
 }
 
 // Does the edge in a slot end farther on than another?
@@ -120,50 +118,38 @@ fn is_longer(slots: &[u8], slot: usize, other: usize) -> bool
 }
 
 // The edge in a slot, where it starts at `p` and is longer than the best one so far, and else that one.
-fn better(slots: &[u8], slot: usize, p: usize, best: BestEdge) -> BestEdge
+fn better(slots: &[u8], slot: usize, p: usize, best: Option<usize>) -> Option<usize>
     ensures { (room : List ℕ) → result ≡ improved p room slots.now slot best }
 {
     if base::two(slots, slot, edge::FROM) as usize != p {
         return best;
     }
     match best {
-        BestEdge::Nothing => BestEdge::At(slot),
-        BestEdge::At(other) => {
-            if is_longer(slots, slot, other) {
-                return BestEdge::At(slot);
-            }
-            best
-        }
+        None => Some(slot),
+        Some(other) if is_longer(slots, slot, other) => Some(slot),
+        Some(_) => best,
     }
 }
 
 // Of the edges of a stretch that start at `p` the first added of the longest.
-fn best_within(slots: &[u8], within: Stretch, p: usize) -> BestEdge
+fn best_within(slots: &[u8], within: Stretch, p: usize) -> Option<usize>
     requires { within.end * slot_bytes ≤ length slots.now }
     ensures { ((room : List ℕ) → best_means room slots.now result
         ≡ best longer (starting (edges_of room (within.end - within.first) (drop (within.first * slot_bytes) slots.now)) p))
         × Found within.end result }
 {
-    let end = within.end;
-    let mut best = BestEdge::Nothing;
-    let mut i = within.first;
-    while i < end {
-        best = better(slots, i * edge::SLOT_BYTES, p, best);
-        i += 1;
+    let mut best = None;
+    for number in within.first..within.end {
+        best = better(slots, number * edge::SLOT_BYTES, p, best);
     }
     best
 }
 
 // The best edge that starts at `p`: the longest, and of these the first added. A fallback goes over one character, so
 // that none is shorter: it is taken where there is no other.
-pub fn best_right_neighbor_edge(slots: &[u8], starts: &[u32], p: usize) -> BestEdge
+pub fn best_right_neighbor_edge(slots: &[u8], starts: &[u32], p: usize) -> Option<usize>
     requires { Arranged slots.now starts.now × (p + 1 < length starts.now) }
     ensures { (count : ℕ) → Stands slots.now starts.now count → RightBest slots.now count p result }
 {
-    let single = fallback(starts, p);
-    let best = best_within(slots, stretch_at(starts, p), p);
-    match best {
-        BestEdge::Nothing => single,
-        BestEdge::At(_) => best,
-    }
+    best_within(slots, stretch_at(starts, p), p).or(fallback(starts, p))
 }

@@ -1,7 +1,7 @@
 -- `standing::best_within`: the best so far and those still to come have the best of the stretch.
-use mathlib.Core.Path.{refl, sym, ap, ◌∙◌, subst}
+use mathlib.Core.Path.{◌≡◌, refl, sym, ap, ◌∙◌, subst}
 use mathlib.Core.List.{[]}
-use Prim.Native.Nat.{ℕ, ◌+◌, ◌-◌, ◌*◌}
+use Prim.Native.Nat.{◌+◌, ◌-◌, ◌*◌}
 use native.Mathlib.Omega.{arith}
 use lib.ListN.{drop}
 use Rattle.definition.specs.Limits.{slot_bytes}
@@ -12,33 +12,30 @@ use Rattle.edge.specs.Best.{best_means, Found}
 use Rattle.standing.specs.Right.{longer, here, best_turn, improved-found}
 use Rattle.standing.proofs.best_within.Goals as goal
 
-pub loop-i-init : goal.loop-i-init
+pub loop-number-init : goal.loop-number-init
 unfolding best_after
-loop-i-init c = (λ room. refl, tt, c.requires)
+loop-number-init c = (λ room. refl, tt)
 
-pub loop-i-preserved : goal.loop-i-preserved
-loop-i-preserved c =
+pub loop-number-preserved : goal.loop-number-preserved
+loop-number-preserved c =
     let s = c.args.slots.now in
     let e = c.args.within.end in
-    let o = c.loop-i.i * slot_bytes in
+    let i = c.loop-number.number in
+    let o = i * slot_bytes in
     let b = c.better-best.ensures in
-    let next = c.better-best.result in (
-      λ room.
-          ap (λ (n : ℕ). best_after longer (best_means room s next) (starting (edges_of room n (drop ((c.loop-i.i + 1) * slot_bytes) s)) c.args.p))
-          {x = e - (c.loop-i.i + 1)} {y = e - c.loop-i.i - 1} (omega arith)
-          ∙ ap (λ (k : ℕ). best_after longer (best_means room s next) (starting (edges_of room (e - c.loop-i.i - 1) (drop k s)) c.args.p))
-          {x = (c.loop-i.i + 1) * slot_bytes} {y = o + slot_bytes} (omega arith)
-          ∙ ap (λ b. best_after longer (best_means room s b) (starting (edges_of room (e - c.loop-i.i - 1) (drop (o + slot_bytes) s)) c.args.p)) (b room)
-          ∙ best_turn c.args.p room s o c.loop-i.best (e - c.loop-i.i) (omega arith) ∙ c.loop-i.invariant.0 room,
-      subst (Found e) (sym (b [])) (improved-found c.args.p [] s o c.loop-i.best e c.loop-i.i (omega arith) refl c.loop-i.invariant.1),
-      c.loop-i.invariant.2,
+    let left : e - (i + 1) ≡ e - i - 1 = omega arith in
+    let slot : (i + 1) * slot_bytes ≡ o + slot_bytes = omega arith in (
+      λ room. rw (left, slot) (ap (λ b. best_after longer (best_means room s b) (starting (edges_of room (e - i - 1) (drop (o + slot_bytes) s)) c.args.p)) (b room)
+          ∙ best_turn c.args.p room s o c.loop-number.best (e - i) (omega arith) ∙ c.loop-number.invariant.0 room),
+      subst (Found e) (sym (b [])) (improved-found c.args.p [] s o c.loop-number.best e i (omega arith) refl c.loop-number.invariant.1),
     )
 
 pub returns : goal.returns
 unfolding starting
 returns c =
-    let s = c.args.slots.now in (
-      λ room. best-over (edge_of room) slot_bytes s (c.args.within.end - c.loop-i.i) (c.loop-i.i * slot_bytes) (here c.args.p) longer (best_means room s c.loop-i.best) (omega arith)
-          ∙ c.loop-i.invariant.0 room,
-      c.loop-i.invariant.1,
+    let s = c.args.slots.now in
+    let i = c.loop-number.number in (
+      λ room. best-over (edge_of room) slot_bytes s (c.args.within.end - i) (i * slot_bytes) (here c.args.p) longer (best_means room s c.loop-number.best) (omega arith)
+          ∙ c.loop-number.invariant.0 room,
+      c.loop-number.invariant.1,
     )

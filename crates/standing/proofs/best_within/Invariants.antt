@@ -1,8 +1,8 @@
 -- `standing::best_within`: the best so far and those still to come have the best of the stretch.
 use mathlib.Core.Path.{◌≡◌}
 use mathlib.Core.List.{List}
-use Prim.Native.Nat.{ℕ, ◌-◌, ◌*◌, ◌≤◌}
-use lib.ListN.{length, drop}
+use Prim.Native.Nat.{ℕ, ◌-◌, ◌*◌}
+use lib.ListN.{drop}
 use Rattle.base.specs.Lists.{best}
 use Rattle.definition.specs.Limits.{slot_bytes}
 use Rattle.definition.specs.Edges.{starting}
@@ -12,11 +12,8 @@ use Rattle.edge.specs.Best.{best_means, Found}
 use Rattle.standing.specs.Right.{longer}
 use Rattle.standing.proofs.best_within.Given as goal
 
-abbrev pub invariant-loop-i : goal.invariant-loop-i
-invariant-loop-i l =
-    ((room : List ℕ) → best_after longer (best_means room l.slots l.best) (starting (edges_of room (l.end - l.i) (drop (l.i * slot_bytes) l.slots)) l.p)
-    ≡ best longer (starting (edges_of room (l.end - l.initial.i) (drop (l.initial.i * slot_bytes) l.slots)) l.p))
-    × Found l.end l.best × (l.end * slot_bytes ≤ length l.slots)
-
-abbrev pub decreases-loop-i : goal.decreases-loop-i
-decreases-loop-i l = l.end - l.i
+abbrev pub invariant-loop-number : goal.invariant-loop-number
+invariant-loop-number l =
+    ((room : List ℕ) → best_after longer (best_means room l.slots l.best) (starting (edges_of room (l.number-end - l.number) (drop (l.number * slot_bytes) l.slots)) l.p)
+    ≡ best longer (starting (edges_of room (l.fn.within.end - l.fn.within.first) (drop (l.fn.within.first * slot_bytes) l.slots)) l.p))
+    × Found l.number-end l.best

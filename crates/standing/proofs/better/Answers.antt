@@ -26,22 +26,22 @@ returns-then-two-p c =
     λ room. elsewhere c.args.p room S c.args.slot c.args.best
     (not-here room (drop c.args.slot S) _ c.args.p c.two.ensures.0 (λ z. omega arith))
 
-pub returns-then-is_longer : goal.returns-then-is_longer
-returns-then-is_longer c =
+pub returns-in-Some : goal.returns-in-Some
+returns-in-Some c =
     let S = c.args.slots.now in
-    λ room. longer-one c.args.p room S c.args.slot c.args.best c.in-At.other
-    (is-here room (drop c.args.slot S) _ c.args.p c.two.ensures.0 (omega arith)) c.in-At.is
+    λ room. longer-one c.args.p room S c.args.slot c.args.best c.in-Some.other
+    (is-here room (drop c.args.slot S) _ c.args.p c.two.ensures.0 (omega arith)) c.in-Some.is
     (sym (c.is_longer.ensures room) ∙ c.if-is_longer.true)
 
-pub returns-in-Nothing : goal.returns-in-Nothing
-returns-in-Nothing c =
+pub returns-in-None : goal.returns-in-None
+returns-in-None c =
     let S = c.args.slots.now in
     λ room. first_one c.args.p room S c.args.slot c.args.best
-    (is-here room (drop c.args.slot S) _ c.args.p c.two.ensures.0 (omega arith)) c.in-Nothing.is
+    (is-here room (drop c.args.slot S) _ c.args.p c.two.ensures.0 (omega arith)) c.in-None.is
 
-pub returns-else-is_longer : goal.returns-else-is_longer
-returns-else-is_longer c =
+pub returns-in-Some-2 : goal.returns-in-Some-2
+returns-in-Some-2 c =
     let S = c.args.slots.now in
-    λ room. sym c.in-At.is ∙ shorter_one c.args.p room S c.args.slot c.args.best c.in-At.other
-    (is-here room (drop c.args.slot S) _ c.args.p c.two.ensures.0 (omega arith)) c.in-At.is
+    λ room. sym c.in-Some.is ∙ shorter_one c.args.p room S c.args.slot c.args.best c.in-Some.other
+    (is-here room (drop c.args.slot S) _ c.args.p c.two.ensures.0 (omega arith)) c.in-Some.is
     (sym (c.is_longer.ensures room) ∙ c.if-is_longer.false)
