@@ -4,5 +4,3 @@ pub mod Writes
 pub mod Capitals
 -- The loops over lent bytes, a turn at a time
 pub mod Walks
--- no character past z is in a set
-pub mod Past

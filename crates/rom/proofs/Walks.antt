@@ -1,15 +1,13 @@
 -- The loops over lent bytes: one law for each way that a turn can go.
 use Prim.Native.Nat.{ℕ, ◌+◌, ◌-◌, ◌<◌, ◌≤◌}
-use mathlib.Core.Bool.{Bool, true, false, ◌&&◌, ◌||◌}
+use mathlib.Core.Bool.{Bool, false, ◌||◌}
 use mathlib.Core.List.{List, [], ◌∷◌}
 use mathlib.Core.Path.{◌≡◌, refl, sym, ap, ◌∙◌}
 use native.Mathlib.Omega.{arith}
 use native.Mathlib.Numerals.{add-one}
-use lib.Dec.{eqb}
 use lib.ListN.{length, get_or, drop, drop_of_length-le}
 use lib.Seq.{drop-cons}
-use borrow.Author.Tests.{eq-eqb, ne_eqb}
-use Rattle.base.specs.Lists.{any, all, head, is, starts}
+use Rattle.base.specs.Lists.{any, head, is}
 use Rattle.definition.specs.Texts.{last_is}
 use Rattle.rom.specs.Sets.{member, member-before}
 use Rattle.rom.proofs.Backwards.{back_nil, back-all, back_cons}
@@ -21,36 +19,8 @@ left_cons s i h = drop-cons s i 0 h ∙ ap (λ (n : ℕ). get_or s i 0 ∷ drop 
 pub left_nil : (s : List ℕ) (i : ℕ) → length s ≤ i → drop i s ≡ []
 left_nil s i h = drop_of_length-le s {i = i} h
 
--- Does a text start with another, by what is left of both?
-pub starts-over : (A B : List ℕ) → A ≡ [] → true ≡ starts A B
-unfolding starts
-starts-over A B e = sym (rw e)
-
-pub starts-short : (A B : List ℕ) (x : ℕ) (a : List ℕ) → A ≡ x ∷ a → B ≡ [] → false ≡ starts A B
-unfolding starts
-starts-short A B x a e f = sym (rw (e, f))
-
-module _ (A B : List ℕ) (x y : ℕ) (a b : List ℕ) (p : A ≡ x ∷ a) (q : B ≡ y ∷ b) where
-  turn : (t : Bool) → eqb x y ≡ t → (t && starts a b) ≡ starts A B
-  unfolding starts
-  turn t e = sym (rw (p, q) (ap (λ (u : Bool). u && starts a b) e))
-
-  pub starts_other : (y ≡ x → ⊥) → false ≡ starts A B
-  starts_other k = turn false (ne_eqb x y (λ e. k (sym e)))
-
-  pub starts_on : y ≡ x → starts a b ≡ starts A B
-  starts_on k = turn true (eq-eqb x y (sym k))
-
--- Do all pass, does any, by what is left? The next one passes or not
+-- Does any pass, by what is left? The next one passes or not
 module _ (f : ℕ → Bool) (s : List ℕ) (i : ℕ) where
-  pub all-over : length s ≤ i → true ≡ all f (drop i s)
-  unfolding all
-  all-over h = sym (rw (left_nil s i h))
-
-  pub all_turn : i < length s → (t : Bool) → t ≡ f (get_or s i 0) → (t && all f (drop (i + 1) s)) ≡ all f (drop i s)
-  unfolding all
-  all_turn h t e = rw (left_cons s i h) (ap (λ (u : Bool). u && all f (drop (i + 1) s)) e)
-
   pub any-over : length s ≤ i → false ≡ any f (drop i s)
   unfolding any
   any-over h = sym (rw (left_nil s i h))

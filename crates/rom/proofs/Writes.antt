@@ -1,42 +1,14 @@
 -- What is written to a romanization in its place: the first `n` bytes of an array `d`, zeros behind them.
-use Prim.Native.Nat.{ℕ, zero, suc, ◌+◌, ◌-◌, ◌≤◌, ◌<◌}
-use mathlib.Core.List.{List, [], ◌∷◌, ◌++◌, append_assoc}
-use mathlib.Core.Path.{◌≡◌, refl, sym, ap, ◌∙◌}
-use native.Mathlib.Omega.{arith}
-use native.Mathlib.Nat.{add-zero}
-use native.Mathlib.Numerals.{add-one}
-use native.Mathlib.Decide.{dec_lt}
-use lib.ListN.{length, take, drop, set, get_or, length-append, length-replicate, length-drop, take-append-drop, drop_of_length-le, get_or-eq_default}
-use lib.Seq.{slice, take-take, drop-append-add, length-take-le, length-slice, get_or-take, get_or-drop}
-use Rattle.base.specs.Copies.{copied}
+use Rattle.std.proofs.Common.{◌≡◌, ℕ, ◌+◌, ◌-◌, ◌≤◌, ◌<◌, List, [], ◌∷◌, ◌++◌, length, take, drop, replicate, set, refl, sym, ap, ◌∙◌, arith, add-zero, append_assoc, length-append, length-drop, drop-drop}
+use Rattle.std.proofs.Math.Seq.{slice, take-take, take_at, drop_at, drop-append-add, length-take-le, length-slice}
+use Rattle.std.proofs.lemmas.List.{replicate-append-replicate, drop-replicate}
+use Rattle.std.proofs.lemmas.Slice.{between_is}
+use Rattle.std.specs.List.{copy_within}
+use borrow.Rule.Slice.PartMut.{put_mid, mid_of}
 use Rattle.definition.specs.Limits.{most_bytes}
 use Rattle.lent_bytes.specs.Puts.{put_at}
 use Rattle.rom.specs.declared.Rom.{Rom}
 use Rattle.rom.specs.Rom.{text, zeros, rom, held, Clean, text-length, bytes-length}
-
-drop-zeros : (k n : ℕ) → drop k (zeros n) ≡ zeros (n - k)
-drop-zeros zero n = let e : n - 0 ≡ n = omega arith in rw e
-drop-zeros (suc k) zero = let e : 0 - suc k ≡ 0 = omega arith in rw e
-drop-zeros (suc k) (suc n) = let e : suc n - suc k ≡ n - k = omega arith in rw e (drop-zeros k n)
-
--- a byte of a text is the same with zeros behind it
-zero_at : (n i : ℕ) → get_or (zeros n) i 0 ≡ 0
-zero_at zero i = refl
-zero_at (suc n) zero = refl
-zero_at (suc n) (suc i) = zero_at n i
-
-padded : (w : List ℕ) (k i : ℕ) → get_or (w ++ zeros k) i 0 ≡ get_or w i 0
-padded [] k i = zero_at k i
-padded (x ∷ w) k zero = refl
-padded (x ∷ w) k (suc i) = padded w k i
-
--- An array that becomes `s` from its front on: behind the first `i` bytes the old ones still stand
-pub still : (d s : List ℕ) (i j : ℕ) → i ≤ length s → i ≤ j → get_or (take i s ++ drop i d) j 0 ≡ get_or d j 0
-still d s zero j h l = refl
-still d [] (suc i) j h l = absurd (omega arith)
-still d (y ∷ s) (suc i) zero h l = absurd (omega arith)
-still [] (y ∷ s) (suc i) (suc j) h l = ap (λ (l : List ℕ). get_or (take i s ++ l) j 0) (sym (drop_of_length-le [] {i = i} (omega arith))) ∙ still [] s i j (omega arith) (omega arith)
-still (x ∷ d) (y ∷ s) (suc i) (suc j) h l = still d s i j (omega arith) (omega arith)
 
 -- bytes and a length that are those of a text
 pub as_rom : (b w : List ℕ) (n : ℕ) → length w ≡ n → b ≡ w ++ zeros (most_bytes - n) → held b n ≡ rom w
@@ -45,7 +17,7 @@ as_rom b w n e p = ap (λ (x : List ℕ). held x n) p ∙ ap (λ (x : ℕ). held
 
 -- a text put over the front of zeros
 pub over_zeros : (b w : List ℕ) → b ≡ w ++ drop (length w) (zeros most_bytes) → held b (length w) ≡ rom w
-over_zeros b w e = as_rom b w (length w) refl (e ∙ ap (λ (l : List ℕ). w ++ l) (drop-zeros (length w) most_bytes))
+over_zeros b w e = as_rom b w (length w) refl (e ∙ ap (λ (l : List ℕ). w ++ l) (drop-replicate (length w) most_bytes 0))
 
 -- zeros stand behind the text
 pub behind : {r : Rom} → Clean r → (k : ℕ) → drop (r.len + k) r.bytes ≡ zeros (most_bytes - (r.len + k))
@@ -56,8 +28,16 @@ behind {r} c k =
     ap (λ (n : ℕ). drop (n + k) r.bytes) (sym l)
     ∙ ap (λ (q : Rom). drop (length (text r) + k) q.bytes) c.whole
     ∙ drop-append-add (text r) (zeros (most_bytes - length (text r))) k
-    ∙ drop-zeros k (most_bytes - length (text r))
+    ∙ drop-replicate k (most_bytes - length (text r)) 0
     ∙ ap zeros e
+
+-- every byte moved by one place, and another put in front
+shifted : (d : List ℕ) (n x : ℕ) → 0 < length d → set (copy_within d 0 n 1) 0 x ≡ (x ∷ take n d) ++ drop (n + 1) d
+shifted [] n x h = absurd (omega arith)
+shifted (y ∷ d) n x h =
+    let e : n - 0 ≡ n = omega arith in
+    let f : 1 + n ≡ n + 1 = omega arith in
+    ap (λ (k : ℕ). x ∷ (take k (y ∷ d) ++ drop (1 + k) (y ∷ d))) e ∙ ap (λ (k : ℕ). x ∷ (take n (y ∷ d) ++ drop k (y ∷ d))) f
 
 module _ (d : List ℕ) (n : ℕ) (c : Clean (held d n)) where
   -- a text put behind
@@ -73,75 +53,44 @@ module _ (d : List ℕ) (n : ℕ) (c : Clean (held d n)) where
       let w : take n d ≡ [] = ap (λ (k : ℕ). take k d) z in
       c.whole ∙ ap rom (w ∙ sym e ∙ ap f (sym w))
 
-  -- a letter put in front, a turn at a time
-  module _ (x : ℕ) where
-    pub front_turn : (b : List ℕ) (i v : ℕ) → i ≤ n → n < most_bytes → b ≡ take i (x ∷ d) ++ drop i d → v ≡ get_or (x ∷ d) i 0
-        → (set b i v ≡ take (i + 1) (x ∷ d) ++ drop (i + 1) d) × (get_or b i 0 ≡ get_or (x ∷ d) (i + 1) 0)
-    front_turn b i v h f e q =
-        let l = bytes-length c in (
-          ap (λ (y : List ℕ). set y i v) e ∙ ap (set (take i (x ∷ d) ++ drop i d) i) q ∙ copied d (x ∷ d) i (omega arith) (omega arith),
-          ap (λ (y : List ℕ). get_or y i 0) e ∙ still d (x ∷ d) i i (omega arith) (omega arith) ∙ ap (λ (k : ℕ). get_or (x ∷ d) k 0) (sym (add-one i)),
-        )
+  -- a letter put in front
+  pub front-is : (x : ℕ) → n < most_bytes → held (set (copy_within d 0 n 1) 0 x) (n + 1) ≡ rom (x ∷ take n d)
+  front-is x h =
+      as_rom _ (x ∷ take n d) (n + 1) (omega (arith, text-length c))
+      (shifted d n x (omega (arith, bytes-length c)) ∙ ap (λ (w : List ℕ). (x ∷ take n d) ++ w) (behind c 1))
 
-    pub front-is : (b : List ℕ) (i : ℕ) → i ≡ n + 1 → b ≡ take i (x ∷ d) ++ drop i d → held b (n + 1) ≡ rom (x ∷ take n d)
-    front-is b i z e =
-        let l = text-length c in
-        as_rom b (x ∷ take n d) (n + 1) (omega arith)
-        (e ∙ ap (λ (k : ℕ). take k (x ∷ d) ++ drop k d) z ∙ ap (λ (k : ℕ). take k (x ∷ d) ++ drop (n + 1) d) (add-one n)
-        ∙ ap (λ (w : List ℕ). (x ∷ take n d) ++ w) (behind c 1))
-
-  -- a part moved to the front, a turn at a time
+  -- a part moved to the front, and zeros put behind it up to where they stood
   module _ (from to : ℕ) (l : from ≤ to) (h : to ≤ n) where
-    abbrev kept : List ℕ
-    kept = slice from to (take n d)
-
-    -- and what stands behind it then
     abbrev pub moved : List ℕ
-    moved = kept ++ zeros (most_bytes - (to - from))
+    moved = copy_within d from to 0
 
-    kept-length : length kept ≡ to - from
+    kept-is-part : take (to - from) (drop from d) ≡ slice from to (take n d)
+    kept-is-part = between_is d from to ∙ ap (drop from) (sym (take-take to n d h))
+
+    kept-length : length (slice from to (take n d)) ≡ to - from
     kept-length = length-slice from to (take n d) (omega (arith, text-length c))
 
-    moved_length : length moved ≡ most_bytes
-    moved_length =
-        let z = most_bytes - (to - from) in
-        omega (arith, length-append kept (zeros z), length-replicate {A = ℕ} z 0, kept-length, c.fits)
+    length-moved : length moved ≡ length d
+    length-moved =
+        let k = to - from in
+        omega (arith, length-append (take k (drop from d)) (drop (0 + k) d), ap length kept-is-part, kept-length, length-drop (0 + k) d, bytes-length c, c.fits)
 
-    -- the byte that is read is still the old one
-    early : (b : List ℕ) (i : ℕ) → i ≤ most_bytes → b ≡ take i moved ++ drop i d → get_or (take to b) (from + i) 0 ≡ get_or (take to d) (from + i) 0
-    early b i k e = go (dec_lt (from + i) to)
-      where
-        past : (w : List ℕ) → to ≤ length w → to ≤ from + i → get_or (take to w) (from + i) 0 ≡ 0
-        past w f g = get_or-eq_default (take to w) 0 {n = from + i} (omega (arith, length-take-le to w f))
-
-        long : length b ≡ most_bytes
-        long = ap length e ∙ length-append (take i moved) (drop i d)
-            ∙ omega (arith, length-take-le i moved (omega (arith, moved_length)), length-drop i d, bytes-length c)
-
-        go : Dec (from + i < to) → get_or (take to b) (from + i) 0 ≡ get_or (take to d) (from + i) 0
-        go (yes p) =
-            get_or-take to b (from + i) 0 p ∙ ap (λ (w : List ℕ). get_or w (from + i) 0) e
-            ∙ still d moved i (from + i) (omega (arith, moved_length)) (omega arith) ∙ sym (get_or-take to d (from + i) 0 p)
-        go (no p) = past b (omega (arith, long, c.fits)) (omega arith) ∙ sym (past d (omega (arith, bytes-length c, c.fits)) (omega arith))
-
-    pub kept_turn : (b : List ℕ) (i v : ℕ) → i < n → b ≡ take i moved ++ drop i d → v ≡ get_or (take to b) (from + i) 0
-        → set b i v ≡ take (i + 1) moved ++ drop (i + 1) d
-    kept_turn b i v k e q =
+    pub kept-is : (z : List ℕ) → z ≡ replicate (length (mid_of (to - from) (n - (to - from)) moved)) 0
+        → held (put_mid (to - from) (n - (to - from)) moved z) (to - from) ≡ rom (slice from to (take n d))
+    kept-is z e =
+        let k = to - from in
+        let w = slice from to (take n d) in
+        let m = n - k in
+        let b = bytes-length c in
         let f = c.fits in
-        let value : v ≡ get_or moved i 0 =
-        q ∙ early b i (omega arith) e ∙ sym (get_or-drop from (take to d) i 0)
-        ∙ ap (λ (w : List ℕ). get_or (drop from w) i 0) (sym (take-take to n d h)) ∙ sym (padded kept (most_bytes - (to - from)) i) in
-        ap (λ (y : List ℕ). set y i v) e ∙ ap (set (take i moved ++ drop i d) i) value
-        ∙ copied d moved i (omega (arith, bytes-length c)) (omega (arith, moved_length))
-
-    pub kept-is : (b : List ℕ) (i : ℕ) → i ≡ n → b ≡ take i moved ++ drop i d → held b (to - from) ≡ rom (slice from to (take n d))
-    kept-is b i z e =
-        let k = n - (to - from) in
-        let m = most_bytes - (to - from) in
-        let p : n ≡ length kept + k = omega (arith, kept-length) in
-        let q : m - k ≡ most_bytes - (n + 0) = omega arith in
-        let rest : drop n d ≡ drop n moved =
-        ap (λ (j : ℕ). drop j d) (sym (add-zero n)) ∙ behind c 0 ∙ ap zeros (sym q)
-        ∙ sym (ap (λ (j : ℕ). drop j moved) p ∙ drop-append-add kept (zeros m) k ∙ drop-zeros k m) in
-        as_rom b kept (to - from) kept-length
-        (e ∙ ap (λ (j : ℕ). take j moved ++ drop j d) z ∙ ap (λ (w : List ℕ). take n moved ++ w) rest ∙ take-append-drop n moved)
+        let whole : length moved ≡ length d = length-moved in
+        let left : length (mid_of k m moved) ≡ m = length-take-le m (drop k moved) (omega (arith, length-drop k moved, whole)) in
+        let front : take k moved ≡ w = take_at (take k (drop from d)) (drop (0 + k) d) k (ap length kept-is-part ∙ kept-length) ∙ kept-is-part in
+        let n-is : 0 + k + m ≡ n + 0 = omega arith in
+        let rest : drop m (drop k moved) ≡ zeros (most_bytes - n) =
+        ap (drop m) (drop_at (take k (drop from d)) (drop (0 + k) d) k (ap length kept-is-part ∙ kept-length))
+        ∙ drop-drop m (0 + k) d ∙ ap (λ (j : ℕ). drop j d) n-is ∙ behind c 0 ∙ ap (λ (j : ℕ). zeros (most_bytes - j)) (add-zero n) in
+        let sum : m + (most_bytes - n) ≡ most_bytes - k = omega arith in
+        as_rom _ w k kept-length
+        (ap (λ (x : List ℕ). x ++ (z ++ drop m (drop k moved))) front ∙ ap (λ (x : List ℕ). w ++ (x ++ drop m (drop k moved))) (e ∙ ap zeros left)
+        ∙ ap (λ (x : List ℕ). w ++ (zeros m ++ x)) rest ∙ ap (λ (x : List ℕ). w ++ x) (replicate-append-replicate m (most_bytes - n) 0 ∙ ap zeros sum))

@@ -68,26 +68,9 @@ pub fn put_front(bytes: &mut [u8], n: usize, letter: u8) -> usize
     requires { Clean (held bytes.old n) × (n < most_bytes) }
     ensures { held bytes.new result ≡ rom (letter ∷ take n bytes.old) }
 {
-    let mut next = letter;
-    let mut i: usize = 0;
-    while i <= n {
-        let old = bytes[i];
-        bytes[i] = next;
-        next = old;
-        i += 1;
-    }
+    bytes.copy_within(..n, 1);
+    bytes[0] = letter;
     n + 1
-}
-
-// The byte at a place before `to`; zero elsewhere.
-fn byte_before(bytes: &[u8], to: usize, at: usize) -> u8
-    requires { to ≤ length bytes.now }
-    ensures { result ≡ get_or (take to bytes.now) at 0 }
-{
-    if at < to {
-        return bytes[at];
-    }
-    0
 }
 
 // Of the first `n` bytes of an array those from one place to another, moved to the front, and zeros behind; their number is told.
@@ -95,11 +78,8 @@ pub fn keep(bytes: &mut [u8], n: usize, from: usize, to: usize) -> usize
     requires { Clean (held bytes.old n) × (from ≤ to) × (to ≤ n) }
     ensures { held bytes.new result ≡ rom (slice from to (take n bytes.old)) }
 {
-    let mut i: usize = 0;
-    while i < n {
-        bytes[i] = byte_before(bytes, to, from + i);
-        i += 1;
-    }
+    bytes.copy_within(from..to, 0);
+    bytes[to - from..n].fill(0);
     to - from
 }
 
@@ -107,13 +87,7 @@ pub fn keep(bytes: &mut [u8], n: usize, from: usize, to: usize) -> usize
 pub fn lower(c: u8) -> u8
     ensures { result ≡ lower c }
 {
-    if c < 65 {
-        return c;
-    }
-    if c <= 90 {
-        return c + 32;
-    }
-    c
+    c.to_ascii_lowercase()
 }
 
 // Of the first `n` bytes of an array the first stays, and later letters become small.
@@ -124,42 +98,25 @@ pub fn make_small(bytes: &mut [u8], n: usize)
     if n == 0 {
         return;
     }
-    let mut i: usize = 1;
-    while i < n {
-        bytes[i] = lower(bytes[i]);
-        i += 1;
-    }
+    bytes[1..n].make_ascii_lowercase();
 }
 
 // Does a text start with another?
+#[tactic(auto, using(lent_bytes::specs::Library::starts_is))]
 pub fn starts_with(s: &[u8], w: &[u8]) -> bool
     ensures { result ≡ starts w.now s.now }
 {
-    let mut i: usize = 0;
-    while i < w.len() {
-        if s.len() <= i {
-            return false;
-        }
-        if s[i] != w[i] {
-            return false;
-        }
-        i += 1;
-    }
-    true
+    s.starts_with(w)
 }
 
 // Is a character in a set?
-#[tactic(auto, using(crate::proofs::Past::past_z))]
 pub fn is_in(set: u32, c: u32) -> bool
     ensures { result ≡ member set c }
 {
-    if c < 97 {
-        return false;
+    match c {
+        97..=122 => (set >> (c - 97)) & 1 == 1,
+        _ => false,
     }
-    if 122 < c {
-        return false;
-    }
-    (set >> (c - 97)) & 1 == 1
 }
 
 // Is a byte in a range?
@@ -173,49 +130,27 @@ fn is_between(c: u32, first: u32, last: u32) -> bool
 pub fn all_in(s: &[u8], set: u32) -> bool
     ensures { result ≡ all (member set) s.now }
 {
-    let mut i: usize = 0;
-    while i < s.len() {
-        if is_in(set, base::byte(s, i)) {
-            i += 1;
-        } else {
-            return false;
-        }
-    }
-    true
+    s.iter().all(|c| is_in(set, u32::from(*c)))
 }
 
 pub fn any_in(s: &[u8], set: u32) -> bool
     ensures { result ≡ any (member set) s.now }
 {
-    let mut i: usize = 0;
-    while i < s.len() {
-        if is_in(set, base::byte(s, i)) {
-            return true;
-        }
-        i += 1;
-    }
-    false
+    s.iter().any(|c| is_in(set, u32::from(*c)))
 }
 
 // Is any of its bytes in a range?
 pub fn any_between(s: &[u8], first: u32, last: u32) -> bool
     ensures { result ≡ any (between first last) s.now }
 {
-    let mut i: usize = 0;
-    while i < s.len() {
-        if is_between(base::byte(s, i), first, last) {
-            return true;
-        }
-        i += 1;
-    }
-    false
+    s.iter().any(|c| is_between(u32::from(*c), first, last))
 }
 
 pub fn last_in(s: &[u8], set: u32) -> bool
     ensures { result ≡ last_is (member set) s.now }
 {
-    if s.len() == 0 {
-        return false;
+    match s.last() {
+        Some(c) => is_in(set, u32::from(*c)),
+        None => false,
     }
-    is_in(set, base::byte(s, s.len() - 1))
 }

@@ -1,27 +1,12 @@
--- `rom::any_between`: what is left answers as the whole does.
-use mathlib.Core.Bool.{true, false}
-use mathlib.Core.Path.{sym, ap, ◌∙◌}
-use native.Mathlib.Omega.{arith}
+-- `rom::any_between`: the closure tests each byte as the set of the clause does.
+use Rattle.std.proofs.Common.{rules, tests, ◌∙◌}
+use Rattle.std.proofs.lemmas.Iterator.{YieldsList-from_slice}
+use Rattle.std.proofs.lemmas.Iterator.Search.{any_from_yields_List}
+use Rattle.lent_bytes.specs.Library.{any_is}
 use Rattle.rom.specs.Sets.{between}
-use Rattle.rom.proofs.Walks.{any-over, any_turn}
 use Rattle.rom.proofs.any_between.Goals as goal
-
-pub returns-then-is_between : goal.returns-then-is_between
-returns-then-is_between c =
-    let l = c in
-    let a = l.args in
-    let e = sym c.if-is_between.true ∙ c.is_between.ensures ∙ ap (between a.first a.last) c.byte.ensures.0 in
-    any_turn (between a.first a.last) a.s.now l.loop-i.i (omega arith) true e ∙ l.loop-i.invariant
-
-pub loop-i-preserved : goal.loop-i-preserved
-loop-i-preserved c =
-    let l = c in
-    let a = l.args in
-    let e = sym c.if-is_between.false ∙ c.is_between.ensures ∙ ap (between a.first a.last) c.byte.ensures.0 in
-    any_turn (between a.first a.last) a.s.now l.loop-i.i (omega arith) false e ∙ l.loop-i.invariant
 
 pub returns : goal.returns
 returns c =
-    let l = c in
-    let a = l.args in
-    any-over (between a.first a.last) a.s.now l.loop-i.i (omega arith) ∙ l.loop-i.invariant
+    any_from_yields_List (between c.args.first c.args.last) _ _ _ c.any.ensures.ran (YieldsList-from_slice c.args.s.now cc) (λ x b q k. search (rules, tests))
+    ∙ any_is (between c.args.first c.args.last) c.args.s.now

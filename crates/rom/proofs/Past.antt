@@ -1,8 +1,0 @@
--- No character past z is in a set: named on `is_in`, so that no answer there hangs on the words of its condition.
-use Prim.Native.Nat.{ℕ, ◌<◌}
-use mathlib.Core.Bool.{false}
-use mathlib.Core.Path.{◌≡◌}
-use Rattle.rom.specs.Sets.{member, member-past}
-
-pub past_z : (set c : ℕ) → 122 < c → member set c ≡ false
-past_z set c h = member-past set c h
