@@ -1,10 +1,5 @@
--- The cases of the definition, each by plain facts of numbers: what a return cites
-pub mod Values
+-- The first sequence from a place on
 pub mod Sequences
-pub mod Ranges
-pub mod Bytes
--- What a byte counts that continues no character
-pub mod Firsts
 -- The loops, and the answers
 pub mod Walks
 pub mod Answers

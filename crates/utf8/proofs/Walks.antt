@@ -8,16 +8,19 @@ use native.Mathlib.Numerals.{add-one}
 use native.Mathlib.Omega.{arith}
 use lib.ListN.{length, get_or, drop, set, length-drop, length-set, drop_of_length-le}
 use lib.Seq.{drop-drop, drop-cons}
+use Rattle.std.specs.Prelude.{cond, count_by, nat_eq, Result, Ok, Err}
+use Rattle.std.proofs.Common.{zero-add}
+use Rattle.std.proofs.lemmas.List.Recursion.{is_count_by}
 use Rattle.base.specs.Pick.{pick}
-use Rattle.definition.specs.Utf8.{char, bad, read, bad_sequence, decoded}
+use Rattle.definition.specs.Utf8.{six, char, bad, read, bad_sequence, decoded}
 use Rattle.definition.specs.Utf8Turns.{bad_at, bad_sequence-is, bad-none, bad-here, bad-next}
 use Rattle.definition.specs.Utf8Turns.{decoded-none, decoded-here, decoded-next, char-bytes}
 use Rattle.definition.specs.Texts.{left_out}
 use Rattle.definition.specs.Call.{first_left_out}
+use Rattle.utf8.specs.Beginnings.{beginnings}
 use Rattle.utf8.specs.Read.{answer, answered}
 use Rattle.utf8.specs.Puts.{puts}
-use Rattle.utf8.specs.declared.Decoded.{Decoded}
-use Rattle.utf8.specs.declared.Decoded.TheVariants.{Characters, Bad as BadAt}
+use Rattle.utf8.specs.declared.NotUtf8.{NotUtf8}
 
 -- `n` characters of the text `s` were put into `l₀`, which is `l` now, and the next starts at `at`: what is left to do
 -- leads where the whole leads
@@ -29,7 +32,7 @@ pub record Walk (s l₀ l : List ℕ) (at n : ℕ) : Type 0 where
   pub count : n + length (decoded (drop at s)) ≡ length (decoded s)
 
 -- what `decode` has to show at its end
-abbrev pub Ends : List ℕ → List ℕ → List ℕ → Decoded → Type 0
+abbrev pub Ends : List ℕ → List ℕ → List ℕ → Result ℕ NotUtf8 → Type 0
 Ends s l₀ l d = (d ≡ answered s) × (l ≡ puts 0 (decoded s) l₀)
 
 pub begun : (s l : List ℕ) → Walk s l l 0 0
@@ -61,13 +64,13 @@ module _ {s l₀ l : List ℕ} {at n : ℕ} (w : Walk s l₀ l at n) where
         count = omega arith;
       }
 
-  pub stopped : at < length s → read (drop at s) ≡ bad → Ends s l₀ l (BadAt at)
+  pub stopped : at < length s → read (drop at s) ≡ bad → Ends s l₀ l (Err (record { at = at }))
   unfolding answered answer puts
   stopped h e =
       let b : bad_sequence s ≡ some at = bad_sequence-is s ∙ sym w.fault ∙ bad-here at (drop at s) (left h) e in
       (rw b, sym (ap (λ t. puts n t l) (decoded-here (drop at s) e)) ∙ w.room)
 
-  pub ended : length s ≤ at → Ends s l₀ l (Characters n)
+  pub ended : length s ≤ at → Ends s l₀ l (Ok n)
   unfolding answered answer puts
   ended h =
       let z : length (drop at s) ≡ 0 = omega (arith, length-drop at s) in
@@ -95,3 +98,10 @@ module _ (l : List ℕ) (i : ℕ) where
   pub left-none : length l ≤ i → first_left_out i (drop i l) ≡ none
   unfolding first_left_out
   left-none h = rw (drop_of_length-le l {i = i} h)
+
+-- the bytes that continue no character, as `count` after `filter` gives them
+pub beginnings_counted : (s : List ℕ) → beginnings s ≡ count_by (λ b. nat_eq (six b) 64) s
+unfolding beginnings pick
+beginnings_counted = is_count_by beginnings (λ b. nat_eq (six b) 64) refl
+    (λ b s. elim (nat_eq (six b) 64) as (λ t. pick t 1 0 + beginnings s ≡ cond t (1 + beginnings s) (beginnings s))
+    [ true ↦ refl | false ↦ zero-add (beginnings s) ])

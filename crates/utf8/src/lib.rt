@@ -1,12 +1,13 @@
 // UTF-8 by RFC 3629: a text's bytes as characters, and a character's bytes.
 #![tactic(auto)]
 
-ghost use Rattle.std.specs.Prelude.{◌≡◌, ℕ, ◌+◌, ◌-◌, ◌<◌, ◌≤◌, length, take, drop, set};
+ghost use Rattle.std.specs.Prelude.{◌≡◌, ℕ, ◌+◌, ◌-◌, ◌<◌, ◌≤◌, length, take, drop, set, IfOk};
 ghost use Rattle.definition.specs.Utf8.{six, read, decoded, encode, sequence, checked};
 ghost use Rattle.definition.specs.Texts.{left_out};
 ghost use Rattle.definition.specs.Call.{first_left_out, text_refusal};
+ghost use Rattle.utf8.specs.declared.TextFault.TheVariants.{NotUtf8 as BadSequence};
 ghost use Rattle.utf8.specs.Read.{char_means, found_means, answered, text_means, Roomy};
-ghost use Rattle.utf8.specs.Beginnings.{begins, beginnings};
+ghost use Rattle.utf8.specs.Beginnings.{beginnings};
 ghost use Rattle.utf8.specs.Puts.{puts};
 ghost use Rattle.utf8.specs.Lines.{line_spaces, spaced};
 
@@ -16,33 +17,33 @@ pub const MOST_CHARACTERS: usize = 4096;
 // The spaces that a text stands between: one before it and two after it.
 pub const LINE_SPACES: usize = 3;
 
-// What the first sequence of some bytes is.
+// A character that was read, and how many bytes it takes.
 #[derive(Clone, Copy)]
-pub enum CharRead {
-    Char { value: u32, size: usize },
-    Bad,
+pub struct Char {
+    pub value: u32,
+    pub size: usize,
 }
 
-// How many characters a text has, or the offset of its first bad sequence.
+// Bytes that are no UTF-8: the offset of the first bad sequence.
 #[derive(Clone, Copy)]
-pub enum Decoded {
-    Characters(usize),
-    Bad(usize),
+pub struct NotUtf8 {
+    pub at: usize,
 }
 
+// Why a call refuses a text: the offset of a bad sequence, or the position of a character that is left out.
 #[derive(Clone, Copy)]
-pub enum Found {
-    At(usize),
-    Nothing,
-}
-
-// A text as a call takes it: its number of characters, or the refusal with its place.
-#[derive(Clone, Copy)]
-pub enum TextRead {
-    Characters(usize),
-    NotUtf8(usize),
+pub enum TextFault {
+    NotUtf8 { at: usize },
     TooLong,
-    LeftOut(usize),
+    LeftOut { at: usize },
+}
+
+impl From<NotUtf8> for TextFault {
+    ghost from_gives = { λ fault given. given ≡ BadSequence fault.at };
+
+    fn from(fault: NotUtf8) -> TextFault {
+        TextFault::NotUtf8 { at: fault.at }
+    }
 }
 
 // The bytes of a character: the first `len`.
@@ -53,72 +54,56 @@ pub struct Encoded {
 }
 
 // The six bits of a continuation byte; 64 for any other byte.
+#[tactic(auto, unfolding(definition::specs::Utf8::six, base::specs::Pick::pick))]
 pub fn six(b: u32) -> u32
     ensures { result ≡ six b }
 {
-    if b < 128 {
-        return 64;
+    match b {
+        128..192 => b - 128,
+        _ => 64,
     }
-    if b < 192 {
-        return b - 128;
-    }
-    64
 }
 
 // A character of `size` bytes: none that fewer could hold, whose lowest is `low`, and a scalar value.
-#[tactic(auto, using(crate::proofs::Values::surrogate))]
-fn checked(low: u32, size: usize, v: u32) -> CharRead
+#[tactic(auto, unfolding(crate::specs::Read::char_means, definition::specs::Utf8::checked, definition::specs::Utf8::scalar, base::specs::Pick::pick))]
+fn checked(low: u32, size: usize, v: u32) -> Option<Char>
     ensures { char_means result ≡ checked low size v }
 {
-    if v < low {
-        return CharRead::Bad;
+    if low <= v && matches!(v, 0..=0xD7FF | 0xE000..=0x10FFFF) {
+        return Some(Char { value: v, size });
     }
-    if v < 0xD800 {
-        return CharRead::Char { value: v, size };
-    }
-    if v < 0xE000 {
-        return CharRead::Bad;
-    }
-    if v <= 0x10FFFF {
-        return CharRead::Char { value: v, size };
-    }
-    CharRead::Bad
+    None
 }
 
 // A sequence by its first byte, and the six bits of the three after it.
-fn sequence(b: u32, x: u32, y: u32, z: u32) -> CharRead
+#[tactic(auto, unfolding(crate::specs::Read::char_means, definition::specs::Utf8::sequence, base::specs::Pick::pick))]
+fn sequence(b: u32, x: u32, y: u32, z: u32) -> Option<Char>
     requires { b < 256 }
     ensures { char_means result ≡ sequence b x y z }
 {
     if b < 128 {
-        return CharRead::Char { value: b, size: 1 };
+        return Some(Char { value: b, size: 1 });
     }
-    if b < 192 {
-        return CharRead::Bad;
-    }
-    if 64 <= x {
-        return CharRead::Bad;
+    if b < 192 || 64 <= x {
+        return None;
     }
     if b < 224 {
         return checked(0x80, 2, (b - 192) * 64 + x);
     }
     if 64 <= y {
-        return CharRead::Bad;
+        return None;
     }
     if b < 240 {
         return checked(0x800, 3, (b - 224) * 4096 + x * 64 + y);
     }
-    if 64 <= z {
-        return CharRead::Bad;
-    }
-    if 248 <= b {
-        return CharRead::Bad;
+    if 64 <= z || 248 <= b {
+        return None;
     }
     checked(0x10000, 4, (b - 240) * 262144 + x * 4096 + y * 64 + z)
 }
 
 // The sequence that starts at `at`.
-pub fn read_char(text: &[u8], at: usize) -> CharRead
+pub fn read_char(text: &[u8], at: usize) -> Option<Char>
     requires { at < length text.now }
     ensures { char_means result ≡ read (drop at text.now) }
 {
@@ -126,7 +111,7 @@ pub fn read_char(text: &[u8], at: usize) -> CharRead
     let b = base::byte(text, at);
     // most texts have many of these, and nothing after them has to be read
     if b < 128 {
-        return CharRead::Char { value: b, size: 1 };
+        return Some(Char { value: b, size: 1 });
     }
     let x = six(base::byte(text, at + 1));
     let y = six(base::byte(text, at + 2));
@@ -145,24 +130,26 @@ fn put(chars: &mut [u32], n: usize, c: u32)
 
 // Puts a text's characters into `chars`, up to a bad sequence. Those past its end are counted and go nowhere: a bad
 // sequence is named before a text that is too long.
-pub fn decode(text: &[u8], chars: &mut [u32]) -> Decoded
+pub fn decode(text: &[u8], chars: &mut [u32]) -> Result<usize, NotUtf8>
     ensures answer { result ≡ answered text.now }
     ensures room { chars.new ≡ puts 0 (decoded text.now) chars.old }
 {
     let mut at = 0;
     let mut n = 0;
+    // a `while`: each turn moves by the bytes of the character that it read
     while at < text.len() {
-        let CharRead::Char { value, size } = read_char(text, at) else {
-            return Decoded::Bad(at);
+        let Some(Char { value, size }) = read_char(text, at) else {
+            return Err(NotUtf8 { at });
         };
         put(chars, n, value);
         n += 1;
         at += size;
     }
-    Decoded::Characters(n)
+    Ok(n)
 }
 
 // The bytes of a character.
+#[tactic(auto, unfolding(definition::specs::Utf8::encode, base::specs::Pick::pick))]
 pub fn encode(c: u32) -> Encoded
     requires { c < 0x110000 }
     ensures { (take result.len result.bytes ≡ encode c) × (result.len ≤ 4) }
@@ -195,127 +182,74 @@ pub fn encode(c: u32) -> Encoded
 }
 
 // How many bytes a character has.
+#[tactic(auto, unfolding(definition::specs::Utf8::encode, base::specs::Pick::pick))]
 pub fn encoded_len(c: u32) -> usize
     ensures { (result ≡ length (encode c)) × (result ≤ 4) }
 {
-    if c <= 0x7F {
-        return 1;
+    match c {
+        0..=0x7F => 1,
+        0x80..=0x7FF => 2,
+        0x800..=0xFFFF => 3,
+        _ => 4,
     }
-    if c <= 0x7FF {
-        return 2;
-    }
-    if c <= 0xFFFF {
-        return 3;
-    }
-    4
 }
 
 // Is a character Tibetan, Braille or a Hangul syllable, which are left out?
+#[tactic(auto, unfolding(definition::specs::Texts::left_out))]
 pub fn left_out(c: u32) -> bool
     ensures { result ≡ left_out c }
 {
-    if c < 0x0F00 {
-        return false;
-    }
-    if c <= 0x0FFF {
-        return true;
-    }
-    if c < 0x2800 {
-        return false;
-    }
-    if c <= 0x28FF {
-        return true;
-    }
-    if c < 0xAC00 {
-        return false;
-    }
-    c <= 0xD7A3
+    matches!(c, 0x0F00..=0x0FFF | 0x2800..=0x28FF | 0xAC00..=0xD7A3)
 }
 
 // Where the first character stands that is left out.
-pub fn first_left_out(chars: &[u32]) -> Found
+pub fn first_left_out(chars: &[u32]) -> Option<usize>
     ensures { found_means result ≡ first_left_out 0 chars.now }
 {
-    let mut i = 0;
-    while i < chars.len() {
-        if left_out(chars[i]) {
-            return Found::At(i);
+    for (i, c) in chars.iter().enumerate() {
+        if left_out(*c) {
+            return Some(i);
         }
-        i += 1;
     }
-    Found::Nothing
-}
-
-// 1 for a byte that continues no character.
-#[tactic(auto, using(crate::proofs::Firsts::one_where_no_six))]
-fn begins(b: u32) -> usize
-    ensures { (result ≡ begins b) × (result ≤ 1) }
-{
-    if six(b) == 64 {
-        return 1;
-    }
-    0
+    None
 }
 
 // As many characters as a text can have at most: those bytes are counted that continue none.
 pub fn characters(text: &[u8]) -> usize
     ensures { result ≡ beginnings text.now }
 {
-    let mut n = 0;
-    let mut i = 0;
-    while i < text.len() {
-        n += begins(base::byte(text, i));
-        i += 1;
-    }
-    n
+    text.iter().filter(|b| six(u32::from(**b)) == 64).count()
 }
 
 // What a call needs of its text: the characters, or its refusal. There is room for all characters of a text that is not too long.
-pub fn read_text(text: &[u8], chars: &mut [u32]) -> TextRead
+pub fn read_text(text: &[u8], chars: &mut [u32]) -> Result<usize, TextFault>
     requires { Roomy text.now (length chars.old) }
     ensures refusal { text_means result ≡ text_refusal text.now }
-    ensures count { (n : ℕ) → result ≡ TextRead.Characters n → n ≡ length (decoded text.now) }
+    ensures count { IfOk result (λ n. n ≡ length (decoded text.now)) }
     ensures room { chars.new ≡ puts 0 (decoded text.now) chars.old }
 {
-    match decode(text, chars) {
-        Decoded::Bad(at) => {
-            return TextRead::NotUtf8(at);
-        }
-        Decoded::Characters(n) => {
-            if MOST_CHARACTERS < n {
-                return TextRead::TooLong;
-            }
-            match first_left_out(&chars[..n]) {
-                Found::At(i) => {
-                    return TextRead::LeftOut(i);
-                }
-                Found::Nothing => {
-                    return TextRead::Characters(n);
-                }
-            }
-        }
+    let n = decode(text, chars)?;
+    if MOST_CHARACTERS < n {
+        return Err(TextFault::TooLong);
+    }
+    match first_left_out(&chars[..n]) {
+        Some(at) => Err(TextFault::LeftOut { at }),
+        None => Ok(n),
     }
 }
 
 // What a call needs of its text, with the text between spaces: one before it and two after it, so that a reader need not ask for its ends. Of
 // a text that is refused nothing is said of the line.
-pub fn read_line(text: &[u8], line: &mut [u32]) -> TextRead
+pub fn read_line(text: &[u8], line: &mut [u32]) -> Result<usize, TextFault>
     requires { (line_spaces ≤ length line.old) × Roomy text.now (length line.old - line_spaces) }
     ensures refusal { text_means result ≡ text_refusal text.now }
-    ensures count { (n : ℕ) → result ≡ TextRead.Characters n → n ≡ length (decoded text.now) }
-    ensures line { (n : ℕ) → result ≡ TextRead.Characters n → take (n + line_spaces) line.new ≡ spaced (decoded text.now) }
+    ensures count { IfOk result (λ n. n ≡ length (decoded text.now)) }
+    ensures line { IfOk result (λ n. take (n + line_spaces) line.new ≡ spaced (decoded text.now)) }
 {
     let end = line.len() - 2;
-    let read = read_text(text, &mut line[1..end]);
-    match read {
-        TextRead::Characters(n) => {
-            line[0] = 0x20;
-            line[n + 1] = 0x20;
-            line[n + 2] = 0x20;
-            read
-        }
-        TextRead::NotUtf8(_) => read,
-        TextRead::TooLong => read,
-        TextRead::LeftOut(_) => read,
-    }
+    let n = read_text(text, &mut line[1..end])?;
+    line[0] = 0x20;
+    line[n + 1] = 0x20;
+    line[n + 2] = 0x20;
+    Ok(n)
 }

@@ -13,20 +13,20 @@ returns-in_default c =
 pub overflow_add-at : goal.overflow_add-at
 unfolding char_means
 overflow_add-at c =
-    let h = char-bytes (drop c.loop-at.at c.args.text.now) c.in-Char.value c.in-Char.size (sym c.in-Char.ensures) in
+    let h = char-bytes (drop c.loop-at.at c.args.text.now) c.in-Some.field-0.value c.in-Some.field-0.size (sym c.in-Some.ensures) in
     search rules
 
 pub loop-at-smaller : goal.loop-at-smaller
 unfolding char_means
 loop-at-smaller c =
-    let h = char-bytes (drop c.loop-at.at c.args.text.now) c.in-Char.value c.in-Char.size (sym c.in-Char.ensures) in
+    let h = char-bytes (drop c.loop-at.at c.args.text.now) c.in-Some.field-0.value c.in-Some.field-0.size (sym c.in-Some.ensures) in
     omega arith
 
 pub loop-at-preserved : goal.loop-at-preserved
 unfolding char_means
 loop-at-preserved c =
     rw c.put.ensures
-    (turned c.loop-at.invariant c.in-Char.value c.in-Char.size _ _ (omega arith) (sym c.in-Char.ensures))
+    (turned c.loop-at.invariant c.in-Some.field-0.value c.in-Some.field-0.size _ _ (omega arith) (sym c.in-Some.ensures))
 
 pub returns : goal.returns
 returns c =

@@ -7,15 +7,11 @@ use Rattle.utf8.proofs.first_left_out.Goals as goal
 pub returns-then-left_out : goal.returns-then-left_out
 unfolding found_means
 returns-then-left_out c =
-    let r = c in
-    let t = r in
-    sym (left_here _ _ t.loop-i-test.true (sym r.left_out.ensures ∙ c.if-left_out.true)) ∙ t.loop-i.invariant
+    sym (left_here _ _ c.loop-i-test.true (sym c.left_out.ensures ∙ c.if-left_out.true)) ∙ c.loop-i.invariant
 
 pub loop-i-preserved : goal.loop-i-preserved
 loop-i-preserved c =
-    let r = c in
-    let t = r in
-    sym (left-later _ _ t.loop-i-test.true (sym r.left_out.ensures ∙ c.if-left_out.false)) ∙ t.loop-i.invariant
+    sym (left-later _ _ c.loop-i-test.true (sym c.left_out.ensures ∙ c.if-left_out.false)) ∙ c.loop-i.invariant
 
 pub returns : goal.returns
 unfolding found_means

@@ -2,10 +2,12 @@
 use mathlib.Core.Path.{ap, ◌∙◌}
 use native.Mathlib.Omega.{arith}
 use Rattle.definition.specs.Utf8.{six}
+use Rattle.utf8.specs.Read.{char_means}
 use Rattle.utf8.proofs.Sequences.{joined, ascii}
 use Rattle.utf8.proofs.read_char.Goals as goal
 
 pub returns-then-b-lt128 : goal.returns-then-b-lt128
+unfolding char_means
 returns-then-b-lt128 c =
     let a = c.args in
     ascii a.text.now a.at _ c.byte-b.ensures.0 (omega arith)

@@ -1,59 +1,48 @@
 -- `utf8::read_text`: each return is a refusal in the definition's order, or none, by what `decode` and `first_left_out`
 -- ensure.
-use Rattle.std.proofs.Common.{◌≤◌, length, refl, sym, length-take-le, arith}
-use Rattle.utf8.specs.Read.{text_means}
-use Rattle.utf8.proofs.Answers.{not_utf8, counted, too_long, left, taken, no_count, own-count}
+use Rattle.std.proofs.Common.{◌≡◌, ℕ, ◌≤◌, List, length, sym, length-take-le, arith}
+use Rattle.std.specs.Prelude.{Ok}
+use Rattle.definition.specs.Limits.{most_characters}
+use Rattle.utf8.specs.Read.{answered, Roomy}
+use Rattle.std.proofs.lemmas.Result.{err_from_is_err_and}
+use Rattle.definition.specs.Utf8.{decoded}
+use Rattle.utf8.proofs.Answers.{not_utf8, counted, too_long, left, taken}
 use Rattle.utf8.proofs.read_text.Goals as goal
 
-pub returns-in-Bad : goal.returns-in-Bad
-unfolding text_means
-returns-in-Bad c = record {
-  refusal = not_utf8 _ _ (sym c.in-Bad.ensures.answer);
-  count = no_count _ _ refl _;
-  room = c.decode.ensures.room;
-}
+pub returns-in_err-n-clause-refusal : goal.returns-in_err-n-clause-refusal
+returns-in_err-n-clause-refusal c =
+    let p = err_from_is_err_and c.from_residual.result c.from_residual.ensures.1 in
+    rw (p.1, p.2) (not_utf8 _ _ (sym c.in_err-n.ensures.answer))
 
-pub returns-then-n-gt-MOST_CHARACTERS : goal.returns-then-n-gt-MOST_CHARACTERS
-unfolding text_means
-returns-then-n-gt-MOST_CHARACTERS c = record {
-  refusal = too_long _ _ (sym c.in-Characters.ensures.answer) (omega arith);
-  count = no_count _ _ refl _;
-  room = c.decode.ensures.room;
-}
+pub returns-then-n-gt-MOST_CHARACTERS-clause-refusal : goal.returns-then-n-gt-MOST_CHARACTERS-clause-refusal
+returns-then-n-gt-MOST_CHARACTERS-clause-refusal c = too_long _ _ (sym c.in_ok-n.ensures.answer) (omega arith)
+
+-- there is room for the characters of a text that is not too long
+own : (s : List ℕ) (n : ℕ) → Ok n ≡ answered s → n ≡ length (decoded s)
+own s n e = counted s n (sym e)
+
+room : (s l : List ℕ) (n : ℕ) → Roomy s (length l) → Ok n ≡ answered s → n ≤ most_characters → n ≤ length l
+room s l n r e h = let k = own s n e in let f = r (omega (arith, k)) in omega (arith, k, f)
 
 pub slice_bounds-first_left_out-end : goal.slice_bounds-first_left_out-end
 slice_bounds-first_left_out-end c =
-    let k = counted c.args.text.now c.in-Characters.n (sym c.in-Characters.ensures.answer) in
-    omega (arith, c.requires (omega (arith, k)), c.decode.auto.chars)
+    let h = room _ _ _ c.requires c.in_ok-n.ensures.answer (omega arith) in
+    omega (arith, h, c.decode.auto.chars)
 
-pub slice_bounds-first_left_out-end-in-Characters : goal.slice_bounds-first_left_out-end-in-Characters
-slice_bounds-first_left_out-end-in-Characters c =
-    let k = counted c.args.text.now c.in-Characters.n (sym c.in-Characters.ensures.answer) in
-    sym (length-take-le c.in-Characters.n c.decode.new.chars (omega (arith, c.requires (omega (arith, k)), c.decode.auto.chars)))
+pub slice_bounds-first_left_out-end-2 : goal.slice_bounds-first_left_out-end-2
+slice_bounds-first_left_out-end-2 c =
+    let h = room _ _ _ c.requires c.in_ok-n.ensures.answer (omega arith) in
+    sym (length-take-le c.in_ok-n.n c.decode.new.chars (omega (arith, h, c.decode.auto.chars)))
 
-pub returns-in-At : goal.returns-in-At
-unfolding text_means
-returns-in-At c =
-    let s = c.args.text.now in
-    let n = c.in-Characters.n in
-    let whole = sym c.in-Characters.ensures.answer in
-    let k = counted s n whole in
-    let long : n ≤ length c.args.chars.now = omega (arith, c.requires (omega (arith, k))) in
-    record {
-      refusal = left s n whole c.args.chars.now c.decode.new.chars long c.decode.ensures.room (omega arith) _ c.first_left_out.ensures _ c.in-At.is;
-      count = no_count _ _ refl _;
-      room = c.decode.ensures.room;
-    }
+pub returns-in-Some-clause-refusal : goal.returns-in-Some-clause-refusal
+returns-in-Some-clause-refusal c =
+    let h = room _ _ _ c.requires c.in_ok-n.ensures.answer (omega arith) in
+    left _ _ (sym c.in_ok-n.ensures.answer) c.args.chars.now c.decode.new.chars h c.decode.ensures.room (omega arith) _ c.first_left_out.ensures _ c.in-Some.is
 
-pub returns-in-Nothing : goal.returns-in-Nothing
-returns-in-Nothing c =
-    let s = c.args.text.now in
-    let n = c.in-Characters.n in
-    let whole = sym c.in-Characters.ensures.answer in
-    let k = counted s n whole in
-    let long : n ≤ length c.args.chars.now = omega (arith, c.requires (omega (arith, k))) in
-    record {
-      refusal = taken s n whole c.args.chars.now c.decode.new.chars long c.decode.ensures.room (omega arith) _ c.first_left_out.ensures c.in-Nothing.is;
-      count = own-count _ _ k;
-      room = c.decode.ensures.room;
-    }
+pub returns-in-None-clause-refusal : goal.returns-in-None-clause-refusal
+returns-in-None-clause-refusal c =
+    let h = room _ _ _ c.requires c.in_ok-n.ensures.answer (omega arith) in
+    taken _ _ (sym c.in_ok-n.ensures.answer) c.args.chars.now c.decode.new.chars h c.decode.ensures.room (omega arith) _ c.first_left_out.ensures c.in-None.is
+
+pub returns-in-None-clause-count : goal.returns-in-None-clause-count
+returns-in-None-clause-count c = own _ _ c.in_ok-n.ensures.answer
