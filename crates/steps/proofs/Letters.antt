@@ -1,8 +1,8 @@
 -- The letters at the ends of a romanization.
-use mathlib.Core.Bool.{Bool, true, false, ◌&&◌, true≢false}
+use mathlib.Core.Bool.{Bool, true, false, ◌&&◌, and-false, true≢false}
 use mathlib.Core.List.{List, [], ◌∷◌, reverse}
 use mathlib.Core.Path.{◌≡◌, refl, sym, ap, ◌∙◌}
-use Prim.Native.Nat.{ℕ, ◌+◌, ◌-◌, ◌≤◌, ◌<◌}
+use Prim.Native.Nat.{ℕ, zero, suc, ◌+◌, ◌-◌, ◌≤◌, ◌<◌}
 use native.Mathlib.Omega.{arith}
 use lib.Dec.{eqb}
 use lib.ListN.{length, take, drop, get_or, length-reverse}
@@ -15,15 +15,20 @@ use Rattle.base.specs.ListLaws.{tail-length}
 use Rattle.definition.specs.Texts.{Text, chars, among, addak, long_mark, vowels, consonants, the_space, last_is, without_last}
 use Rattle.definition.specs.Expansion.{doubling, doubled}
 use Rattle.rom.proofs.Backwards.{back_cons, front_less}
+use Rattle.rom.specs.Sets.{member, vowels_set, in_vowels, last_as}
+use Rattle.std.specs.Prelude.{Some, None, slice_get}
 use Rattle.steps.specs.Works.{first_of, last_of, letter_of, kana, long_by, front_of, back_of}
 
--- the last of the first `n` bytes, and that of none
+-- the last of the first `n` bytes
 pub last-at : (b : List ℕ) (n : ℕ) → 0 < n → n ≤ length b → get_or b (n - 1) 0 ≡ last_of (take n b)
 last-at b n h l = sym (ap (λ (w : List ℕ). get_or w 0 0) (back_cons b n h l))
 
-pub none_last : (w : Text) → length w ≡ 0 → 0 ≡ last_of w
-none_last [] h = refl
-none_last (c ∷ w) h = absurd (omega arith)
+-- and the first of them
+pub first-at : (b : List ℕ) (n : ℕ) → 0 < n → first_of (take n b) ≡ get_or b 0 0
+first-at [] zero h = refl
+first-at [] (suc n) h = refl
+first-at (x ∷ b) zero h = absurd (omega arith)
+first-at (x ∷ b) (suc n) h = refl
 
 -- a text with a last letter is not empty
 pub not_empty : (q : ℕ → Bool) (w : Text) → is q (head (reverse w)) ≡ true → 0 < length w
@@ -65,11 +70,6 @@ module _ (q : ℕ → Bool) (z : q 0 ≡ false) where
   unfolding last_is
   last_passes w = first_passes (reverse w)
 
-  -- what passes is a letter
-  pub letter-there : (b : ℕ) → q b ≡ true → letter_of b ≡ b ∷ []
-  unfolding letter_of pick
-  letter-there b e = rw (ne_eqb b 0 (λ k. true≢false (sym e ∙ ap q k ∙ z)))
-
 pub one-there : (q : ℕ → Bool) (w : Text) → is q (head w) ≡ true → take 1 w ≡ first_of w ∷ []
 unfolding head
 one-there q [] e = absurd (true≢false (sym e))
@@ -84,30 +84,39 @@ pub no_consonant : consonants 0 ≡ false
 unfolding consonants among
 no_consonant = refl
 
--- Doubling
-no_letter : doubling 0 ≡ false
-unfolding doubling among
-no_letter = refl
-
-module _ (c : ℕ) (w : Text) where
-  pub ch_by-c : starts (chars "ch") w ≡ true → c ≡ addak → letter_of 99 ≡ doubled c w
-  unfolding doubled letter_of pick
-  ch_by-c e k = sym (rw (e, eq-eqb c addak k))
-
-  pub ch_by-t : starts (chars "ch") w ≡ true → (c ≡ addak → ⊥) → letter_of 116 ≡ doubled c w
-  unfolding doubled letter_of pick
-  ch_by-t e k = sym (rw (e, ne_eqb c addak k))
-
-  module _ (e : starts (chars "ch") w ≡ false) where
-    pub first-doubled : doubling (first_of w) ≡ true → letter_of (first_of w) ≡ doubled c w
-    unfolding doubled pick
-    first-doubled d =
-        let h = sym (first_passes doubling no_letter w) ∙ d in
-        letter-there doubling no_letter (first_of w) d ∙ sym (one-there doubling w h) ∙ sym (rw (e, h))
-
-    pub none-doubled : doubling (first_of w) ≡ false → letter_of 0 ≡ doubled c w
+-- Doubling: by a letter, if the text has a first one
+module _ (c : ℕ) where
+  module _ (w : Text) (e : starts (chars "ch") w ≡ true) where
+    pub ch_by-c : c ≡ addak → letter_of (Some 99) ≡ doubled c w
     unfolding doubled letter_of pick
-    none-doubled d = let h = sym (first_passes doubling no_letter w) ∙ d in sym (rw (e, h))
+    ch_by-c k = sym (rw (e, eq-eqb c addak k))
+
+    pub ch_by-t : (c ≡ addak → ⊥) → letter_of (Some 116) ≡ doubled c w
+    unfolding doubled letter_of pick
+    ch_by-t k = sym (rw (e, ne_eqb c addak k))
+
+  pub first-doubled : (w : Text) (b : ℕ) → starts (chars "ch") w ≡ false → Some b ≡ slice_get w 0 → doubling b ≡ true
+      → letter_of (Some b) ≡ doubled c w
+  unfolding doubled letter_of pick head
+  first-doubled [] b e g d = cc
+  first-doubled (x ∷ w) b e g d =
+      let k : b ≡ x = cc in
+      let f : doubling x ≡ true = ap doubling (sym k) ∙ d in
+      ap (λ (y : ℕ). y ∷ []) k ∙ sym (rw (e, f))
+
+  pub none-doubled : (w : Text) (b : ℕ) → starts (chars "ch") w ≡ false → Some b ≡ slice_get w 0 → doubling b ≡ false
+      → letter_of None ≡ doubled c w
+  unfolding doubled letter_of pick head
+  none-doubled [] b e g d = cc
+  none-doubled (x ∷ w) b e g d =
+      let k : b ≡ x = cc in
+      let f : doubling x ≡ false = ap doubling (sym k) ∙ d in
+      sym (rw (e, f))
+
+  pub nothing-doubled : (w : Text) → starts (chars "ch") w ≡ false → None ≡ slice_get w 0 → letter_of None ≡ doubled c w
+  unfolding doubled letter_of pick head
+  nothing-doubled [] e g = sym (rw e)
+  nothing-doubled (x ∷ w) e g = cc
 
 -- Trimming
 pub front-short : (c : ℕ) (w : Text) → length (front_of c w) ≤ length w
@@ -132,9 +141,9 @@ module _ (c : ℕ) (w : Text) where
   unfolding front_of pick
   front_space e f = sym (rw (space_first w e, eq-eqb c the_space f))
 
-  pub front-text : first_of w ≡ the_space → (c ≡ the_space → ⊥) → w ≡ front_of c w
+  pub front-text : (c ≡ the_space → ⊥) → w ≡ front_of c w
   unfolding front_of pick
-  front-text e f = sym (rw (space_first w e, ne_eqb c the_space f))
+  front-text f = sym (rw (ne_eqb c the_space f, and-false (is (eqb the_space) (head w))))
 
   pub front-letter : (first_of w ≡ the_space → ⊥) → w ≡ front_of c w
   unfolding front_of pick
@@ -145,33 +154,19 @@ module _ (b : Bool) (w : Text) where
   unfolding back_of last_is pick
   back_space e f = sym (rw (space_first (reverse w) e, f))
 
-  pub back-text : last_of w ≡ the_space → b ≡ false → w ≡ back_of b w
-  unfolding back_of last_is pick
-  back-text e f = sym (rw (space_first (reverse w) e, f))
+  pub back-text : b ≡ false → w ≡ back_of b w
+  unfolding back_of pick
+  back-text f = sym (rw (f, and-false (last_is (eqb the_space) w)))
 
   pub back-letter : (last_of w ≡ the_space → ⊥) → w ≡ back_of b w
   unfolding back_of last_is pick
   back-letter e = sym (rw (letter-first (reverse w) e))
 
--- The long mark
-no_vowel : vowels 0 ≡ false
-unfolding vowels among
-no_vowel = refl
+-- the vowels are a set
+pub vowel_last : (w : Text) → last_is (member vowels_set) w ≡ last_is vowels w
+vowel_last w = last_as vowels_set vowels in_vowels w
 
 module _ (c k : ℕ) (w : Text) where
-  pub not_mark : (c ≡ long_mark → ⊥) → false ≡ long_by c k w
-  unfolding long_by
-  not_mark e = sym (rw (ne_eqb c long_mark e))
-
-  module _ (e : c ≡ long_mark) where
-    pub not_kana : kana k ≡ false → false ≡ long_by c k w
-    unfolding long_by
-    not_kana f = sym (rw (eq-eqb c long_mark e, f))
-
-    pub after-kana : kana k ≡ true → vowels (last_of w) ≡ long_by c k w
-    unfolding long_by
-    after-kana f = sym (rw (eq-eqb c long_mark e, f) (sym (last_passes vowels no_vowel w)))
-
   pub long-vowel : long_by c k w ≡ true → last_is vowels w ≡ true
   unfolding long_by
   long-vowel e = and_right (eqb c long_mark && kana k) (last_is vowels w) e

@@ -1,18 +1,17 @@
 -- What each step makes of its work: one law for each way out.
-use mathlib.Core.Bool.{Bool, true, false, or-false}
+use mathlib.Core.Bool.{Bool, true, false}
 use mathlib.Core.List.{List, ◌∷◌, ◌++◌, reverse}
 use mathlib.Core.Path.{◌≡◌, refl, sym, ap, ◌∙◌}
 use Prim.Native.Nat.{ℕ, ◌+◌, ◌-◌, ◌≤◌}
 use native.Mathlib.Omega.{arith}
-use lib.Dec.{eqb}
 use lib.ListN.{length, take}
 use borrow.Author.Tests.{eq-eqb, ne_eqb}
 use Rattle.base.specs.Pick.{pick}
-use Rattle.base.specs.Bools.{eqb_alike}
+use Rattle.std.specs.Prelude.{Some, None}
 use Rattle.base.specs.Lists.{same}
 use Rattle.definition.specs.Limits.{most_bytes}
-use Rattle.definition.specs.Texts.{Text, the_space, addak, among, at, prev, stands}
-use Rattle.definition.specs.Tables.{Class, script_hiragana, script_katakana}
+use Rattle.definition.specs.Texts.{Text, the_space, among, at, prev, stands}
+use Rattle.definition.specs.Tables.{Class}
 use Rattle.definition.specs.Notes.{note_exp}
 use Rattle.definition.specs.Classes.{class, script}
 use Rattle.definition.specs.Expansion.{work, small_tsu, doubled, double, lengthens, trim_front, trim_back, trim, finish}
@@ -41,14 +40,14 @@ module _ (ks : List Class) (t : Text) (o : ℕ) (w : expansion.Work) where
     unfolding double pick
     other-script f = sym (rw (e, ne_eqb (script ks (prev t o)) (script ks (at t o)) f))
 
-    module _ (f : script ks (prev t o) ≡ script ks (at t o)) (b : ℕ) (d : letter_of b ≡ doubled (prev t o) w.rom) where
-      pub no_letter : b ≡ 0 → w ≡ double ks t o w
+    module _ (f : script ks (prev t o) ≡ script ks (at t o)) where
+      pub no_letter : letter_of None ≡ doubled (prev t o) w.rom → w ≡ double ks t o w
       unfolding double letter_of same pick
-      no_letter z = sym (rw (e, eq-eqb (script ks (prev t o)) (script ks (at t o)) f, sym d, eq-eqb b 0 z))
+      no_letter d = sym (rw (e, eq-eqb (script ks (prev t o)) (script ks (at t o)) f, sym d))
 
-      pub a_letter : (b ≡ 0 → ⊥) → work (b ∷ w.rom) (w.from - 1) w.to note_exp ≡ double ks t o w
+      pub a_letter : (b : ℕ) → letter_of (Some b) ≡ doubled (prev t o) w.rom → work (b ∷ w.rom) (w.from - 1) w.to note_exp ≡ double ks t o w
       unfolding double letter_of same pick
-      a_letter z = sym (rw (e, eq-eqb (script ks (prev t o)) (script ks (at t o)) f, sym d, ne_eqb b 0 z))
+      a_letter b d = sym (rw (e, eq-eqb (script ks (prev t o)) (script ks (at t o)) f, sym d))
 
 -- Trimming: `f` is the romanization `r` trimmed in front, `b` then behind
 module _ {r f : Rom} (h : Clean r) (c : ℕ) (p : f ≡ rom (front_of c (text r))) where
@@ -103,15 +102,3 @@ module _ (ks : List Class) (t : Text) (w : expansion.Work) where
     pub neither : (class ks (at t w.to)).virama ≡ false → trim t w ≡ finish ks t w
     unfolding finish pick
     neither f = sym (rw (e, f))
-
--- The last of a set's tests, where those before it fail
-module _ (c : ℕ) where
-  pub addak-left : (c ≡ 0x3063 → ⊥) → (c ≡ 0x30C3 → ⊥) → eqb c addak ≡ small_tsu c
-  unfolding small_tsu among
-  addak-left e f =
-      sym (rw (ne_eqb 0x3063 c (λ k. e (sym k)), ne_eqb 0x30C3 c (λ k. f (sym k)))
-      (or-false (eqb addak c) ∙ eqb_alike addak c c addak sym sym))
-
-  pub katakana_left : (c ≡ script_hiragana → ⊥) → eqb c script_katakana ≡ kana c
-  unfolding kana
-  katakana_left e = sym (rw (ne_eqb c script_hiragana e))

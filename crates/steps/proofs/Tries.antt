@@ -1,16 +1,17 @@
 -- What comes of the two Thai steps, and of a target put behind: one law for each way out.
 use mathlib.Core.Bool.{Bool, true, false, ◌&&◌, and-false, true≢false}
 use mathlib.Core.List.{List, [], ◌∷◌, ◌++◌}
-use mathlib.Core.Option.{Option, none, some}
+use mathlib.Core.Option.{none, some}
+use mathlib.Core.Option as math
+use Rattle.std.specs.Prelude.{Option, Some, None, unwrap_or}
 use mathlib.Core.Path.{◌≡◌, refl, sym, ap, ◌∙◌, subst}
 use Prim.Native.Nat.{ℕ, ◌+◌, ◌-◌, ◌≤◌}
 use native.Mathlib.Nat.{add-zero}
 use native.Mathlib.Omega.{arith}
 use lib.Dec.{eqb}
-use lib.ListN.{length, take, drop}
-use borrow.Author.Tests.{eq-eqb, ne_eqb}
+use lib.ListN.{length, get_or, drop}
 use Rattle.base.specs.Pick.{pick}
-use Rattle.base.specs.Lists.{all, has, maybe, or_else}
+use Rattle.base.specs.Lists.{all, has, head, is, maybe, or_else}
 use Rattle.base.specs.Alls.{Opt}
 use Rattle.definition.specs.Limits.{most_target}
 use Rattle.definition.specs.Texts.{Text, consonants, prev}
@@ -27,63 +28,63 @@ use Rattle.definition.specs.Expansion as expansion
 use Rattle.table_classes.specs.Told.{Fine}
 use Rattle.rom.specs.Sets.{member, consonants_set, in_consonants, all_as}
 use Rattle.rule_choice.specs.Chosen.{chosen_means, Said, or_nothing}
-use Rattle.rule_choice.specs.declared.Chosen.{Chosen}
-use Rattle.rule_choice.specs.declared.Chosen.TheVariants.{Target, EndTarget, Untold}
+use Rattle.rule_choice.specs.declared.Target.{Target}
+use Rattle.rule_choice.specs.declared.Target.TheVariants.{Own, AtEnd}
 use Rattle.steps.specs.declared.Growing.{Growing}
-use Rattle.steps.specs.declared.Tried.{Tried}
-use Rattle.steps.specs.Works.{work_in, Tries, first_of, framed_by, before_by}
+use Rattle.steps.specs.Works.{work_in, Held, outcome, Left, framed_by, before_by}
 use Rattle.steps.proofs.Letters.{first_passes, no_consonant}
 
 -- a target has 200 bytes at most
-pub said-short : (rules : List ℕ) (x : Chosen) → Said rules x → length (or_nothing (chosen_means rules x)) ≤ most_target
+pub said-short : (rules : List ℕ) (x : Option Target) → Said rules x → length (or_nothing (chosen_means rules x)) ≤ most_target
 unfolding rule_of text_where pick
-said-short rules (Target row) h =
+said-short rules (Some (Own row)) h =
     let s = drop row rules in
     (subst (Opt (Short most_target)) (ap (λ (b : Bool). text_where b (drop (target_at s) s)) h.1) h.0.spoken.target).long
-said-short rules (EndTarget row) h =
+said-short rules (Some (AtEnd row)) h =
     let s = drop row rules in
     (subst (Opt (Short most_target)) (ap (λ (b : Bool). text_where b (drop (end_target_at s) s)) h.1) h.0.spoken.end_target).long
-said-short rules Untold h = omega arith
+said-short rules None h = omega arith
 
-abbrev tried : Growing → Bool → Tried
-tried g b = record { growing = g; done = b }
+-- a try that follows one that was not done
+pub on : {a b : List ℕ} (g : Growing) {o : math.Option expansion.Work} (f : expansion.Work → math.Option expansion.Work)
+    → a ≡ b → o ≡ f (work_in a g) → o ≡ f (work_in b g)
+on {a} {b} g {o} f e h = h ∙ ap (λ (l : List ℕ). f (work_in l g)) e
 
-pub not_done : (b : List ℕ) (g : Growing) (o : Option expansion.Work) → o ≡ none → Tries b g o b (tried g false)
-unfolding maybe
-not_done b g o e = record { done = sym (ap has e); work = sym (ap (λ (o : Option expansion.Work). maybe o (work_in b g) (λ x. x)) e) }
+-- what a try makes, or what was there
+module _ (b d : List ℕ) (g : Growing) (m : ℕ) where
+  pub or_same : (r : Option Growing) {o : math.Option expansion.Work} → outcome d r ≡ o → Left m b d r
+      → work_in d (unwrap_or r g) ≡ maybe o (work_in b g) (λ x. x)
+  unfolding maybe
+  or_same (Some x) e l = ap (λ (o : math.Option expansion.Work). maybe o (work_in b g) (λ x. x)) e
+  or_same None e l = ap (λ (y : List ℕ). work_in y g) l ∙ ap (λ (o : math.Option expansion.Work). maybe o (work_in b g) (λ x. x)) e
 
-module _ {b d : List ℕ} {g : Growing} {r : Tried} where
-  pub tries_as : {o u : Option expansion.Work} → o ≡ u → Tries b g o d r → Tries b g u d r
-  tries_as e h = subst (λ (x : Option expansion.Work). Tries b g x d r) e h
-
-  -- a try of the pattern after one that was not done
-  pub around_on : {c : List ℕ} (rs : List Rule) (t : Text) (k : ℕ) → c ≡ b → Tries c g (around_by rs t k (work_in c g)) d r
-      → Tries b g (around_by rs t k (work_in b g)) d r
-  around_on rs t k e h = subst (λ (x : List ℕ). Tries x g (around_by rs t k (work_in x g)) d r) e h
+  pub or-held : Held b g → g.len ≤ m → (r : Option Growing) → Left m b d r → Held d (unwrap_or r g) × ((unwrap_or r g).len ≤ m)
+  or-held h k (Some x) l = l
+  or-held h k None l = (subst (λ (y : List ℕ). Held y g) (sym l) h, k)
 
 -- A target put behind, or none
-pub no_target : (w : expansion.Work) (k : ℕ) (o : Option Text) → has o ≡ false → widen k w o ≡ none
+pub no_target : (w : expansion.Work) (k : ℕ) (o : math.Option Text) → has o ≡ false → widen k w o ≡ none
 unfolding widen
 no_target w k none e = refl
 no_target w k (some y) e = absurd (true≢false e)
 
-pub a_target : (b d : List ℕ) (g x : Growing) (k : ℕ) (o : Option Text) → has o ≡ true
-    → work_in d x ≡ work (take g.len b ++ or_nothing o) (g.from - 1) (g.to + k) note_exp → Tries b g (widen k (work_in b g) o) d (tried x true)
-unfolding widen maybe
-a_target b d g x k none e f = absurd (true≢false (sym e))
-a_target b d g x k (some y) e f = record { done = refl; work = f }
+pub a_target : (w : expansion.Work) (k : ℕ) (o : math.Option Text) → has o ≡ true
+    → widen k w o ≡ some (work (w.rom ++ or_nothing o) (w.from - 1) (w.to + k) note_exp)
+unfolding widen
+a_target w k none e = absurd (true≢false (sym e))
+a_target w k (some y) e = refl
 
 -- it takes the character before the span, and with none after it ends where the span did
-pub behind-there : (w : expansion.Work) (o : Option Text) → ((maybe (widen 0 w o) w (λ x. x)).from ≤ w.from) × ((maybe (widen 0 w o) w (λ x. x)).to ≡ w.to)
+pub behind-there : (w : expansion.Work) (o : math.Option Text) → ((maybe (widen 0 w o) w (λ x. x)).from ≤ w.from) × ((maybe (widen 0 w o) w (λ x. x)).to ≡ w.to)
 unfolding widen maybe
 behind-there w none = (omega arith, refl)
 behind-there w (some y) = (omega arith, add-zero w.to)
 
-or_first : {A : Type 0} (a b : Option A) → has a ≡ true → or_else a b ≡ a
+or_first : {A : Type 0} (a b : math.Option A) → has a ≡ true → or_else a b ≡ a
 or_first none b e = absurd (true≢false (sym e))
 or_first (some x) b e = refl
 
-or_second : {A : Type 0} (a b : Option A) → has a ≡ false → or_else a b ≡ b
+or_second : {A : Type 0} (a b : math.Option A) → has a ≡ false → or_else a b ≡ b
 or_second none b e = refl
 or_second (some x) b e = absurd (true≢false e)
 
@@ -106,18 +107,18 @@ module _ (rs : List Rule) (ks : List Class) (t : Text) (w : expansion.Work) {p :
     unfolding maybe pick
     not_before d = by-test d
 
-    put : (o : Option Text) → maybe (widen 0 w o) w (λ x. x) ≡ maybe o w (λ y. work (w.rom ++ y) (w.from - 1) w.to note_exp)
+    put : (o : math.Option Text) → maybe (widen 0 w o) w (λ x. x) ≡ maybe o w (λ y. work (w.rom ++ y) (w.from - 1) w.to note_exp)
     unfolding widen maybe
     put none = refl
     put (some y) = ap (λ (m : ℕ). work (w.rom ++ y) (w.from - 1) m note_exp) (add-zero w.to)
 
-    pub by_rule : before_by k p w.rom ≡ true → (o : Option Text) → o ≡ first_rule rs (prev t w.from ∷ [])
+    pub by_rule : before_by k p w.rom ≡ true → (o : math.Option Text) → o ≡ first_rule rs (prev t w.from ∷ [])
         → maybe (widen 0 w o) w (λ x. x) ≡ before rs ks t w
     unfolding pick
-    by_rule d o r = put o ∙ ap (λ (o : Option Text). maybe o w (λ y. work (w.rom ++ y) (w.from - 1) w.to note_exp)) r ∙ by-test d
+    by_rule d o r = put o ∙ ap (λ (o : math.Option Text). maybe o w (λ y. work (w.rom ++ y) (w.from - 1) w.to note_exp)) r ∙ by-test d
 
   -- The vowel around
-  abbrev longest : Bool → Option expansion.Work
+  abbrev longest : Bool → math.Option expansion.Work
   longest b = pick b (or_else (around_by rs t 3 w) (or_else (around_by rs t 2 w) (around_by rs t 1 w))) none
 
   by_frame : {b : Bool} → framed_by p w ≡ b → longest b ≡ around rs ks t w
@@ -142,30 +143,19 @@ module _ (rs : List Rule) (ks : List Class) (t : Text) (w : expansion.Work) {p :
       unfolding pick
       by_one h = sym (or_second (around_by rs t 2 w) _ h) ∙ sym (or_second (around_by rs t 3 w) _ g) ∙ by_frame d
 
--- The tests, one after another
-module _ (k : ℕ) (p : Bool) (w : Text) where
-  pub not_thai : (k ≡ script_thai → ⊥) → before_by k p w ≡ false
+-- what has no flag is neither
+module _ (p : Bool) (e : p ≡ false) where
+  pub unflagged_before : (k : ℕ) (w : Text) → before_by k p w ≡ false
   unfolding before_by
-  not_thai e = rw (ne_eqb k script_thai e)
+  unflagged_before k w = rw (e, and-false (eqb k script_thai))
 
-  pub unflagged_before : p ≡ false → before_by k p w ≡ false
-  unfolding before_by
-  unflagged_before e = rw (e, and-false (eqb k script_thai))
-
-  pub by_consonant : k ≡ script_thai → p ≡ true → consonants (first_of w) ≡ before_by k p w
-  unfolding before_by
-  by_consonant e f = sym (rw (eq-eqb k script_thai e, f) (sym (first_passes consonants no_consonant w)))
-
-module _ (p : Bool) (w : expansion.Work) where
-  pub unflagged_frame : p ≡ false → framed_by p w ≡ false
+  pub unflagged_frame : (w : expansion.Work) → framed_by p w ≡ false
   unfolding framed_by
-  unflagged_frame e = rw e (and-false (eqb (w.from + 1) w.to && all consonants w.rom))
+  unflagged_frame w = rw e (and-false (eqb (w.from + 1) w.to && all consonants w.rom))
 
-  pub not_one : (w.from + 1 ≡ w.to → ⊥) → framed_by p w ≡ false
-  unfolding framed_by
-  not_one e = rw (ne_eqb (w.from + 1) w.to e)
+-- the consonants are a set
+pub consonants_all : (w : Text) → all (member consonants_set) w ≡ all consonants w
+consonants_all w = all_as consonants_set consonants in_consonants w
 
-  module _ (e : w.from + 1 ≡ w.to) {b : Bool} (d : all (member consonants_set) w.rom ≡ b) where
-    pub one-framed : (b && p) ≡ framed_by p w
-    unfolding framed_by
-    one-framed = sym (rw (eq-eqb (w.from + 1) w.to e, sym (all_as consonants_set consonants in_consonants w.rom), d))
+pub consonant_first : (w : Text) → member consonants_set (get_or w 0 0) ≡ is consonants (head w)
+consonant_first w = in_consonants (get_or w 0 0) ∙ first_passes consonants no_consonant w

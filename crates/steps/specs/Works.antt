@@ -1,8 +1,9 @@
 -- What the expansion works on, as the definition has it, and its letters.
-use Rattle.std.specs.Prelude.{Bool, false, ◌&&◌, ◌||◌, List, [], ◌∷◌, reverse, ◌≡◌, ℕ, ◌+◌, eqb, get_or, take}
-use Rattle.std.proofs.Math.Option.{Option}
+use Rattle.std.specs.Prelude.{Bool, ◌&&◌, ◌||◌, Option, Some, None, List, [], ◌∷◌, reverse, ◌≡◌, ℕ, ◌+◌, ◌≤◌, eqb, get_or, take}
+use mathlib.Core.Option.{none, some}
+use mathlib.Core.Option as math
 use Rattle.base.specs.Pick.{pick}
-use Rattle.base.specs.Lists.{all, head, tail, has, is, maybe}
+use Rattle.base.specs.Lists.{all, head, tail, is}
 use Rattle.definition.specs.Texts.{Text, the_space, long_mark, vowels, consonants, last_is, without_last}
 use Rattle.definition.specs.Tables.{script_thai, script_hiragana, script_katakana}
 use Rattle.definition.specs.Expansion.{work}
@@ -10,7 +11,6 @@ use Rattle.definition.specs.Expansion as expansion
 use Rattle.rom.specs.Rom.{text, held, Clean}
 use Rattle.steps.specs.declared.Work.{Work}
 use Rattle.steps.specs.declared.Growing.{Growing}
-use Rattle.steps.specs.declared.Tried.{Tried}
 
 abbrev pub work_of : Work → expansion.Work
 work_of w = work (text w.rom) w.from w.to w.note
@@ -22,14 +22,15 @@ work_in b g = work (take g.len b) g.from g.to g.note
 abbrev pub Held : List ℕ → Growing → Type 0
 Held b g = Clean (held b g.len)
 
--- what came of a try: `o` is the definition's outcome, none where it was not done
-pub record Tries (before : List ℕ) (g : Growing) (o : Option expansion.Work) (after : List ℕ) (r : Tried) : Type 0 where
-  pub done : r.done ≡ has o
-  pub work : work_in after r.growing ≡ maybe o (work_in before g) (λ x. x)
+-- what came of a try, as the definition has it: the work in the array `b`, or none
+abbrev pub outcome : List ℕ → Option Growing → math.Option expansion.Work
+outcome b None = none
+outcome b (Some g) = some (work_in b g)
 
--- the array stayed as it was where it was not done
-abbrev pub Kept : List ℕ → List ℕ → Tried → Type 0
-Kept before after r = r.done ≡ false → after ≡ before
+-- what a try left in the array: a clean romanization of `most` bytes at most, and what was there where it was not done
+abbrev pub Left : ℕ → List ℕ → List ℕ → Option Growing → Type 0
+Left most before after None = after ≡ before
+Left most before after (Some g) = Held after g × (g.len ≤ most)
 
 -- the first letter of a text and the last, 0 where there is none
 abbrev pub first_of : Text → ℕ
@@ -38,9 +39,10 @@ first_of w = get_or w 0 0
 abbrev pub last_of : Text → ℕ
 last_of w = get_or (reverse w) 0 0
 
--- a letter as a text; 0 is none
-unfoldable pub letter_of : ℕ → Text
-letter_of b = pick (eqb b 0) [] (b ∷ [])
+-- a letter as a text, and none as the empty one
+unfoldable pub letter_of : Option ℕ → Text
+letter_of None = []
+letter_of (Some b) = b ∷ []
 
 -- the tests of the two Thai steps, by what is told of the character before the span
 unfoldable pub framed_by : Bool → expansion.Work → Bool

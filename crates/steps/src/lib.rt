@@ -12,10 +12,10 @@ ghost use Rattle.definition.specs.Expansion.{work, small_tsu, doubled, double, w
 ghost use Rattle.rom.specs.Rom.{rom, held, Clean};
 ghost use Rattle.words.specs.Given.{World, kinds, size_in, Prepared, Lined};
 ghost use Rattle.rule_choice.specs.Chosen.{chosen_means, Said};
-ghost use Rattle.steps.specs.Works.{work_in, Held, Tries, Kept, last_of, letter_of, framed_by, before_by, kana, long_by, front_of, back_of};
+ghost use Rattle.steps.specs.Works.{work_in, Held, outcome, Left, letter_of, framed_by, before_by, kana, long_by, front_of, back_of};
 
 use rom::Rom;
-use rule_choice::Chosen;
+use rule_choice::Target;
 
 // U+3063 and U+30C3, small tsu of the two, and U+0A71, addak, which double a consonant.
 const HIRAGANA_TSU: u32 = 0x3063;
@@ -33,7 +33,8 @@ const SPACE: u32 = 0x20;
 // U+30FC, the mark that lengthens a kana's vowel.
 const LONG_MARK: u32 = 0x30FC;
 
-// What the expansion makes: a romanization, its span, and its annotation, 0 while nothing was expanded.
+// What the expansion makes: a romanization, its span, and its annotation, 0 while nothing was expanded. It stays beside
+// `Growing`: the step at the public door gives its romanization by value (docs/DECISIONS.md, ticket 4), those inside don't.
 #[derive(Clone, Copy)]
 pub struct Work {
     pub rom: Rom,
@@ -51,52 +52,26 @@ pub struct Growing {
     pub note: u8,
 }
 
-// What came of a try: all as it was where it was not done.
-#[derive(Clone, Copy)]
-pub struct Tried {
-    pub growing: Growing,
-    pub done: bool,
-}
-
-// The last letter of a text; 0 where there is none.
-fn last(text: &[u8]) -> u32
-    ensures { result ≡ last_of text.now }
-{
-    let n = text.len();
-    if n == 0 {
-        return 0;
-    }
-    base::byte(text, n - 1)
-}
-
 // Small tsu, or addak.
+#[tactic(auto, unfolding(definition::specs::Expansion::small_tsu, definition::specs::Texts::among))]
 fn is_small_tsu(c: u32) -> bool
     ensures { result ≡ small_tsu c }
 {
-    if c == HIRAGANA_TSU {
-        return true;
-    }
-    if c == KATAKANA_TSU {
-        return true;
-    }
-    c == ADDAK
+    matches!(c, HIRAGANA_TSU | KATAKANA_TSU | ADDAK)
 }
 
-// The letter that doubles the first one after the character `c`: ch is doubled by t, after addak by c. 0 where none does.
-fn doubling_letter(c: u32, text: &[u8]) -> u8
+// The letter that doubles the first one after the character `c`, if one does: ch is doubled by t, after addak by c.
+fn doubling_letter(c: u32, text: &[u8]) -> Option<u8>
     ensures { letter_of result ≡ doubled c text.now }
 {
     if rom::starts_with(text, b"ch") {
-        if c == ADDAK {
-            return b'c';
-        }
-        return b't';
+        return Some(if c == ADDAK { b'c' } else { b't' });
     }
-    let letter = base::byte(text, 0);
-    if rom::is_in(rom::DOUBLING, letter) {
-        return letter as u8;
+    let letter = *text.first()?;
+    if rom::is_in(rom::DOUBLING, letter as u32) {
+        return Some(letter);
     }
-    0
+    None
 }
 
 // A letter put in front, over the character before the span.
@@ -109,8 +84,8 @@ fn put_front(bytes: &mut [u8], letter: u8, g: Growing) -> Growing
     Growing {
         len,
         from: g.from - 1,
-        to: g.to,
         note: edge::EXPANDED,
+        ..g
     }
 }
 
@@ -124,58 +99,52 @@ pub fn doubling(line: &[u32], o: usize, bytes: &mut [u8], g: Growing) -> Growing
         return g;
     }
     let c = words::number_at(line, o);
-    if is_small_tsu(c) {
-        let script = table_classes::script(words::kind_at(line, o));
-        if script == table_classes::script(words::kind_at(line, o + 1)) {
-            let letter = doubling_letter(c, &bytes[..g.len]);
-            if letter == 0 {
-                return g;
-            }
+    if is_small_tsu(c)
+        && table_classes::script(words::kind_at(line, o))
+            == table_classes::script(words::kind_at(line, o + 1))
+    {
+        if let Some(letter) = doubling_letter(c, &bytes[..g.len]) {
             return put_front(bytes, letter, g);
         }
-        return g;
     }
     g
 }
 
 // A target put behind, if there is one, over the character before the span and those after it up to `to`.
-fn put_behind(rules: &[u8], target: Chosen, bytes: &mut [u8], g: Growing, to: usize) -> Tried
+fn put_behind(
+    rules: &[u8],
+    target: Option<Target>,
+    bytes: &mut [u8],
+    g: Growing,
+    to: usize,
+) -> Option<Growing>
     requires { Said rules.now target × Held bytes.old g × (g.len + most_target ≤ most_bytes) × (0 < g.from) }
     ensures { ((k : ℕ) → to ≡ g.to + k
-        → Tries bytes.old g (widen k (work_in bytes.old g) (chosen_means rules.now target)) bytes.new result)
-        × Held bytes.new result.growing × (result.growing.len ≤ g.len + most_target) × Kept bytes.old bytes.new result }
+        → outcome bytes.new result ≡ widen k (work_in bytes.old g) (chosen_means rules.now target))
+        × Left (g.len + most_target) bytes.old bytes.new result }
 {
-    if rule_choice::is_told(target) {
-        let len = rom::put_behind(bytes, g.len, rule_choice::chosen_text(rules, target));
-        let growing = Growing {
-            len,
-            from: g.from - 1,
-            to,
-            note: edge::EXPANDED,
-        };
-        return Tried {
-            growing,
-            done: true,
-        };
+    if target.is_none() {
+        return None;
     }
-    Tried {
-        growing: g,
-        done: false,
-    }
+    let len = rom::put_behind(bytes, g.len, rule_choice::chosen_text(rules, target));
+    Some(Growing {
+        len,
+        from: g.from - 1,
+        to,
+        note: edge::EXPANDED,
+    })
 }
 
 // Is the span one character, spoken as consonants, after a character of class `kind` that is written before its consonant?
+// A class is a packed number, as the lent line holds it.
+#[tactic(auto, using(crate::proofs::Tries::consonants_all), unfolding(crate::specs::Works::framed_by))]
 fn is_framed(kind: u32, text: &[u8], g: Growing) -> bool
     requires { g.from < g.to }
     ensures { result ≡ framed_by (flagged (kind / 1024) 6) (work text.now g.from g.to g.note) }
 {
-    if g.from + 1 == g.to {
-        if rom::all_in(text, rom::CONSONANTS) {
-            return table_classes::class_flag(kind, table_classes::PRE);
-        }
-        return false;
-    }
-    false
+    g.from + 1 == g.to
+        && rom::all_in(text, rom::CONSONANTS)
+        && table_classes::class_flag(kind, table_classes::PRE)
 }
 
 // The first rule of the character before the span, an en dash and the `k` characters after the span, if there are so many.
@@ -186,80 +155,63 @@ fn around_by(
     bytes: &mut [u8],
     g: Growing,
     k: usize,
-) -> Tried
+) -> Option<Growing>
     requires { Prepared rules.now ready.now × Held bytes.old g × (g.len + most_target ≤ most_bytes)
         × (0 < g.from) × (g.from ≤ size_in line.now) × (g.to ≤ size_in line.now) × (1 ≤ k) × (k ≤ 3) }
     ensures { ((x : World) → Lined x line.now
-        → Tries bytes.old g (around_by (rules_of rules.now) x.text k (work_in bytes.old g)) bytes.new result)
-        × Held bytes.new result.growing × (result.growing.len ≤ g.len + most_target) × Kept bytes.old bytes.new result }
+        → outcome bytes.new result ≡ around_by (rules_of rules.now) x.text k (work_in bytes.old g))
+        × Left (g.len + most_target) bytes.old bytes.new result }
 {
     let to = g.to;
     let end = to + k;
     if words::text_len(line) < end {
-        return Tried {
-            growing: g,
-            done: false,
-        };
+        return None;
     }
     let vowel = words::number_at(line, g.from);
     let one = words::number_at(line, to + 1);
     let two = words::number_at(line, to + 2);
     let three = words::number_at(line, to + 3);
     let source = [vowel, EN_DASH, one, two, three];
-    let len = k + 2;
-    let target = rule_choice::romanization_by_first_rule(rules, ready, &source[..len]);
+    let target = rule_choice::romanization_by_first_rule(rules, ready, &source[..k + 2]);
     put_behind(rules, target, bytes, g, end)
 }
 
-// Thai pattern: a vowel written around its consonant, the longest first.
+// Thai pattern: a vowel written around its consonant, the longest first. Written out, the three tries are the definition's;
+// a loop over 3, 2 and 1 is no plainer.
 pub fn vowel_around(
     rules: &[u8],
     ready: &[u32],
     line: &[u32],
     bytes: &mut [u8],
     g: Growing,
-) -> Tried
+) -> Option<Growing>
     requires { Prepared rules.now ready.now × Held bytes.old g × (g.len + most_target ≤ most_bytes)
         × (g.from < g.to) × (g.to ≤ size_in line.now) }
     ensures { ((x : World) → Lined x line.now
-        → Tries bytes.old g (around (rules_of rules.now) (kinds x) x.text (work_in bytes.old g)) bytes.new result)
-        × Held bytes.new result.growing × (result.growing.len ≤ g.len + most_target) × Kept bytes.old bytes.new result }
+        → outcome bytes.new result ≡ around (rules_of rules.now) (kinds x) x.text (work_in bytes.old g))
+        × Left (g.len + most_target) bytes.old bytes.new result }
 {
     let from = g.from;
-    if from == 0 {
-        return Tried {
-            growing: g,
-            done: false,
-        };
+    if from == 0 || !is_framed(words::kind_at(line, from), &bytes[..g.len], g) {
+        return None;
     }
-    if is_framed(words::kind_at(line, from), &bytes[..g.len], g) {
-        let three = around_by(rules, ready, line, bytes, g, 3);
-        if three.done {
-            return three;
-        }
-        let two = around_by(rules, ready, line, bytes, g, 2);
-        if two.done {
-            return two;
-        }
-        return around_by(rules, ready, line, bytes, g, 1);
+    if let Some(three) = around_by(rules, ready, line, bytes, g, 3) {
+        return Some(three);
     }
-    Tried {
-        growing: g,
-        done: false,
+    if let Some(two) = around_by(rules, ready, line, bytes, g, 2) {
+        return Some(two);
     }
+    around_by(rules, ready, line, bytes, g, 1)
 }
 
 // Is a character of class `kind` Thai and written before its consonant, and does a text start with one?
+#[tactic(auto, using(crate::proofs::Tries::consonant_first), unfolding(crate::specs::Works::before_by))]
 fn is_before(kind: u32, text: &[u8]) -> bool
     ensures { result ≡ before_by (kind / 8 % 128) (flagged (kind / 1024) 6) text.now }
 {
-    if table_classes::script(kind) == table_classes::THAI {
-        if table_classes::class_flag(kind, table_classes::PRE) {
-            return rom::is_in(rom::CONSONANTS, base::byte(text, 0));
-        }
-        return false;
-    }
-    false
+    table_classes::script(kind) == table_classes::THAI
+        && table_classes::class_flag(kind, table_classes::PRE)
+        && rom::is_in(rom::CONSONANTS, base::byte(text, 0))
 }
 
 // Thai vowel that is written before its consonant and spoken behind it: what its first rule says is put behind.
@@ -277,39 +229,28 @@ pub fn vowel_before(
         × Held bytes.new result × (result.len ≤ g.len + most_target) × (result.from ≤ g.from) × (result.to ≡ g.to) }
 {
     let from = g.from;
-    if from == 0 {
+    if from == 0 || !is_before(words::kind_at(line, from), &bytes[..g.len]) {
         return g;
     }
-    if is_before(words::kind_at(line, from), &bytes[..g.len]) {
-        let vowel = words::number_at(line, from);
-        let target = rule_choice::romanization_by_first_rule(rules, ready, &[vowel]);
-        let tried = put_behind(rules, target, bytes, g, g.to);
-        return tried.growing;
-    }
-    g
+    let vowel = words::number_at(line, from);
+    let target = rule_choice::romanization_by_first_rule(rules, ready, &[vowel]);
+    put_behind(rules, target, bytes, g, g.to).unwrap_or(g)
 }
 
 // Hiragana or katakana.
+#[tactic(auto, unfolding(crate::specs::Works::kana))]
 fn is_kana(script: u32) -> bool
     ensures { result ≡ kana script }
 {
-    if script == table_classes::HIRAGANA {
-        return true;
-    }
-    script == table_classes::KATAKANA
+    matches!(script, table_classes::HIRAGANA | table_classes::KATAKANA)
 }
 
 // Does the character `c` lengthen a text: the long mark, after a kana and a vowel?
+#[tactic(auto, using(crate::proofs::Letters::vowel_last), unfolding(crate::specs::Works::long_by))]
 fn lengthens(c: u32, script: u32, text: &[u8]) -> bool
     ensures { result ≡ long_by c script text.now }
 {
-    if c == LONG_MARK {
-        if is_kana(script) {
-            return rom::is_in(rom::VOWELS, last(text));
-        }
-        return false;
-    }
-    false
+    c == LONG_MARK && is_kana(script) && rom::last_in(text, rom::VOWELS)
 }
 
 // The first `n` bytes without the space in front, where the character `c` before the span is one.
@@ -317,11 +258,8 @@ fn trim_front(bytes: &mut [u8], n: usize, c: u32) -> usize
     requires { Clean (held bytes.old n) }
     ensures { held bytes.new result ≡ rom (front_of c (take n bytes.old)) }
 {
-    if base::byte(&bytes[..n], 0) == SPACE {
-        if c == SPACE {
-            return rom::keep(bytes, n, 1, n);
-        }
-        return n;
+    if c == SPACE && 0 < n && bytes[0] == b' ' {
+        return rom::keep(bytes, n, 1, n);
     }
     n
 }
@@ -331,11 +269,8 @@ fn trim_back(bytes: &mut [u8], n: usize, there: bool) -> usize
     requires { Clean (held bytes.old n) }
     ensures { held bytes.new result ≡ rom (back_of there (take n bytes.old)) }
 {
-    if last(&bytes[..n]) == SPACE {
-        if there {
-            return rom::keep(bytes, n, 0, n - 1);
-        }
-        return n;
+    if there && 0 < n && bytes[n - 1] == b' ' {
+        return rom::keep(bytes, n, 0, n - 1);
     }
     n
 }
@@ -344,10 +279,7 @@ fn trim_back(bytes: &mut [u8], n: usize, there: bool) -> usize
 fn is_space_at(line: &[u32], p: usize) -> bool
     ensures { (x : World) → Lined x line.now → result ≡ stands x.text p the_space }
 {
-    if p < words::text_len(line) {
-        return words::number_at(line, p + 1) == SPACE;
-    }
-    false
+    p < words::text_len(line) && words::number_at(line, p + 1) == SPACE
 }
 
 // One space at each side goes, where the text has one there; its front counts as one.
@@ -358,12 +290,7 @@ fn trim(line: &[u32], bytes: &mut [u8], g: Growing) -> Growing
 {
     let front = trim_front(bytes, g.len, words::number_at(line, g.from));
     let len = trim_back(bytes, front, is_space_at(line, g.to));
-    Growing {
-        len,
-        from: g.from,
-        to: g.to,
-        note: g.note,
-    }
+    Growing { len, ..g }
 }
 
 // The last letter once more, over the mark after the span, up to `to`.
@@ -377,9 +304,9 @@ fn lengthen(bytes: &mut [u8], g: Growing, to: usize) -> Growing
     let len = rom::put_behind(bytes, g.len, &[letter]);
     Growing {
         len,
-        from: g.from,
         to,
         note: edge::EXPANDED,
+        ..g
     }
 }
 
@@ -397,10 +324,9 @@ pub fn ending(line: &[u32], bytes: &mut [u8], g: Growing) -> Growing
     }
     if table_classes::class_flag(words::kind_at(line, at), table_classes::VIRAMA) {
         return Growing {
-            len: g.len,
-            from: g.from,
             to: at,
             note: edge::EXPANDED,
+            ..g
         };
     }
     trim(line, bytes, g)

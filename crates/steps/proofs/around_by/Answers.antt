@@ -1,23 +1,17 @@
 -- `steps::around_by`: the rules of the pattern are those with one source, which the line's numbers are.
-use mathlib.Core.Path.{refl, sym}
+use mathlib.Core.Path.{refl, sym, ◌∙◌}
 use native.Mathlib.Omega.{arith}
 use Rattle.definition.specs.RuleRows.{rules_of}
 use Rattle.steps.specs.Works.{work_in}
 use Rattle.steps.proofs.Frames.{frame_past, frame_first}
-use Rattle.steps.proofs.Tries.{not_done, tries_as}
 use Rattle.words.specs.Given.{line-size}
 use Rattle.steps.proofs.around_by.Goals as goal
 
 pub returns-then-text_len-end : goal.returns-then-text_len-end
 returns-then-text_len-end c =
-    let b = c.args.bytes.now in
     let R = rules_of c.args.rules.now in (
-      (λ u h.
-          let e = frame_past h R c.args.k (work_in b c.args.g) (omega (arith, c.requires, line-size h)) (omega (arith, line-size h, c.text_len.ensures)) in
-          not_done b c.args.g _ e),
-      c.requires.1,
-      omega arith,
-      λ z. refl,
+      (λ u h. sym (frame_past h R c.args.k (work_in c.args.bytes.now c.args.g) (omega (arith, c.requires, line-size h)) (omega (arith, line-size h, c.text_len.ensures)))),
+      refl,
     )
 
 pub returns : goal.returns
@@ -32,8 +26,6 @@ returns c =
       (λ u h.
           let e = frame_first h R c.args.k (work_in c.args.bytes.now c.args.g) _ C X Y Z
           (omega (arith, c.requires, line-size h)) (omega (arith, c.requires, line-size h)) (omega (arith, c.requires, line-size h)) (omega (arith, I, line-size h, N)) c.romanization_by_first_rule-target.ensures.0 in
-          tries_as (sym e) (c.put_behind.ensures.0 c.args.k refl)),
+          c.put_behind.ensures.0 c.args.k refl ∙ sym e),
       c.put_behind.ensures.1,
-      c.put_behind.ensures.2,
-      c.put_behind.ensures.3,
     )

@@ -1,95 +1,80 @@
 -- `steps::vowel_around`: the first of three tries that was done; at the front of the text a space stands before, which has no flag.
-use mathlib.Core.Path.{refl, sym, ◌∙◌}
+use mathlib.Core.List.{List}
+use mathlib.Core.Path.{refl, sym, ap, ◌∙◌, subst}
+use Prim.Native.Nat.{ℕ, ◌+◌}
 use native.Mathlib.Omega.{arith}
 use Rattle.definition.specs.RuleRows.{rules_of}
+use Rattle.base.specs.Lists.{has}
+use Rattle.definition.specs.Limits.{most_target}
+use Rattle.definition.specs.Expansion.{around_by}
 use Rattle.rom.specs.Rom.{text-length, bytes-length}
-use Rattle.steps.specs.Works.{work_in}
+use Rattle.steps.specs.Works.{work_in, Left}
 use Rattle.words.specs.Characters.{flag_prev}
-use Rattle.steps.proofs.Tries.{not_done, tries_as, around_on, blank_pre, not_framed, unflagged_frame, by_three, by_two, by_one}
+use Rattle.steps.proofs.Tries.{on, blank_pre, not_framed, unflagged_frame, by_three, by_two, by_one}
 use Rattle.words.specs.Given.{kinds, line-size}
 use Rattle.steps.proofs.vowel_around.Goals as goal
-
-pub returns-then-from-eq0 : goal.returns-then-from-eq0
-returns-then-from-eq0 c =
-    let b = c.args.bytes.now in
-    let R = rules_of c.args.rules.now in (
-      (λ u h.
-          let f = unflagged_frame _ (work_in b c.args.g) (blank_pre u.classes h.fine u.text c.args.g.from (omega arith)) in
-          not_done b c.args.g _ (not_framed R (kinds u) u.text (work_in b c.args.g) refl f)),
-      c.requires.1,
-      omega arith,
-      λ z. refl,
-    )
+use Rattle.steps.proofs.vowel_around.Goals.{then-from-eq0-via-then-from-eq0, then-from-eq0-via-else-from-eq0+then-not-is_framed}
 
 pub slice_bounds-is_framed-end : goal.slice_bounds-is_framed-end
 slice_bounds-is_framed-end c =
     let p = c.requires.1 in
     omega (arith, bytes-length p, p.fits)
 
-pub slice_bounds-is_framed-end-2 : goal.slice_bounds-is_framed-end-2
-slice_bounds-is_framed-end-2 c = sym (text-length c.requires.1)
+pub slice_bounds-is_framed-end-else-from-eq0 : goal.slice_bounds-is_framed-end-else-from-eq0
+slice_bounds-is_framed-end-else-from-eq0 c = sym (text-length c.requires.1)
 
-pub returns-then-three : goal.returns-then-three
-returns-then-three c =
-    let K = c.kind_at.ensures in
-    let T = c.is_framed.ensures in
-    let I = c.if-is_framed.true in
+pub returns-then-from-eq0 : goal.returns-then-from-eq0
+returns-then-from-eq0 c =
+    let w = work_in c.args.bytes.now c.args.g in
     let R = rules_of c.args.rules.now in (
-      (λ u h.
-          let p = flag_prev h c.args.g.from (omega (arith, c.requires, line-size h)) K 6 (λ k. k.pre) (λ m k z. z.pre) refl in
-          let x = c.around_by-three.ensures.0 u h in
-          tries_as (by_three R (kinds u) u.text (work_in c.args.bytes.now c.args.g) p (sym T ∙ I) (sym x.done ∙ c.if-three.true)) x),
-      c.around_by-three.ensures.1,
-      c.around_by-three.ensures.2,
-      c.around_by-three.ensures.3,
+      (λ u h. elim c.then-from-eq0.branch [
+        | then-from-eq0-via-then-from-eq0 v ↦
+            sym (not_framed R (kinds u) u.text w refl (unflagged_frame _ (blank_pre u.classes h.fine u.text c.args.g.from v.if-from-eq0.true) w))
+        | then-from-eq0-via-else-from-eq0+then-not-is_framed v ↦
+            let p = flag_prev h c.args.g.from (omega (arith, c.requires, line-size h)) v.kind_at.ensures 6 (λ k. k.pre) (λ m k z. z.pre) refl in
+            sym (not_framed R (kinds u) u.text w p (sym v.is_framed.ensures ∙ v.if-not-is_framed.true))
+      ]),
+      refl,
     )
 
-pub returns-then-two : goal.returns-then-two
-returns-then-two c =
+pub returns-in-Some : goal.returns-in-Some
+returns-in-Some c =
     let K = c.kind_at.ensures in
-    let T = c.is_framed.ensures in
-    let I = c.if-is_framed.true in
-    let J = c.if-three.false in
-    let R = rules_of c.args.rules.now in (
+    let d = sym c.is_framed.ensures ∙ c.if-not-is_framed.false in
+    let X = c.in-Some.ensures in (
       (λ u h.
           let p = flag_prev h c.args.g.from (omega (arith, c.requires, line-size h)) K 6 (λ k. k.pre) (λ m k z. z.pre) refl in
-          let x = c.around_by-three.ensures.0 u h in
-          let y = around_on R u.text 2 (c.around_by-three.ensures.3 J) (c.around_by-two.ensures.0 u h) in
-          tries_as (by_two R (kinds u) u.text (work_in c.args.bytes.now c.args.g) p (sym T ∙ I) (sym x.done ∙ J) (sym y.done ∙ c.if-two.true)) y),
-      c.around_by-two.ensures.1,
-      c.around_by-two.ensures.2,
-      λ z. c.around_by-two.ensures.3 z ∙ c.around_by-three.ensures.3 J,
+          let x = X.0 u h in
+          x ∙ by_three (rules_of c.args.rules.now) (kinds u) u.text (work_in c.args.bytes.now c.args.g) p d (sym (ap has x))),
+      X.1,
     )
 
-pub returns-then-is_framed : goal.returns-then-is_framed
-returns-then-is_framed c =
+pub returns-in-Some-around_by : goal.returns-in-Some-around_by
+returns-in-Some-around_by c =
+    let R = rules_of c.args.rules.now in
     let K = c.kind_at.ensures in
-    let T = c.is_framed.ensures in
-    let I = c.if-is_framed.true in
-    let J = c.if-three.false in
-    let L = c.if-two.false in
-    let R = rules_of c.args.rules.now in (
+    let d = sym c.is_framed.ensures ∙ c.if-not-is_framed.false in
+    let X = c.in_default.ensures in
+    let Y = c.in-Some-around_by.ensures in (
       (λ u h.
           let p = flag_prev h c.args.g.from (omega (arith, c.requires, line-size h)) K 6 (λ k. k.pre) (λ m k z. z.pre) refl in
-          let x = c.around_by-three.ensures.0 u h in
-          let y = around_on R u.text 2 (c.around_by-three.ensures.3 J) (c.around_by-two.ensures.0 u h) in
-          tries_as (by_one R (kinds u) u.text (work_in c.args.bytes.now c.args.g) p (sym T ∙ I) (sym x.done ∙ J) (sym y.done ∙ L))
-          (around_on R u.text 1 (c.around_by-two.ensures.3 L ∙ c.around_by-three.ensures.3 J) (c.around_by.ensures.0 u h))),
-      c.around_by.ensures.1,
-      c.around_by.ensures.2,
-      λ z. c.around_by.ensures.3 z ∙ c.around_by-two.ensures.3 L ∙ c.around_by-three.ensures.3 J,
+          let y = on c.args.g (around_by R u.text 2) X.1 (Y.0 u h) in
+          y ∙ by_two R (kinds u) u.text (work_in c.args.bytes.now c.args.g) p d (sym (ap has (X.0 u h))) (sym (ap has y))),
+      Y.1,
     )
 
 pub returns : goal.returns
 returns c =
-    let b = c.args.bytes.now in
+    let R = rules_of c.args.rules.now in
     let K = c.kind_at.ensures in
-    let T = c.is_framed.ensures in
-    let R = rules_of c.args.rules.now in (
+    let d = sym c.is_framed.ensures ∙ c.if-not-is_framed.false in
+    let X = c.in_default.ensures in
+    let Y = c.in_default-around_by.ensures in
+    let kept = Y.1 ∙ X.1 in (
       (λ u h.
           let p = flag_prev h c.args.g.from (omega (arith, c.requires, line-size h)) K 6 (λ k. k.pre) (λ m k z. z.pre) refl in
-          not_done b c.args.g _ (not_framed R (kinds u) u.text (work_in b c.args.g) p (sym T ∙ c.if-is_framed.false))),
-      c.requires.1,
-      omega arith,
-      λ z. refl,
+          let y = on c.args.g (around_by R u.text 2) X.1 (Y.0 u h) in
+          on c.args.g (around_by R u.text 1) kept (c.around_by-3.ensures.0 u h)
+          ∙ by_one R (kinds u) u.text (work_in c.args.bytes.now c.args.g) p d (sym (ap has (X.0 u h))) (sym (ap has y))),
+      subst (λ (l : List ℕ). Left (c.args.g.len + most_target) l c.around_by-3.new.bytes c.around_by-3.result) kept c.around_by-3.ensures.1,
     )

@@ -1,76 +1,75 @@
 -- `steps::vowel_before`: one law for each way out; at the front of the text a space stands before, which has no flag.
 use mathlib.Core.List.{[], ◌∷◌}
-use mathlib.Core.Path.{refl, sym, ap, ◌∙◌}
+use mathlib.Core.Path.{refl, sym, ap, ◌∙◌, subst}
 use Prim.Native.Nat.{ℕ, ◌+◌, ◌≤◌}
 use native.Mathlib.Nat.{add-zero}
 use native.Mathlib.Omega.{arith}
-use lib.ListN.{take}
+use Rattle.definition.specs.Limits.{most_target}
 use Rattle.definition.specs.RuleRows.{rules_of}
 use Rattle.definition.specs.Rules.{first_rule}
 use Rattle.definition.specs.Expansion as expansion
 use Rattle.rom.specs.Rom.{text-length, bytes-length}
 use Rattle.rule_choice.specs.Chosen.{chosen_means}
-use Rattle.steps.specs.Works.{work_in}
+use Rattle.steps.specs.declared.Growing.{Growing}
+use Rattle.steps.specs.Works.{work_in, Held}
 use Rattle.words.specs.Characters.{script-prev, flag_prev}
-use Rattle.steps.proofs.Tries.{behind-there, blank_pre, not_before, by_rule, unflagged_before}
+use Rattle.steps.proofs.Tries.{behind-there, blank_pre, not_before, by_rule, unflagged_before, or_same, or-held}
 use Rattle.words.specs.Given.{kinds, size, line-size, char_before}
 use Rattle.steps.proofs.vowel_before.Goals as goal
-
-pub returns-then-from-eq0 : goal.returns-then-from-eq0
-returns-then-from-eq0 c =
-    let b = c.args.bytes.now in
-    let R = rules_of c.args.rules.now in (
-      (λ u h.
-          let f = unflagged_before _ _ (take c.args.g.len b) (blank_pre u.classes h.fine u.text c.args.g.from (omega arith)) in
-          not_before R (kinds u) u.text (work_in b c.args.g) refl refl f),
-      c.requires.1,
-      omega arith,
-      omega arith,
-      refl,
-    )
+use Rattle.steps.proofs.vowel_before.Goals.{then-from-eq0-via-then-from-eq0, then-from-eq0-via-else-from-eq0+then-not-is_before}
 
 pub slice_bounds-is_before-end : goal.slice_bounds-is_before-end
 slice_bounds-is_before-end c =
     let p = c.requires.1 in
     omega (arith, bytes-length p, p.fits)
 
-pub slice_bounds-is_before-end-2 : goal.slice_bounds-is_before-end-2
-slice_bounds-is_before-end-2 c = sym (text-length c.requires.1)
+pub slice_bounds-is_before-end-else-from-eq0 : goal.slice_bounds-is_before-end-else-from-eq0
+slice_bounds-is_before-end-else-from-eq0 c = sym (text-length c.requires.1)
 
-pub returns-then-is_before : goal.returns-then-is_before
-returns-then-is_before c =
+pub returns-then-from-eq0 : goal.returns-then-from-eq0
+returns-then-from-eq0 c =
+    let w = work_in c.args.bytes.now c.args.g in
+    let R = rules_of c.args.rules.now in (
+      (λ u h. elim c.then-from-eq0.branch [
+        | then-from-eq0-via-then-from-eq0 v ↦
+            not_before R (kinds u) u.text w refl refl (unflagged_before _ (blank_pre u.classes h.fine u.text c.args.g.from v.if-from-eq0.true) _ w.rom)
+        | then-from-eq0-via-else-from-eq0+then-not-is_before v ↦
+            let l : c.args.g.from ≤ size u + 2 = omega (arith, c.requires, line-size h) in
+            let p = flag_prev h c.args.g.from l v.kind_at.ensures 6 (λ k. k.pre) (λ m k z. z.pre) refl in
+            let q = script-prev h c.args.g.from l v.kind_at.ensures refl in
+            not_before R (kinds u) u.text w p q (sym v.is_before.ensures ∙ v.if-not-is_before.true)
+      ]),
+      c.requires.1,
+      omega arith,
+      omega arith,
+      refl,
+    )
+
+pub returns : goal.returns
+returns c =
+    let b = c.args.bytes.now in
+    let d = c.put_behind.new.bytes in
+    let m = c.args.g.len + most_target in
     let K = c.kind_at.ensures in
     let T = c.is_before.ensures in
-    let I = c.if-is_before.true in
+    let I = c.if-not-is_before.false in
     let C = c.number_at-vowel.ensures in
-    let z = sym (add-zero c.args.g.to) in
-    let w = work_in c.args.bytes.now c.args.g in
-    let H = behind-there w (chosen_means c.args.rules.now c.romanization_by_first_rule-target.result) in
-    let R = rules_of c.args.rules.now in (
+    let w = work_in b c.args.g in
+    let o = chosen_means c.args.rules.now c.romanization_by_first_rule-target.result in
+    let B = behind-there w o in
+    let R = rules_of c.args.rules.now in
+    let e = ap (λ (x : Growing). work_in d x) c.unwrap_or.ensures
+    ∙ or_same b d c.args.g m c.put_behind.result (c.put_behind.ensures.0 0 (sym (add-zero c.args.g.to))) c.put_behind.ensures.1 in
+    let held = subst (λ (x : Growing). Held d x × (x.len ≤ m)) (sym c.unwrap_or.ensures)
+    (or-held b d c.args.g m c.requires.1 (omega arith) c.put_behind.result c.put_behind.ensures.1) in (
       (λ u g.
           let h : c.args.g.from ≤ size u + 2 = omega (arith, c.requires, line-size g) in
           let p = flag_prev g c.args.g.from h K 6 (λ k. k.pre) (λ m k z. z.pre) refl in
           let q = script-prev g c.args.g.from h K refl in
           let r = c.romanization_by_first_rule-target.ensures.0 ∙ ap (λ (x : ℕ). first_rule R (x ∷ [])) (C ∙ char_before g c.args.g.from h) in
-          (c.put_behind-tried.ensures.0 0 z).work ∙ by_rule R (kinds u) u.text w p q (sym T ∙ I) (chosen_means c.args.rules.now c.romanization_by_first_rule-target.result) r),
-      c.put_behind-tried.ensures.1,
-      c.put_behind-tried.ensures.2,
-      omega (arith, ap (λ (y : expansion.Work). y.from) (c.put_behind-tried.ensures.0 0 z).work, H.0),
-      ap (λ (y : expansion.Work). y.to) (c.put_behind-tried.ensures.0 0 z).work ∙ H.1,
-    )
-
-pub returns : goal.returns
-returns c =
-    let K = c.kind_at.ensures in
-    let T = c.is_before.ensures in
-    let R = rules_of c.args.rules.now in (
-      (λ u g.
-          let h : c.args.g.from ≤ size u + 2 = omega (arith, c.requires, line-size g) in
-          let p = flag_prev g c.args.g.from h K 6 (λ k. k.pre) (λ m k z. z.pre) refl in
-          let q = script-prev g c.args.g.from h K refl in
-          not_before R (kinds u) u.text (work_in c.args.bytes.now c.args.g) p q (sym T ∙ c.if-is_before.false)),
-      c.requires.1,
-      omega arith,
-      omega arith,
-      refl,
+          e ∙ by_rule R (kinds u) u.text w p q (sym T ∙ I) o r),
+      held.0,
+      held.1,
+      omega (arith, ap (λ (y : expansion.Work). y.from) e, B.0),
+      ap (λ (y : expansion.Work). y.to) e ∙ B.1,
     )
