@@ -5,8 +5,8 @@ use mathlib.Core.Path.{◌≡◌, refl, sym, ap, ◌∙◌}
 use Prim.Native.Nat.{ℕ, suc, ◌+◌, ◌-◌, ◌≤◌, ◌<◌}
 use native.Mathlib.Omega.{arith}
 use lib.Dec.{eqb}
-use lib.ListN.{length, get_or, take, drop, drop_of_length-le}
-use lib.Seq.{take-nil, drop-cons}
+use lib.ListN.{length, get_or, take, drop, drop_of_length-le, length-drop}
+use lib.Seq.{take_all, drop-cons}
 use Rattle.base.specs.Lists.{put, keep, any, same}
 use Rattle.base.specs.ListLaws.{any_append}
 use Rattle.definition.specs.Texts.{Text}
@@ -18,28 +18,18 @@ use Rattle.definition.specs.Offers.{offers, all_offers}
 use Rattle.words.specs.Found.{Rows, none_in, one_in}
 use Rattle.offers.specs.Texts.{texts, holding}
 
--- of one row, from number `k` on and before `most`
-abbrev pub left_of : Text → List Text → ℕ → ℕ → Bool
-left_of w l most k = any (same w) (take (most - k) (drop k l))
-
-module _ (w : Text) (l : List Text) (most k : ℕ) where
-  pub left_over : length l ≤ k → false ≡ left_of w l most k
+-- of one row, from number `k` on
+module _ (w : Text) (l : List Text) (k : ℕ) where
+  pub looked-over : length l ≤ k → false ≡ any (same w) (drop k l)
   unfolding any
-  left_over h = sym (ap (λ m. any (same w) (take (most - k) m)) (drop_of_length-le l {i = k} h) ∙ ap (any (same w)) (take-nil (most - k)))
+  looked-over h = sym (ap (any (same w)) (drop_of_length-le l {i = k} h))
 
-  pub left-none : most ≤ k → false ≡ left_of w l most k
+  pub looked_on : k < length l → (t : Bool) → t ≡ same w (get_or l k []) → (t || any (same w) (drop (k + 1) l)) ≡ any (same w) (drop k l)
   unfolding any
-  left-none h = let e : most - k ≡ 0 = omega arith in sym (ap (λ n. any (same w) (take n (drop k l))) e)
-
-  pub left_turn : k < length l → k < most → (t : Bool) → t ≡ same w (get_or l k []) → (t || left_of w l most (k + 1)) ≡ left_of w l most k
-  unfolding any
-  left_turn h g t e =
-      let n : most - k ≡ suc (most - (k + 1)) = omega arith in
+  looked_on h t e =
       let m : suc k ≡ k + 1 = omega arith in
-      ap (λ (y : Bool). y || left_of w l most (k + 1)) e
-      ∙ sym (ap (λ n. any (same w) (take n (drop k l))) n
-      ∙ ap (λ q. any (same w) (take (suc (most - (k + 1))) q)) (drop-cons l k [] h)
-      ∙ ap (λ i. same w (get_or l k []) || any (same w) (take (most - (k + 1)) (drop i l))) m)
+      ap (λ (y : Bool). y || any (same w) (drop (k + 1) l)) e
+      ∙ sym (ap (any (same w)) (drop-cons l k [] h) ∙ ap (λ i. same w (get_or l k []) || any (same w) (drop i l)) m)
 
 -- of some rows whose rules hold
 module _ (w : Text) (b : Bool) (x : Edge) where
@@ -61,11 +51,12 @@ module _ (w : Text) (b : Bool) (x : Edge) where
 
     pub rows_turn : 0 < left → Rows R row left → (z : ℕ) → z ≡ rule_size (drop row R) → (t : Bool)
         → t ≡ (holds_at code start end (rule_of (drop row R)) && any (same w) (texts (offers b x (rule_of (drop row R)))))
-        → (t || among_all (holding code start end R (row + z) (left - 1))) ≡ among_all (holding code start end R row left)
+        → (m : ℕ) → left - 1 ≡ m → (t || among_all (holding code start end R (row + z) m)) ≡ among_all (holding code start end R row left)
     unfolding keep
-    rows_turn h k z q t e =
+    rows_turn h k z q t e m g =
         let r = rule_of (drop row R) in
-        ap (λ (y : Bool). y || among_all (holding code start end R (row + z) (left - 1))) e
+        ap (λ (n : ℕ). t || among_all (holding code start end R (row + z) n)) (sym g)
+        ∙ ap (λ (y : Bool). y || among_all (holding code start end R (row + z) (left - 1))) e
         ∙ ap (λ n. (holds_at code start end r && any (same w) (texts (offers b x r))) || among_all (holding code start end R (row + n) (left - 1))) q
         ∙ sym (ap (λ l. among_all (keep (holds_at code start end) l)) (one_in R row left h k)
         ∙ put_turn (holds_at code start end r) r (holding code start end R (row + rule_size (drop row R)) (left - 1)))
@@ -91,3 +82,17 @@ joined_same (x ∷ w) (y ∷ u) v h =
     and_assoc : (a b c : Bool) → ((a && b) && c) ≡ (a && (b && c))
     and_assoc true b c = refl
     and_assoc false b c = refl
+
+-- what follows the front is compared first
+pub joined_parts : (w u v : List ℕ) → length u ≤ length w → (t f : Bool)
+    → t ≡ same (take (length w - length u) (drop (length u) w)) v → f ≡ same (take (length u) w) u → (t && f) ≡ same w (u ++ v)
+joined_parts w u v h t f p q =
+    let n = length u in
+    ap (λ (y : Bool). y && f) (p ∙ ap (λ l. same l v) (take_all (length w - n) (drop n w) (omega (arith, length-drop n w))))
+    ∙ ap (λ (y : Bool). same (drop n w) v && y) q ∙ and_comm (same (drop n w) v) (same (take n w) u) ∙ joined_same w u v h
+  where
+    and_comm : (a b : Bool) → (a && b) ≡ (b && a)
+    and_comm true true = refl
+    and_comm true false = refl
+    and_comm false true = refl
+    and_comm false false = refl

@@ -3,20 +3,20 @@ use mathlib.Core.Bool.{Bool, true, false, ◌&&◌, ◌||◌, true≢false}
 use mathlib.Core.List.{List, [], ◌++◌, map, append-nil}
 use mathlib.Core.Option.{Option, none, some}
 use mathlib.Core.Path.{◌≡◌, refl, sym, ap, ◌∙◌, subst}
-use Prim.Native.Nat.{ℕ, ◌-◌, ◌≤◌, ◌<◌}
+use Prim.Native.Nat.{ℕ, ◌+◌, ◌≤◌, ◌<◌}
 use native.Mathlib.Omega.{arith}
-use lib.ListN.{length, get_or, take, drop, length-map, length-drop}
-use lib.Seq.{take_all}
+use lib.ListN.{length, get_or, take, drop, length-map, length-append}
 use borrow.Author.Tests.{eq-eqb, ne_eqb}
 use Rattle.base.specs.Pick.{pick}
 use Rattle.base.specs.Bools.{and_right}
 use Rattle.base.specs.Lists.{has, is, maybe, same}
 use Rattle.base.specs.Alls.{All, All_getD, Opt}
-use Rattle.definition.specs.Limits.{most_target}
+use Rattle.definition.specs.Limits.{most_target, most_alternative}
 use Rattle.definition.specs.Notes.{note_core, note_alt}
 use Rattle.definition.specs.Texts.{Text}
 use Rattle.definition.specs.Tables.{Rule}
 use Rattle.definition.specs.Utf8.{decoded}
+use Rattle.definition.specs.Places.{Placed}
 use Rattle.definition.specs.RuleRows.{rule_flag, target_bit, end_target_bit, target_at, end_target_at, text_of, text_where, rule_of}
 use Rattle.definition.specs.Edges.{Edge}
 use Rattle.definition.specs.Paths.{cored, other}
@@ -28,8 +28,11 @@ use Rattle.utf8.specs.Encodings.{TextBytes, low_bytes, low-decoded, same-decoded
 use Rattle.rule_row.specs.Others.{others}
 use Rattle.edge.specs.declared.Numbers.{Numbers}
 use Rattle.edge.specs.Slots.{edge_by}
+use Rattle.offers.specs.declared.Offer.{Offer}
+use Rattle.offers.specs.declared.Offer.TheVariants.{Alternative, EndTarget, Target}
 use Rattle.offers.specs.declared.Offers.{Offers}
-use Rattle.offers.specs.Texts.{offer_at, Spoken, Tells, count_of, is_reading, at_target, target-there, cored-is, by-other, by_reading, by_target, text_at, core-own, core-note}
+use Rattle.offers.specs.Parts.{Has, text_in, vowel_behind}
+use Rattle.offers.specs.Texts.{offer_at, Spoken, Tells, count_of, is_reading, Numbered, at-reading, text-short, at_target, target-there, cored-is, by-other, by_reading, by_target, text_at, core-own, core-note}
 
 -- An ASCII text against the bytes of another
 pub same_bytes : (w b : List ℕ) → All Low w → TextBytes b → same w (decoded b) ≡ same w b
@@ -174,6 +177,13 @@ module _ (s : List ℕ) where
       target = g ∙ sym (ap (λ t. has t && is (λ u. same u x.text) R.end_target) (target_none f));
     }
 
+-- An edge adds nothing to what is no alternative, or where the target is not its core
+pub nothing-behind : (o : Offers) (f : Offer) (core : ℕ) (b : List ℕ) → ((k : ℕ) → f ≡ Alternative k → o.cored ≡ false) → [] ≡ vowel_behind o f core b
+unfolding pick
+nothing-behind o (Alternative k) core b h = sym (ap (λ (z : Bool). pick z (drop core b) []) (h k refl))
+nothing-behind o EndTarget core b h = refl
+nothing-behind o Target core b h = refl
+
 -- The text of number `k`
 module _ (s : List ℕ) (y : Bool) (e : Numbers) (b : List ℕ) (o : Offers) (k : ℕ) (h : Tells y (edge_by e b) (rule_of s) o) (l : k < count_of o) where
   abbrev x : Edge
@@ -205,23 +215,17 @@ module _ (s : List ℕ) (y : Bool) (e : Numbers) (b : List ℕ) (o : Offers) (k 
   unfolding other rule_of
   text-other q = text_at h k d l ∙ ap (λ (c : Edge). c.text) (by-other h there k d q).1
 
-  pub text-plain : k < o.others → o.cored ≡ false → get_or (others s) k [] ≡ offer_at y x r k
-  unfolding pick
-  text-plain q z = sym
-      (text-other q ∙ ap (λ (z : Bool). get_or (others s) k [] ++ pick z (drop x.core x.text) []) (sym (cored-is h there) ∙ z)
-      ∙ append-nil (get_or (others s) k []))
-
   pub note-there : Spoken e b → o.cored ≡ true → e.note ≡ note_core
   note-there q z = core-note q (W s) (sym (cored-is h there) ∙ z)
 
-  pub text-cored : Spoken e b → k < o.others → o.cored ≡ true
-      → get_or (others s) k [] ++ take (length b - e.core) (drop e.core b) ≡ offer_at y x r k
-  unfolding pick edge_by
-  text-cored p q z =
-      let own = core-own p (note-there p z) in sym
-      (text-other q ∙ ap (λ (z : Bool). get_or (others s) k [] ++ pick z (drop e.core (decoded b)) []) (sym (cored-is h there) ∙ z)
-      ∙ ap (λ l. get_or (others s) k [] ++ drop e.core l) own
-      ∙ ap (λ l. get_or (others s) k [] ++ l) (sym (take_all (length b - e.core) (drop e.core b) (omega (arith, length-drop e.core b)))))
+  -- its vowel is of its own bytes
+  vowel-own : Spoken e b → edge_vowel x (W s) ≡ pick o.cored (drop e.core b) []
+  unfolding edge_by
+  vowel-own p = ap (λ (z : Bool). pick z (drop e.core (decoded b)) []) (sym (cored-is h there)) ∙ go o.cored refl
+    where
+      go : (z : Bool) → o.cored ≡ z → pick z (drop e.core (decoded b)) [] ≡ pick z (drop e.core b) []
+      go true z = unfold pick in ap (drop e.core) (core-own p (note-there p z))
+      go false z = unfold pick in refl
 
   -- behind the alternatives the end target, where it is offered
   pub end_flag_there : o.reading ≡ true → rule_flag s end_target_bit ≡ true
@@ -241,3 +245,26 @@ module _ (s : List ℕ) (y : Bool) (e : Numbers) (b : List ℕ) (o : Offers) (k 
   pub text-target : o.others ≤ k → is_reading o k ≡ false → W s ≡ offer_at y x r k
   unfolding other
   text-target q n = sym (text_at h k d l ∙ ap (λ (c : Edge). c.text) (by_target h there k d (at_target o k q n l) l))
+
+  -- So the row has it, the edge's core lies in its text, and the text and what is behind it are what is offered
+  pub has-it : Placed s → (f : Offer) → Numbered o k f → Has s f
+  has-it p (Alternative j) q = record { placed = p; there = subst (λ n. n < length (others s)) (sym q.0) (other-there q.1) }
+  has-it p EndTarget q = (p, end_flag_there (at-reading o k q.1).1)
+  has-it p Target q = (p, flag_there)
+
+  pub core-inside : Spoken e b → o.cored ≡ true → e.core ≤ length b
+  core-inside p z = (p.core (note-there p z)).1
+
+  pub parts-are : Spoken e b → (f : Offer) → Numbered o k f → text_in s f ++ vowel_behind o f e.core b ≡ offer_at y x r k
+  parts-are p (Alternative j) q =
+      ap (λ n. get_or (others s) n [] ++ pick o.cored (drop e.core b) []) q.0
+      ∙ sym (text-other q.1 ∙ ap (λ l. get_or (others s) k [] ++ l) (vowel-own p))
+  parts-are p EndTarget q = let z = at-reading o k q.1 in append-nil (U s) ∙ text-reading z.0 z.1
+  parts-are p Target q = append-nil (W s) ∙ text-target q.0 q.1
+
+  pub parts-fit : Spoken e b → Worded r → (f : Offer) → Numbered o k f
+      → length (text_in s f) + length (vowel_behind o f e.core b) ≤ most_alternative
+  parts-fit p w f q =
+      let z = ap length (parts-are p f q) in
+      let n = (text-short p w y k).long in
+      omega (arith, z, n, length-append (text_in s f) (vowel_behind o f e.core b))

@@ -31,6 +31,8 @@ use Rattle.utf8.specs.Encodings.{TextBytes, low-decoded}
 use Rattle.edge.specs.declared.Numbers.{Numbers}
 use Rattle.edge.specs.Slots.{edge_by}
 use Rattle.words.specs.Found.{rules_in}
+use Rattle.offers.specs.declared.Offer.{Offer}
+use Rattle.offers.specs.declared.Offer.TheVariants.{Alternative, EndTarget, Target}
 use Rattle.offers.specs.declared.Offers.{Offers}
 
 -- the texts of some edges
@@ -74,17 +76,22 @@ is_reading o k = o.reading && eqb k o.others
 unfoldable pub note_at : Offers → ℕ → ℕ
 note_at o k = pick (ltb k o.others) note_alt (pick (is_reading o k) note_alt2 note_alt3)
 
-pub alt-note : (o : Offers) (k : ℕ) → k < o.others → note_alt ≡ note_at o k
-unfolding note_at pick
-alt-note o k h = sym (rw (lt-ltb k o.others h))
+-- text number `k` is an alternative, the end target or the target; and the annotation by that
+abbrev pub Numbered : Offers → ℕ → Offer → Type 0
+Numbered o k (Alternative j) = (j ≡ k) × (k < o.others)
+Numbered o k EndTarget = (o.others ≤ k) × (is_reading o k ≡ true)
+Numbered o k Target = (o.others ≤ k) × (is_reading o k ≡ false)
 
-pub alt2_note : (o : Offers) (k : ℕ) → o.others ≤ k → is_reading o k ≡ true → note_alt2 ≡ note_at o k
-unfolding note_at pick
-alt2_note o k h e = sym (rw (le-ltb k o.others h, e))
+abbrev pub note_of : Offer → ℕ
+note_of (Alternative j) = note_alt
+note_of EndTarget = note_alt2
+note_of Target = note_alt3
 
-pub alt3-note : (o : Offers) (k : ℕ) → o.others ≤ k → is_reading o k ≡ false → note_alt3 ≡ note_at o k
+pub note-is : (o : Offers) (k : ℕ) (f : Offer) → Numbered o k f → note_of f ≡ note_at o k
 unfolding note_at pick
-alt3-note o k h e = sym (rw (le-ltb k o.others h, e))
+note-is o k (Alternative j) h = sym (rw (lt-ltb k o.others h.1))
+note-is o k EndTarget h = sym (rw (le-ltb k o.others h.0, h.1))
+note-is o k Target h = sym (rw (le-ltb k o.others h.0, h.1))
 
 pub at-reading : (o : Offers) (k : ℕ) → is_reading o k ≡ true → (k ≡ o.others) × (o.reading ≡ true)
 at-reading o k z = (eqb-true k o.others (and_right o.reading _ z), and_left o.reading _ z)
@@ -312,12 +319,12 @@ module _ {b : Bool} {x : Edge} {r : Rule} {o : Offers} (h : Tells b x r o) where
           (p ∙ ap (other x n) (sym (text_at k d l ∙ ap (λ (c : Edge). c.text) p)) ∙ ap (λ m. other x m (offer_at b x r k)) q)
 
       go : Dec (k < o.others) → (c : Bool) → is_reading o k ≡ c → get_or (offers b x r) k d ≡ other x (note_at o k) (offer_at b x r k)
-      go (yes z) c e = by note_alt _ (by-other there.1 k d z).1 (alt-note o k z)
+      go (yes z) c e = by note_alt _ (by-other there.1 k d z).1 (note-is o k (Alternative k) (refl, z))
       go (no z) true e =
           let q = at-reading o k e in
           let p = by_reading there.1 k d q.0 q.1 in
-          by note_alt2 p.0 p.2 (alt2_note o k (omega arith) e)
-      go (no z) false e = by note_alt3 there.0 (by_target there.1 k d (at_target o k (omega arith) e l) l) (alt3-note o k (omega arith) e)
+          by note_alt2 p.0 p.2 (note-is o k EndTarget (omega arith, e))
+      go (no z) false e = by note_alt3 there.0 (by_target there.1 k d (at_target o k (omega arith) e l) l) (note-is o k Target (omega arith, e))
 
 -- Each has 204 bytes at most
 abbrev pub Brief : Edge → Type 0

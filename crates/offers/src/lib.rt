@@ -2,7 +2,7 @@
 // Nothing is kept of what was found: whether an alternative is new is asked again of the rows before it.
 #![tactic(auto)]
 
-ghost use Rattle.std.specs.Prelude.{Bool, ◌&&◌, ◌++◌, ◌≡◌, ◌≤◌, ◌<◌, length, take, drop};
+ghost use Rattle.std.specs.Prelude.{Bool, true, ◌&&◌, ◌++◌, ◌≡◌, ◌≤◌, ◌<◌, length, take, drop};
 ghost use Rattle.base.specs.Lists.{any, has, is, same};
 ghost use Rattle.definition.specs.Limits.{most_alternative};
 ghost use Rattle.definition.specs.RuleRows.{rule_of};
@@ -14,7 +14,8 @@ ghost use Rattle.utf8.specs.Encodings.{TextBytes};
 ghost use Rattle.lent_bytes.specs.Puts.{put_at};
 ghost use Rattle.edge.specs.Slots.{edge_by};
 ghost use Rattle.words.specs.Found.{Row, Rows};
-ghost use Rattle.offers.specs.Texts.{texts, offer_at, Spoken, Tells, TellsEither, most_others, most_offers, count_of, is_reading, offering, holding};
+ghost use Rattle.offers.specs.Texts.{texts, offer_at, Spoken, Tells, TellsEither, most_others, most_offers, count_of, Numbered, note_of, offering, holding};
+ghost use Rattle.offers.specs.Parts.{Has, text_in, vowel_behind};
 
 use edge::Numbers;
 
@@ -44,14 +45,56 @@ pub struct Offers {
     pub target: bool,
 }
 
+// One of the texts that a row offers: an alternative, by its number; its end-of-syllable target; or its target.
+#[derive(Clone, Copy)]
+pub enum Offer {
+    Alternative(usize),
+    EndTarget,
+    Target,
+}
+
+impl Offers {
+    // How many texts a row offers.
+    #[tactic(auto, unfolding(crate::specs::Texts::count_of, base::specs::Pick::pick))]
+    pub fn count(self) -> usize
+        requires { self.others ≤ most_others }
+        ensures { result ≡ count_of self }
+    {
+        self.others + (usize::from(self.reading) + usize::from(self.target))
+    }
+
+    // Text number `k` of them: the end-of-syllable target comes after the alternatives, and the target last.
+    pub fn offer(self, k: usize) -> Offer
+        ensures { Numbered self k result }
+    {
+        if k < self.others {
+            Offer::Alternative(k)
+        } else if self.reading && k == self.others {
+            Offer::EndTarget
+        } else {
+            Offer::Target
+        }
+    }
+}
+
+impl Offer {
+    // The annotation of an edge with this text.
+    pub fn note(self) -> u8
+        ensures { result ≡ note_of self }
+    {
+        match self {
+            Offer::Alternative(_) => edge::ALT,
+            Offer::EndTarget => edge::ALT2,
+            Offer::Target => edge::ALT3,
+        }
+    }
+}
+
 // May a row offer anything: has it an end-of-syllable target, or alternatives? Most have neither, and are not looked into.
 pub fn may_offer(rules: &[u8], row: usize) -> bool
     ensures { result ≡ offering (rule_of (drop row rules.now)) }
 {
-    if rule_row::flag(rules, row, rule_row::END_TARGET_BIT) {
-        return true;
-    }
-    0 < rule_row::others_count(rules, row)
+    rule_row::flag(rules, row, rule_row::END_TARGET_BIT) || 0 < rule_row::others_count(rules, row)
 }
 
 // Is a target the core of an edge?
@@ -59,10 +102,7 @@ fn is_core(e: Numbers, text: &[u8], w: &[u8]) -> bool
     requires { Spoken e text.now }
     ensures { result ≡ cored (edge_by e text.now) w.now }
 {
-    if e.note != edge::CORE {
-        return false;
-    }
-    lent_bytes::same(w, lent_bytes::part(text, 0, e.core as usize))
+    e.note == edge::CORE && w == &text[..e.core as usize]
 }
 
 // Is the row's end-of-syllable target the edge's text?
@@ -70,20 +110,15 @@ fn is_at_end(rules: &[u8], row: usize, text: &[u8]) -> bool
     requires { Row (drop row rules.now) × TextBytes text.now }
     ensures { result ≡ is (λ u. same u (decoded text.now)) (rule_of (drop row rules.now)).end_target }
 {
-    if rule_row::flag(rules, row, rule_row::END_TARGET_BIT) {
-        return lent_bytes::same(rule_row::end_target_text(rules, row), text);
-    }
-    false
+    rule_row::flag(rules, row, rule_row::END_TARGET_BIT)
+        && rule_row::end_target_text(rules, row) == text
 }
 
 // Are readings chosen, and has the row an end-of-syllable target?
 fn is_read(rules: &[u8], row: usize, readings: bool) -> bool
     ensures { result ≡ (readings && has (rule_of (drop row rules.now)).end_target) }
 {
-    if readings {
-        return rule_row::flag(rules, row, rule_row::END_TARGET_BIT);
-    }
-    false
+    readings && rule_row::flag(rules, row, rule_row::END_TARGET_BIT)
 }
 
 // What a row offers: its alternatives where its target is the edge's text, or its core; its end-of-syllable target only where
@@ -92,73 +127,57 @@ pub fn offers_of(rules: &[u8], row: usize, readings: bool, e: Numbers, text: &[u
     requires { Row (drop row rules.now) × Spoken e text.now }
     ensures { Tells readings (edge_by e text.now) (rule_of (drop row rules.now)) result × (result.others ≤ most_others) }
 {
-    if rule_row::flag(rules, row, rule_row::TARGET_BIT) {
-        let w = rule_row::target_text(rules, row);
-        let target = is_at_end(rules, row, text);
-        let cored = is_core(e, text, w);
-        if lent_bytes::same(w, text) {
-            let others = rule_row::others_count(rules, row);
-            let reading = is_read(rules, row, readings);
-            return Offers {
-                others,
-                cored,
-                reading,
-                target,
-            };
-        }
-        if cored {
-            let others = rule_row::others_count(rules, row);
-            return Offers {
-                others,
-                cored,
-                reading: false,
-                target,
-            };
-        }
+    if !rule_row::flag(rules, row, rule_row::TARGET_BIT) {
         return Offers {
             others: 0,
-            cored,
+            cored: false,
             reading: false,
-            target,
+            target: false,
         };
     }
+    let w = rule_row::target_text(rules, row);
+    let whole = w == text;
+    let cored = is_core(e, text, w);
+    let taken = whole || cored;
+    let others = if taken {
+        rule_row::others_count(rules, row)
+    } else {
+        0
+    };
+    let reading = whole && is_read(rules, row, readings);
+    let target = is_at_end(rules, row, text);
     Offers {
-        others: 0,
-        cored: false,
-        reading: false,
-        target: false,
+        others,
+        cored,
+        reading,
+        target,
     }
 }
 
-// How many texts a row offers.
-pub fn offers_count(o: Offers) -> usize
-    requires { o.others ≤ most_others }
-    ensures { result ≡ count_of o }
+// The text of an offer as it stands in the row.
+fn text_in<'a>(rules: &'a [u8], row: usize, offer: Offer) -> &'a [u8]
+    requires { Has (drop row rules.now) offer }
+    ensures { result.now ≡ text_in (drop row rules.now) offer }
 {
-    if o.reading {
-        if o.target {
-            return o.others + 2;
-        }
-        return o.others + 1;
+    match offer {
+        Offer::Alternative(k) => rule_row::other_text(rules, row, k),
+        Offer::EndTarget => rule_row::end_target_text(rules, row),
+        Offer::Target => rule_row::target_text(rules, row),
     }
-    if o.target {
-        return o.others + 1;
-    }
-    o.others
 }
 
-// Is text number `k` of what a row offers its end-of-syllable target? That one comes after the alternatives.
-pub fn is_reading(o: Offers, k: usize) -> bool
-    ensures { result ≡ is_reading o k }
+// What the edge adds behind it: its vowel behind an alternative, where the row's target is its core.
+fn vowel_behind<'a>(o: Offers, offer: Offer, e: Numbers, text: &'a [u8]) -> &'a [u8]
+    requires { o.cored ≡ true → e.core ≤ length text.now }
+    ensures { result.now ≡ vowel_behind o offer e.core text.now }
 {
-    if o.reading {
-        return k == o.others;
+    match offer {
+        Offer::Alternative(_) if o.cored => &text[e.core as usize..],
+        _ => &[],
     }
-    false
 }
 
-// Puts text number `k` of what a row offers to the front, and tells its length: an alternative, with the edge's vowel where the
-// target is its core; the end-of-syllable target; or the target.
+// Puts text number `k` of what a row offers to the front, and tells its length.
 pub fn put_offer(
     bytes: &mut [u8],
     rules: &[u8],
@@ -174,26 +193,13 @@ pub fn put_offer(
         → (bytes.new ≡ put_at 0 (offer_at b (edge_by e text.now) (rule_of (drop row rules.now)) k) bytes.old)
         × (result ≡ length (offer_at b (edge_by e text.now) (rule_of (drop row rules.now)) k)) × (result ≤ most_alternative) }
 {
-    if k < o.others {
-        let w = rule_row::other_text(rules, row, k);
-        let len = w.len();
-        lent_bytes::put_text(bytes, w);
-        if o.cored {
-            let core = e.core as usize;
-            let vowel = lent_bytes::part(text, core, text.len() - core);
-            lent_bytes::put_at(bytes, len, vowel);
-            return len + vowel.len();
-        }
-        return len;
-    }
-    if is_reading(o, k) {
-        let u = rule_row::end_target_text(rules, row);
-        lent_bytes::put_text(bytes, u);
-        return u.len();
-    }
-    let w = rule_row::target_text(rules, row);
-    lent_bytes::put_text(bytes, w);
-    w.len()
+    let offer = o.offer(k);
+    let w = text_in(rules, row, offer);
+    let vowel = vowel_behind(o, offer, e, text);
+    let len = w.len();
+    lent_bytes::put_at(bytes, 0, w);
+    lent_bytes::put_at(bytes, len, vowel);
+    len + vowel.len()
 }
 
 // Is a text another with a third behind it?
@@ -204,10 +210,7 @@ fn is_joined(w: &[u8], u: &[u8], v: &[u8]) -> bool
     if w.len() < n {
         return false;
     }
-    if lent_bytes::same(lent_bytes::part(w, 0, n), u) {
-        return lent_bytes::same(lent_bytes::part(w, n, w.len() - n), v);
-    }
-    false
+    &w[n..] == v && &w[..n] == u
 }
 
 // Is a text number `k` of what a row offers? It is compared where it stands.
@@ -225,19 +228,10 @@ fn is_offer(
     ensures { (b : Bool) → Tells b (edge_by e text.now) (rule_of (drop row rules.now)) o
         → result ≡ same w.now (offer_at b (edge_by e text.now) (rule_of (drop row rules.now)) k) }
 {
-    if k < o.others {
-        let u = rule_row::other_text(rules, row, k);
-        if o.cored {
-            let core = e.core as usize;
-            let vowel = lent_bytes::part(text, core, text.len() - core);
-            return is_joined(w, u, vowel);
-        }
-        return lent_bytes::same(w, u);
-    }
-    if is_reading(o, k) {
-        return lent_bytes::same(w, rule_row::end_target_text(rules, row));
-    }
-    lent_bytes::same(w, rule_row::target_text(rules, row))
+    let offer = o.offer(k);
+    let u = text_in(rules, row, offer);
+    let vowel = vowel_behind(o, offer, e, text);
+    is_joined(w, u, vowel)
 }
 
 // Is a text among the first `most` that a row offers?
@@ -255,16 +249,10 @@ pub fn row_offers(
         × (length (texts (offers readings (edge_by e text.now) (rule_of (drop row rules.now)))) ≤ most_offers) }
 {
     let o = offers_of(rules, row, readings, e, text);
-    let n = offers_count(o);
-    let mut k: usize = 0;
-    while k < n {
-        if most <= k {
-            return false;
-        }
+    for k in 0..o.count().min(most) {
         if is_offer(rules, row, o, e, text, k, w) {
             return true;
         }
-        k += 1;
     }
     false
 }
@@ -283,10 +271,8 @@ fn holding_row_offers(
     ensures { result ≡ (holds_at code.now asked.start asked.end (rule_of (drop row rules.now))
         && any (same w.now) (texts (offers asked.readings (edge_by e text.now) (rule_of (drop row rules.now))))) }
 {
-    if rule_choice::holds(rules, code, row, asked.start, asked.end) {
-        return row_offers(rules, row, asked.readings, e, text, MOST_OFFERS, w);
-    }
-    false
+    rule_choice::holds(rules, code, row, asked.start, asked.end)
+        && row_offers(rules, row, asked.readings, e, text, MOST_OFFERS, w)
 }
 
 // Is a text among all that some rows offer whose rules hold?
@@ -304,13 +290,11 @@ pub fn rows_offer(
         (holding code.now asked.start asked.end rules.now asked.first rows))) }
 {
     let mut row = asked.first;
-    let mut left = rows;
-    while 0 < left {
+    for _ in 0..rows {
         if holding_row_offers(rules, code, asked, row, e, text, w) {
             return true;
         }
         row += rule_row::size(rules, row);
-        left -= 1;
     }
     false
 }

@@ -13,11 +13,11 @@ pub returns-then-flag : goal.returns-then-flag
 unfolding offering
 returns-then-flag c =
     let s = drop c.args.row c.args.rules.now in
-    sym (ap (λ (b : Bool). b || ltb 0 (length (rule_of s).others)) (end-has s ∙ sym c.flag.ensures ∙ c.if-flag.true))
+    c.if-flag.true ∙ sym (ap (λ (b : Bool). b || ltb 0 (length (rule_of s).others)) (end-has s ∙ sym c.flag.ensures ∙ c.if-flag.true))
 
-pub returns : goal.returns
+pub returns-else-flag : goal.returns-else-flag
 unfolding offering
-returns c =
+returns-else-flag c =
     let s = drop c.args.row c.args.rules.now in
     ap (λ (n : ℕ). ltb 0 n) (c.others_count.ensures.0 ∙ ap length (sym (others_are s)))
     ∙ sym (ap (λ (b : Bool). b || ltb 0 (length (rule_of s).others)) (end-has s ∙ sym c.flag.ensures ∙ c.if-flag.false))
