@@ -1,4 +1,3 @@
--- The cases of the three forms, the form that is made, and a base before the Khmer yo
+-- The cases of the three forms, and the form that is made
 pub mod Cases
 pub mod Shaping
-pub mod Yo

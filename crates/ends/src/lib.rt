@@ -1,7 +1,7 @@
 // What the vowel step asks of a romanization's bytes: where its two patterns lie, as positions, and the form chosen by them.
 #![tactic(auto)]
 
-ghost use Rattle.std.specs.Prelude.{◌≡◌, [], ◌∷◌, ◌+◌, ◌≤◌, eqb, length, take};
+ghost use Rattle.std.specs.Prelude.{◌≡◌, ℕ, Bool, [], ◌∷◌, ◌+◌, ◌<◌, ◌≤◌, eqb, length, take};
 ghost use Rattle.std.proofs.Math.Seq.{slice};
 ghost use Rattle.base.specs.Lists.{any};
 ghost use Rattle.definition.specs.Limits.{most_bytes};
@@ -35,41 +35,19 @@ pub enum Which {
 fn is_inherent(ao: bool, c: u32) -> bool
     ensures { result ≡ inherent ao c }
 {
-    if c == 97 {
-        return true;
-    }
-    if ao {
-        return c == 111;
-    }
-    false
+    c == 97 || ao && c == 111
 }
 
-// Where the run of a letter before `to` starts.
-fn letter_from(s: &[u8], letter: u32, to: usize) -> usize
-    requires { to ≤ length s.now }
-    ensures { (result ≡ run (eqb letter) s.now to) × (result ≤ to) }
+// Where the run of the characters that pass a test starts which ends before `to`.
+fn run_from<F: Fn(u32) -> bool>(s: &[u8], to: usize, passes: F) -> usize
+    requires callable { F.IsAlwaysCallable passes }
+    requires within { to ≤ length s.now }
+    ensures run { (q : ℕ → Bool) → ((c : ℕ) (b : Bool) → c < 256 → F.post passes c b → b ≡ q c) → result ≡ run q s.now to }
+    ensures within { result ≤ to }
 {
-    let mut p = to;
-    while 0 < p {
-        if base::byte(s, p - 1) != letter {
-            return p;
-        }
-        p -= 1;
-    }
-    0
-}
-
-// Where the run of consonants before `to` starts.
-fn consonants_from(s: &[u8], to: usize) -> usize
-    requires { to ≤ length s.now }
-    ensures { (result ≡ run consonants s.now to) × (result ≤ to) }
-{
-    let mut from = to;
-    while 0 < from {
-        if rom::is_in(rom::CONSONANTS, base::byte(s, from - 1)) {
-            from -= 1;
-        } else {
-            return from;
+    for at in (0..to).rev() {
+        if !passes(base::byte(s, at)) {
+            return at + 1;
         }
     }
     0
@@ -80,10 +58,7 @@ fn base_with_y_from(s: &[u8], to: usize) -> usize
     requires { to ≤ length s.now }
     ensures { (result ≡ y_from s.now to) × (result ≤ to) }
 {
-    if to == 0 {
-        return to;
-    }
-    if base::byte(s, to - 1) != 121 {
+    if to == 0 || base::byte(s, to - 1) != 121 {
         return to;
     }
     if to == 1 {
@@ -100,10 +75,7 @@ fn stem(s: &[u8]) -> usize
     ensures { (result ≡ stem s.now) × (result ≤ length s.now) }
 {
     let n = s.len();
-    if n == 0 {
-        return n;
-    }
-    if base::byte(s, n - 1) == 45 {
+    if 0 < n && base::byte(s, n - 1) == 45 {
         return n - 1;
     }
     n
@@ -115,12 +87,8 @@ fn kept(s: &[u8], one: bool, end: usize) -> usize
     ensures { (result ≡ kept one s.now) × (result ≤ length s.now) }
 {
     let n = s.len();
-    if end < n {
-        if one {
-            if table_blocks::latin(base::byte(s, 0)) {
-                return end;
-            }
-        }
+    if end < n && one && table_blocks::latin(base::byte(s, 0)) {
+        return end;
     }
     n
 }
@@ -151,7 +119,7 @@ pub fn bases(s: &[u8], ao: bool, one: bool) -> Forms
     let at = end - 1;
     let v = base::byte(s, at);
     if is_inherent(ao, v) {
-        let to = letter_from(s, v, end);
+        let to = run_from(s, end, |c| v == c);
         let from = base_with_y_from(s, to);
         if from < to {
             return Forms {
@@ -162,7 +130,7 @@ pub fn bases(s: &[u8], ao: bool, one: bool) -> Forms
                 add: false,
             };
         }
-        let from = consonants_from(s, at);
+        let from = run_from(s, at, |c| rom::is_in(rom::CONSONANTS, c));
         if from < at {
             return Forms {
                 rom: kept(s, one, end),
@@ -172,7 +140,6 @@ pub fn bases(s: &[u8], ao: bool, one: bool) -> Forms
                 add: false,
             };
         }
-        return unmatched(n);
     }
     unmatched(n)
 }
@@ -182,10 +149,7 @@ pub fn consonant_only(s: &[u8], from: usize, to: usize) -> bool
     requires { (from ≤ to) × (to ≤ length s.now) }
     ensures { result ≡ consonant_only (slice from to s.now) }
 {
-    if from == to {
-        return false;
-    }
-    rom::all_in(&s[from..to], rom::CONSONANTS)
+    from < to && rom::all_in(&s[from..to], rom::CONSONANTS)
 }
 
 // Does a vowel stand among the first `n` bytes?
@@ -196,24 +160,18 @@ pub fn any_vowel(s: &[u8], n: usize) -> bool
     rom::any_in(&s[..n], rom::VOWELS)
 }
 
-// One of b, c, d, z, which stay bare before the Khmer yo.
-fn is_bcdz(c: u32) -> bool
-    ensures { result ≡ before_yo (c ∷ []) }
-{
-    c == 98 || (c == 99 || (c == 100 || c == 122))
-}
-
 // Is a part b, c, d, z or ng, which stay bare before the Khmer yo?
+#[tactic(auto, using(lent_bytes::specs::Library::same_texts, crate::specs::Back::slice_lent), unfolding(definition::specs::Vowels::before_yo, base::specs::Lists::any))]
 pub fn stays_before_yo(s: &[u8], from: usize, to: usize) -> bool
     requires { (from ≤ to) × (to ≤ length s.now) }
     ensures { result ≡ before_yo (slice from to s.now) }
 {
-    let n = to - from;
-    let c = base::byte(s, from);
-    if n == 1 {
-        return is_bcdz(c);
-    }
-    n == 2 && (c == 110 && base::byte(s, from + 1) == 103)
+    let part = &s[from..to];
+    part == b"b".as_slice()
+        || part == b"c".as_slice()
+        || part == b"d".as_slice()
+        || part == b"z".as_slice()
+        || part == b"ng".as_slice()
 }
 
 // The first `n` bytes of an array, put into the form that was chosen; their new number is told.
@@ -227,9 +185,10 @@ pub fn shape(bytes: &mut [u8], n: usize, f: Forms, w: Which, vowel: &[u8]) -> us
         Which::Plus => {
             let plus = rom::keep(bytes, n, f.from, f.end);
             if f.add {
-                return rom::put_behind(bytes, plus, vowel);
+                rom::put_behind(bytes, plus, vowel)
+            } else {
+                plus
             }
-            plus
         }
     }
 }

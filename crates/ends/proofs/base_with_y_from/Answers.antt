@@ -6,14 +6,16 @@ use Rattle.definition.specs.Vowels.{before_y}
 use Rattle.rom.specs.Sets.{in_before_y}
 use Rattle.ends.specs.Ends.{no_y_zero, no_y, y_first, y_alone, y_after}
 use Rattle.ends.proofs.base_with_y_from.Goals as goal
+use Rattle.ends.proofs.base_with_y_from.Goals.{then-to-eq0-via-then-to-eq0, then-to-eq0-via-else-to-eq0+then-byte-ne121}
 
 pub returns-then-to-eq0 : goal.returns-then-to-eq0
-returns-then-to-eq0 c = let a = c.args in (no_y_zero a.s.now a.to (omega arith), omega arith)
-
-pub returns-then-byte-ne121 : goal.returns-then-byte-ne121
-returns-then-byte-ne121 c =
+returns-then-to-eq0 c =
     let a = c.args in
-    (no_y a.s.now a.to (a.to - 1) (omega arith) (λ z. c.if-byte-ne121.true (omega arith)), omega arith)
+    elim c.then-to-eq0.branch [
+      | then-to-eq0-via-then-to-eq0 w ↦ (no_y_zero a.s.now a.to (omega arith), omega arith)
+      | then-to-eq0-via-else-to-eq0+then-byte-ne121 w ↦
+          (no_y a.s.now a.to (a.to - 1) (omega arith) (λ z. w.if-byte-ne121.true (omega arith)), omega arith)
+    ]
 
 pub returns-then-to-eq1 : goal.returns-then-to-eq1
 returns-then-to-eq1 c =

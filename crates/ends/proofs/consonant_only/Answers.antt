@@ -4,6 +4,7 @@ use mathlib.Core.Bool.{Bool, not, ◌&&◌}
 use mathlib.Core.Path.{◌≡◌, fun_ext, sym, ap, ◌∙◌}
 use native.Mathlib.Omega.{arith}
 use lib.Seq.{slice, slice_empty, length-slice}
+use borrow.Author.Tests.{le-ltb}
 use Rattle.base.specs.Lists.{all, same}
 use Rattle.definition.specs.Texts.{consonants}
 use Rattle.definition.specs.Vowels.{consonant_only}
@@ -12,16 +13,16 @@ use Rattle.ends.specs.Back.{slice_lent}
 use Rattle.base.specs.ListLaws.{same_some}
 use Rattle.ends.proofs.consonant_only.Goals as goal
 
-pub returns-then-from-to : goal.returns-then-from-to
+pub returns-else-from-to : goal.returns-else-from-to
 unfolding consonant_only same
-returns-then-from-to c =
+returns-else-from-to c =
     let a = c.args in
     let e : a.from ≡ a.to = omega arith in
-    sym (ap (λ (i : ℕ). consonant_only (slice i a.to a.s.now)) e ∙ ap consonant_only (slice_empty a.to a.s.now))
+    le-ltb a.from a.to (omega arith) ∙ sym (ap (λ (i : ℕ). consonant_only (slice i a.to a.s.now)) e ∙ ap consonant_only (slice_empty a.to a.s.now))
 
-pub returns : goal.returns
+pub returns-then-from-to : goal.returns-then-from-to
 unfolding consonant_only
-returns c =
+returns-then-from-to c =
     let s = c in
     let a = s.args in
     let l = slice a.from a.to a.s.now in

@@ -6,6 +6,7 @@ use Rattle.base.specs.Pick.{pick}
 use Rattle.definition.specs.Texts.{latin}
 use Rattle.ends.specs.Ends.{kept-plain, kept_many, kept-one}
 use Rattle.ends.proofs.kept.Goals as goal
+use Rattle.ends.proofs.kept.Goals.{else-end-n-via-then-end-n+then-one+else-latin, else-end-n-via-then-end-n+else-one, else-end-n-via-else-end-n}
 
 pub returns-then-latin : goal.returns-then-latin
 unfolding pick
@@ -14,15 +15,14 @@ returns-then-latin c =
     let e = ap latin (sym c.byte.ensures.0) ∙ sym c.latin.ensures ∙ c.if-latin.true in
     (s.requires ∙ kept-one s.args.one s.args.s.now (omega arith) c.if-one.true true e, omega arith)
 
-pub returns-else-latin : goal.returns-else-latin
+pub returns : goal.returns
 unfolding pick
-returns-else-latin c =
+returns c =
     let a = c.args in
-    let e = ap latin (sym c.byte.ensures.0) ∙ sym c.latin.ensures ∙ c.if-latin.false in
-    (kept-one a.one a.s.now (omega arith) c.if-one.true false e, omega arith)
-
-pub returns-else-one : goal.returns-else-one
-returns-else-one c = let a = c.args in (kept_many a.one a.s.now (omega arith) c.if-one.false, omega arith)
-
-pub returns-else-end-n : goal.returns-else-end-n
-returns-else-end-n c = let a = c.args in (kept-plain a.one a.s.now (omega arith), omega arith)
+    elim c.else-end-n.branch [
+      | else-end-n-via-then-end-n+then-one+else-latin w ↦
+          let e = ap latin (sym w.byte.ensures.0) ∙ sym w.latin.ensures ∙ w.if-latin.false in
+          (kept-one a.one a.s.now (omega arith) w.if-one.true false e, omega arith)
+      | else-end-n-via-then-end-n+else-one w ↦ (kept_many a.one a.s.now (omega arith) w.if-one.false, omega arith)
+      | else-end-n-via-else-end-n w ↦ (kept-plain a.one a.s.now (omega arith), omega arith)
+    ]
