@@ -1,5 +1,5 @@
 -- The mark that a row's order is asked of: the source before it, or none before the first.
-use Rattle.std.specs.Prelude.{Bool, ◌&&◌, ◌≡◌, ℕ, zero, suc, ◌+◌, ◌<◌, ◌≤◌, eqb, length, drop}
+use Rattle.std.specs.Prelude.{Bool, ◌&&◌, ◌≡◌, ℕ, zero, suc, ◌+◌, ◌<◌, ◌≤◌, eqb, length, drop, Option, Some, None}
 use Rattle.std.proofs.Math.Bool.{true, false}
 use Rattle.std.proofs.Math.Path.{refl, sym}
 use Rattle.std.proofs.Common.{ap, ◌∙◌, subst, arith, length-drop, lt-ltb, ne_eqb}
@@ -22,6 +22,11 @@ mark_of b old first = pick first [] (rule_source (drop old b))
 -- the same, where 0 for the least character that rises tells the first row
 unfoldable pub mark_at : List ℕ → ℕ → ℕ → Text
 mark_at b old low = mark_of b old (eqb low 0)
+
+-- and by the row before, where there is one
+abbrev pub mark_behind : List ℕ → Option ℕ → Text
+mark_behind b None = []
+mark_behind b (Some old) = rule_source (drop old b)
 
 pub no_mark : (b : List ℕ) (old : ℕ) → mark_at b old 0 ≡ []
 unfolding mark_at mark_of pick
@@ -71,18 +76,10 @@ module _ (old : Text) (s : List ℕ) where
           by-source true (sym (ap (rises old) (counted_some three_at 3 (source_count s) 6 s (omega arith))
           ∙ r.above (three_at (drop 6 s)) _ (let h = three-there s 6 in omega arith)))
 
--- the end of a right row, or 0
-pub record Past (old : Text) (s : List ℕ) (row r : ℕ) : Type 0 where
-  pub right : 0 < r → true ≡ rule_right old s
-  pub ends : 0 < r → r ≡ row + rule_size s
-  pub wrong : r ≡ 0 → false ≡ rule_right old s
-
-pub past-right : (old : Text) (s : List ℕ) (row r : ℕ) → r ≡ row + rule_size s → true ≡ rule_right old s → Past old s row r
-unfolding rule_size
-past-right old s row r e h = record { right = λ z. h; ends = λ z. e; wrong = λ z. absurd (omega arith) }
-
-pub past-wrong : {old : Text} {s : List ℕ} {row : ℕ} → false ≡ rule_right old s → Past old s row 0
-past-wrong h = record { right = λ z. absurd (omega arith); ends = λ z. absurd (omega arith); wrong = λ z. h }
+-- the end of a right row, or none for one at fault
+abbrev pub Past : Text → List ℕ → ℕ → Option ℕ → Type 0
+Past old s row (Some end) = (true ≡ rule_right old s) × (end ≡ row + rule_size s)
+Past old s row None = false ≡ rule_right old s
 
 -- after a right row: the mark, and what rises over it
 module _ (b : List ℕ) (at low : ℕ) (e : low ≡ be3 (drop at b) 6 + 1) where

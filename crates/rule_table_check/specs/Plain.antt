@@ -17,7 +17,7 @@ use Rattle.definition.specs.RuleRows.{codes_count_from, codes_from, codes_right_
 use Rattle.definition.specs.RuleRows.{printable, text_size, text_of, text_right, texts_size, texts_right, rule_size, rule_flag, zero_bit, target_bit}
 use Rattle.definition.specs.RuleRows.{end_target_bit, source_count, codes_at, codes_count, target_at, past_text, end_target_at, others_at, others_end, others_right}
 use Rattle.definition.specs.RuleRows.{rule_source, rule_fits, source_right, codes_right, target_right, end_target_right, rule_right}
-use Rattle.rule_table_check.specs.Marks.{Rising, Past, past-right}
+use Rattle.rule_table_check.specs.Marks.{Rising}
 use Rattle.table_blocks.specs.Held.{held}
 use Rattle.definition.specs.There.{three-there, byte_there}
 
@@ -108,10 +108,6 @@ module _ (low : ℕ) (s : List ℕ) (row past : ℕ) (p : Plain low s row past) 
   unfolding rule_right
   plain-right old r = sym (rw (fits, sourced old r, coded, targeted, ended, othered) refl)
 
--- 0 says nothing
-pub not_plain : {low : ℕ} {s : List ℕ} {row : ℕ} → 0 < 0 → Plain low s row 0
-not_plain e = absurd (omega arith)
-
 -- a row is plain where the tests say so, each of what was read
 module _ (b : List ℕ) (row low n c : ℕ) where
   pub told : n ≡ get_or (drop row b) 10 0 → 12 + n ≤ length b - row → rule_size (drop row b) ≡ 12 + n
@@ -137,6 +133,7 @@ module _ (b : List ℕ) (row low n c : ℕ) where
             ∙ ap (λ x. all printable (take (to - from) x)) (sym y) ∙ sym u;
       }
 
-pub plain-past : {low : ℕ} {s : List ℕ} {row r : ℕ} (old : Text) → Rising old low → Plain low s row r → Past old s row r
-plain-past {low} {s} {row} {r} old h p =
-    past-right old s row r (p.passed ∙ ap (λ z. row + z) (sym p.size)) (plain-right low s row r p old h)
+pub plain-past : {low : ℕ} {s : List ℕ} {row past : ℕ} (old : Text) → Rising old low → Plain low s row past
+    → (true ≡ rule_right old s) × (past ≡ row + rule_size s)
+plain-past {low} {s} {row} {past} old h p =
+    (plain-right low s row past p old h, p.passed ∙ ap (λ z. row + z) (sym p.size))

@@ -1,5 +1,5 @@
 -- What the check's answers say in the definition's terms.
-use Rattle.std.specs.Prelude.{Bool, false, not, List, [], ◌∷◌, ℕ, eqb, leb, length, drop}
+use Rattle.std.specs.Prelude.{Bool, false, not, List, [], ◌∷◌, ℕ, eqb, leb, length, drop, Result, Ok, Err}
 use Rattle.std.proofs.Math.Option.{Option, none, some}
 use Rattle.base.specs.Pick.{pick}
 use Rattle.base.specs.Lists.{first_of}
@@ -7,13 +7,12 @@ use Rattle.definition.specs.Refusals.{Refusal, refuse, when, refused_order, refu
 use Rattle.definition.specs.RuleFields.{read_row}
 use Rattle.definition.specs.RuleFaults.{field_fault}
 use Rattle.rule_row_faults.specs.Kinds.{fault_number}
-use Rattle.rule_table_check.specs.declared.RulesRead.{RulesRead}
-use Rattle.rule_table_check.specs.declared.RulesRead.TheVariants.{Valid, Wrong}
+use Rattle.rule_row_faults.specs.declared.RuleFault.{RuleFault}
 
 -- nothing, or a fault's number and its place
-abbrev pub rules_means : RulesRead → Option Refusal
-rules_means Valid = none
-rules_means (Wrong k p) = some (refuse (fault_number k) p)
+abbrev pub rules_means : Result (Unit {0}) RuleFault → Option Refusal
+rules_means (Ok u) = none
+rules_means (Err f) = some (refuse (fault_number f.kind) f.at)
 
 -- what is wrong with the row that `s` begins with, by whether its source rises
 abbrev pub told_of : ℕ → ℕ → List ℕ → Bool → Option Refusal

@@ -13,7 +13,7 @@ use Rattle.base.specs.Big.{be3}
 use Rattle.definition.specs.Limits.{most_rows}
 use Rattle.definition.specs.Refusals.{Refusal, when}
 use Rattle.definition.specs.Texts.{Text}
-use Rattle.definition.specs.RuleRows.{rule_source, rises, rule_right}
+use Rattle.definition.specs.RuleRows.{rule_size, rule_source, rises, rule_right}
 use Rattle.definition.specs.RuleFields.{Cursor, next, wrong, read_row}
 use Rattle.definition.specs.RuleFaults.{field_fault, row_fault, rule_fault}
 use Rattle.definition.specs.Blocks.{Walk, version_1, headed}
@@ -23,7 +23,7 @@ use Rattle.definition.specs.Checking.{walk_at}
 use Rattle.definition.specs.RuleTurns.{rules_from}
 use Rattle.definition.proofs.RuleTurns.{fine-by, rules-begun, rules-done, rules-onward, rules_halted}
 use Rattle.rule_table_check.specs.Told.{told_of, stopped_at}
-use Rattle.rule_table_check.specs.Marks.{mark_at, no_mark, Rising, mark-after, rising_after, Past}
+use Rattle.rule_table_check.specs.Marks.{mark_at, no_mark, Rising, mark-after, rising_after}
 
 -- the first fault from a row on
 unfoldable pub fault_at : List ℕ → ℕ → ℕ → ℕ → ℕ → Option Refusal
@@ -44,18 +44,19 @@ module _ (b : List ℕ) (at most old low here left last least : ℕ) (k : Kept b
   pub at_end : length b ≤ here → Stands b at most old low here left last least
   at_end h = record { kept = k; fault = λ z l. absurd (omega arith) }
 
-  pub at-fault : (r : ℕ) → Past (mark_at b last least) (drop here b) here r → r ≡ 0 → Stands b at most old low here left last least
-  at-fault r p e = record { kept = k; fault = λ z l. p.wrong e }
+  pub at-fault : false ≡ rule_right (mark_at b last least) (drop here b) → Stands b at most old low here left last least
+  at-fault e = record { kept = k; fault = λ z l. e }
 
   pub none_left : left ≡ 0 → Stands b at most old low here left last least
   none_left e = record { kept = k; fault = λ z l. absurd (omega arith) }
 
-  pub row_on : here < length b → 0 < left → (r : ℕ) → Past (mark_at b last least) (drop here b) here r → 0 < r
-      → (c : ℕ) → c ≡ be3 (drop here b) 6 + 1 → Kept b at most old low r (left - 1) here c
+  pub row_on : here < length b → 0 < left → (end : ℕ) → true ≡ rule_right (mark_at b last least) (drop here b)
+      → end ≡ here + rule_size (drop here b) → (c : ℕ) → c ≡ be3 (drop here b) 6 + 1
+      → Kept b at most old low end (left - 1) here c
   unfolding fault_at
-  row_on h l r p z c e = record {
-    same = λ more. rules-onward b here (left + more) (mark_at b last least) h (omega arith) (p.right z)
-        r (left - 1 + more) (mark_at b here c) (p.ends z) (omega arith) (mark-after b here c e)
+  row_on h l end p z c e = record {
+    same = λ more. rules-onward b here (left + more) (mark_at b last least) h (omega arith) p
+        end (left - 1 + more) (mark_at b here c) z (omega arith) (mark-after b here c e)
         ∙ k.same more;
     rising = rising_after b here c e;
     few = let f = k.few in omega arith;

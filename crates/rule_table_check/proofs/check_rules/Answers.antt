@@ -6,27 +6,22 @@ use Rattle.rule_table_check.specs.Marks.{none_before}
 use Rattle.rule_table_check.specs.Walks.{stops, first-half, second-half}
 use Rattle.rule_table_check.proofs.check_rules.Goals as goal
 
+pub returns-then-not-headed : goal.returns-then-not-headed
+returns-then-not-headed c = rules_unheaded c.args.rules.now (sym c.if-not-headed.true ∙ c.headed.ensures)
+
 pub past_rows-half-requires : goal.past_rows-half-requires
 past_rows-half-requires c = none_before _ _
 
 pub returns-then-half-gt0 : goal.returns-then-half-gt0
 returns-then-half-gt0 c =
-    let p = c in
-    let g = p in
-    let r = p.past_rows-half.ensures in
+    let r = c.past_rows-half.ensures in
     c.stopped.ensures
-    ∙ stops _ _ _ _ _ (first-half _ (sym g.if-headed.true ∙ g.headed.ensures) _ _ _ _ _ r.kept refl) (λ z. r.fault (omega arith))
-
-pub returns-then-headed : goal.returns-then-headed
-returns-then-headed c =
-    let w = c in
-    let r = w.past_rows-whole.ensures in
-    let p = w in
-    let g = p in
-    c.stopped-then-headed.ensures
-    ∙ stops _ _ _ _ _
-    (second-half _ (sym g.if-headed.true ∙ g.headed.ensures) _ _ _ _ _ p.past_rows-half.ensures.kept refl _ _ _ _ r.kept)
-    r.fault
+    ∙ stops _ _ _ _ _ (first-half _ (sym c.if-not-headed.false ∙ c.headed.ensures) _ _ _ _ _ r.kept refl) (λ z. r.fault (omega arith))
 
 pub returns : goal.returns
-returns c = rules_unheaded c.args.rules.now (sym c.if-headed.false ∙ c.headed.ensures)
+returns c =
+    let r = c.past_rows-whole.ensures in
+    c.stopped-2.ensures
+    ∙ stops _ _ _ _ _
+    (second-half _ (sym c.if-not-headed.false ∙ c.headed.ensures) _ _ _ _ _ c.past_rows-half.ensures.kept refl _ _ _ _ r.kept)
+    r.fault

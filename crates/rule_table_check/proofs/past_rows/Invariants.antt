@@ -1,10 +1,10 @@
--- `rule_table_check::past_rows`: each right row leaves the first fault as it was.
+-- `rule_table_check::past_rows`: each right row leaves the first fault as it was, and the turns and the rows that are left are all.
+use Rattle.std.proofs.Common.{◌≡◌, ◌+◌}
 use Rattle.rule_table_check.specs.Walks.{Kept}
 use Rattle.rule_table_check.proofs.past_rows.Given as goal
 
-abbrev pub invariant-loop-left : goal.invariant-loop-left
-invariant-loop-left l =
-    Kept l.rules l.at l.most l.old l.low l.here l.left l.last l.least
-
-abbrev pub decreases-loop-left : goal.decreases-loop-left
-decreases-loop-left l = l.left
+abbrev pub invariant-loop-turn : goal.invariant-loop-turn
+invariant-loop-turn l =
+    let s = l.fn.start in
+    Kept l.rules s.at s.left s.old s.low l.walk.at l.walk.left l.walk.old l.walk.low
+    × (l._turn + l.walk.left ≡ s.left)
