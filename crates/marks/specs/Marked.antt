@@ -98,6 +98,9 @@ there-told [] i h = absurd (omega arith)
 there-told (x ∷ l) zero h = refl
 there-told (x ∷ l) (suc i) h = there-told l i (omega arith)
 
+-- what a cell of lent bytes asks
+pub ruleset cells = (none_told, none-set, there-told)
+
 -- A cell that is set, and the others stay
 set_here : (l : List ℕ) (i : ℕ) → get_or (set l i 1) i 1 ≡ 1
 set_here [] i = refl

@@ -14,7 +14,9 @@ const TIMES: u64 = 16777619;
 
 const LIMIT: u64 = 4294967296;
 
-// What the hash is divided by for the second and the third cell.
+// What the hash is divided by for each cell.
+const FIRST: u64 = 1;
+
 const SECOND: u64 = 7;
 
 const THIRD: u64 = 61;
@@ -32,38 +34,39 @@ fn hash(w: &[u8]) -> u64
     ensures { result ≡ hash w.now }
 {
     let mut h = START;
-    let mut i: usize = 0;
-    while i < w.len() {
-        h = turn(h, w[i]);
-        i += 1;
+    for b in w {
+        h = turn(h, *b);
     }
     h
 }
 
+// The cell, of `m`, that a hash divided by `by` has.
+fn cell(m: usize, h: u64, by: u64) -> usize
+    requires { (0 < m) × (0 < by) }
+    ensures { (result ≡ h / by % m) × (result < m) }
+{
+    (h / by % m as u64) as usize
+}
+
 // Is the cell at 1 that a hash divided by `by` has?
+#[tactic(auto, using(crate::specs::Marked::cells))]
 fn is_set(cells: &[u8], h: u64, by: u64) -> bool
     requires { 0 < by }
     ensures { result ≡ eqb (get_or cells.now (h / by % length cells.now) 1) 1 }
 {
-    let m = cells.len();
-    if m == 0 {
-        return true;
-    }
-    let i = (h / by % m as u64) as usize;
-    cells[i] == 1
+    cells.is_empty() || cells[cell(cells.len(), h, by)] == 1
 }
 
 // Sets the cell to 1 that a hash divided by `by` has.
+#[tactic(auto, using(crate::specs::Marked::cells))]
 fn set_cell(cells: &mut [u8], h: u64, by: u64)
     requires { 0 < by }
     ensures { cells.new ≡ set cells.old (h / by % length cells.old) 1 }
 {
     let m = cells.len();
-    if m == 0 {
-        return;
+    if 0 < m {
+        cells[cell(m, h, by)] = 1;
     }
-    let i = (h / by % m as u64) as usize;
-    cells[i] = 1;
 }
 
 // May a text be among those that were marked? `false` is sure.
@@ -71,13 +74,7 @@ pub fn may_hold(cells: &[u8], w: &[u8]) -> bool
     ensures { (ws : List Text) → Marked ws cells.now → result ≡ false → any (same w.now) ws ≡ false }
 {
     let h = hash(w);
-    if is_set(cells, h, 1) {
-        if is_set(cells, h, SECOND) {
-            return is_set(cells, h, THIRD);
-        }
-        return false;
-    }
-    false
+    is_set(cells, h, FIRST) && is_set(cells, h, SECOND) && is_set(cells, h, THIRD)
 }
 
 // Marks a text.
@@ -85,7 +82,7 @@ pub fn mark(cells: &mut [u8], w: &[u8])
     ensures { (ws : List Text) → Marked ws cells.old → Marked (ws ++ w.now ∷ []) cells.new }
 {
     let h = hash(w);
-    set_cell(cells, h, 1);
+    set_cell(cells, h, FIRST);
     set_cell(cells, h, SECOND);
     set_cell(cells, h, THIRD);
 }
