@@ -15,35 +15,34 @@ const VERSION_1: u32 = 1;
 // Rows of a rule table and of a class table, at most.
 pub const MOST_ROWS: u32 = 8192;
 
-// A table is valid, or has its first fault at this row's offset (0 for the header).
+// A table that is not valid: its first fault is in the row at this offset (0 for the header).
 #[derive(Clone, Copy)]
-pub enum TableRead {
-    Valid,
-    Fault(usize),
+pub struct TableFault {
+    pub at: usize,
 }
 
 // A scalar value: no surrogate, and none past U+10FFFF.
+#[tactic(auto, unfolding(definition::specs::Utf8::scalar))]
 pub fn scalar(c: u32) -> bool
     ensures { result ≡ scalar c }
 {
-    c < 0xD800 || (0xE000 <= c && c <= 0x10FFFF)
+    matches!(c, 0..=0xD7FF | 0xE000..=0x10FFFF)
 }
 
 // A-Z or a-z.
+#[tactic(auto, unfolding(definition::specs::Texts::latin))]
 pub fn latin(c: u32) -> bool
     ensures { result ≡ latin c }
 {
-    if c < 97 {
-        return 65 <= c && c <= 90;
-    }
-    c <= 122
+    matches!(c, 0x41..=0x5A | 0x61..=0x7A)
 }
 
 // a-z.
+#[tactic(auto, unfolding(definition::specs::Blocks::small))]
 pub fn small(c: u32) -> bool
     ensures { result ≡ small c }
 {
-    97 <= c && c <= 122
+    matches!(c, 0x61..=0x7A)
 }
 
 // Whether all bytes from a place to another are a-z.
@@ -51,22 +50,15 @@ pub fn all_small(s: &[u8], from: usize, to: usize) -> bool
     requires { (from ≤ to) × (to ≤ length s.now) }
     ensures { result ≡ all small (take (to - from) (drop from s.now)) }
 {
-    let mut at = from;
-    while at < to {
-        if small(base::byte(s, at)) {
-            at += 1;
-        } else {
-            return false;
-        }
-    }
-    true
+    s[from..to].iter().all(|b| small(u32::from(*b)))
 }
 
 // The block's header: version 1, and a length that fills the slice.
+#[tactic(auto, unfolding(definition::specs::Blocks::headed), using(crate::specs::Held::held, crate::specs::Held::short))]
 pub fn headed(table: &[u8]) -> bool
     ensures { result ≡ headed version_1 table.now }
 {
     HEAD_BYTES <= table.len()
-        && (base::byte(table, 0) == VERSION_1
-            && HEAD_BYTES as u64 + base::four(table, 0, 1) == table.len() as u64)
+        && base::byte(table, 0) == VERSION_1
+        && HEAD_BYTES as u64 + base::four(table, 0, 1) == table.len() as u64
 }

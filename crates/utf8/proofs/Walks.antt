@@ -4,11 +4,12 @@ use mathlib.Core.List.{List, ◌∷◌}
 use mathlib.Core.Option.{none, some}
 use mathlib.Core.Path.{◌≡◌, refl, sym, ap, ◌∙◌}
 use Prim.Native.Nat.{ℕ, suc, ◌+◌, ◌<◌, ◌≤◌}
-use native.Mathlib.Numerals.{add-one}
 use native.Mathlib.Omega.{arith}
-use lib.ListN.{length, get_or, drop, set, length-drop, length-set, drop_of_length-le}
-use lib.Seq.{drop-drop, drop-cons}
-use Rattle.std.specs.Prelude.{cond, count_by, nat_eq, Result, Ok, Err}
+use lib.ListN.{length, drop, set, length-drop, length-set}
+use lib.Seq.{drop-drop}
+use Rattle.std.specs.List.{position_from}
+use Rattle.std.proofs.lemmas.Iterator.Adapters.{position_from-zero}
+use Rattle.std.specs.Prelude.{position, Some, cond, [], count_by, nat_eq, Result, Ok, Err}
 use Rattle.std.proofs.Common.{zero-add}
 use Rattle.std.proofs.lemmas.List.Recursion.{is_count_by}
 use Rattle.base.specs.Pick.{pick}
@@ -18,7 +19,7 @@ use Rattle.definition.specs.Utf8Turns.{decoded-none, decoded-here, decoded-next,
 use Rattle.definition.specs.Texts.{left_out}
 use Rattle.definition.specs.Call.{first_left_out}
 use Rattle.utf8.specs.Beginnings.{beginnings}
-use Rattle.utf8.specs.Read.{answer, answered}
+use Rattle.utf8.specs.Read.{found_means, answer, answered}
 use Rattle.utf8.specs.Puts.{puts}
 use Rattle.utf8.specs.declared.NotUtf8.{NotUtf8}
 
@@ -81,23 +82,16 @@ module _ {s l₀ l : List ℕ} {at n : ℕ} (w : Walk s l₀ l at n) where
       let m : n ≡ length (decoded s) = omega arith in
       (rw (b, ← m), sym (ap (λ t. puts n t l) d) ∙ w.room)
 
--- the characters from `i` on, none before being left out
-module _ (l : List ℕ) (i : ℕ) where
-  next : i < length l → drop i l ≡ get_or l i 0 ∷ drop (i + 1) l
-  next h = rw add-one (drop-cons l i 0 h)
+-- the position of the first character that is left out, as `position` of an iterator gives it
+first_from : (p : ℕ) (t : List ℕ) → found_means (position_from left_out p t) ≡ first_left_out p t
+unfolding found_means first_left_out pick
+first_from p [] = refl
+first_from p (c ∷ t) =
+    elim (left_out c) as (λ b. found_means (cond b (Some p) (position_from left_out (p + 1) t)) ≡ pick b (some p) (first_left_out (p + 1) t))
+    [ true ↦ refl | false ↦ first_from (p + 1) t ]
 
-  pub left_here : i < length l → left_out (get_or l i 0) ≡ true → first_left_out i (drop i l) ≡ some i
-  unfolding first_left_out pick
-  left_here h e = rw (next h, e)
-
-  pub left-later : i < length l → left_out (get_or l i 0) ≡ false
-      → first_left_out i (drop i l) ≡ first_left_out (i + 1) (drop (i + 1) l)
-  unfolding first_left_out pick
-  left-later h e = rw (next h, e)
-
-  pub left-none : length l ≤ i → first_left_out i (drop i l) ≡ none
-  unfolding first_left_out
-  left-none h = rw (drop_of_length-le l {i = i} h)
+pub first_by_position : (t : List ℕ) → found_means (position left_out t) ≡ first_left_out 0 t
+first_by_position t = ap found_means (position_from-zero left_out t) ∙ first_from 0 t
 
 -- the bytes that continue no character, as `count` after `filter` gives them
 pub beginnings_counted : (s : List ℕ) → beginnings s ≡ count_by (λ b. nat_eq (six b) 64) s

@@ -206,12 +206,7 @@ pub fn left_out(c: u32) -> bool
 pub fn first_left_out(chars: &[u32]) -> Option<usize>
     ensures { found_means result ≡ first_left_out 0 chars.now }
 {
-    for (i, c) in chars.iter().enumerate() {
-        if left_out(*c) {
-            return Some(i);
-        }
-    }
-    None
+    chars.iter().position(|c| left_out(*c))
 }
 
 // As many characters as a text can have at most: those bytes are counted that continue none.

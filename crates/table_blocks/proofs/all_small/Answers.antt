@@ -1,33 +1,13 @@
--- `table_blocks::all_small`: what is left from `at` on says what the whole does.
-use Prim.Native.Nat.{ℕ, ◌-◌, ◌≤◌}
-use mathlib.Core.Path.{◌≡◌, refl, sym, ◌∙◌}
-use mathlib.Core.List.{List}
-use native.Mathlib.Omega.{arith}
-use lib.ListN.{take, drop}
-use Rattle.base.specs.Lists.{all}
+-- `table_blocks::all_small`: each byte of the part is tested.
+use Rattle.std.proofs.Common.{◌∙◌, ◌-◌, take, drop, rules, tests}
+use Rattle.std.proofs.lemmas.Iterator.{YieldsList-from_slice}
+use Rattle.std.proofs.lemmas.Iterator.Search.{all_from_yields_List}
+use Rattle.lent_bytes.specs.Library.{all_is}
 use Rattle.definition.specs.Blocks.{small}
-use Rattle.table_blocks.proofs.Letters.{letters-over, letters-other, letters-next}
 use Rattle.table_blocks.proofs.all_small.Goals as goal
-
-pub loop-at-preserved : goal.loop-at-preserved
-loop-at-preserved c =
-    let l = c in
-    let a = l.args in (
-      omega arith,
-      letters-next ((l.args.s.now)) l.loop-at.at a.to (omega arith) (omega arith) c.byte.result
-          (omega arith)
-          (sym c.if-small.true ∙ c.small.ensures) ∙ l.loop-at.invariant.1,
-    )
-
-pub returns-else-small : goal.returns-else-small
-returns-else-small c =
-    let l = c in
-    let a = l.args in
-    letters-other ((l.args.s.now)) l.loop-at.at a.to (omega arith) (omega arith) c.byte.result
-    (omega arith)
-    (sym c.if-small.false ∙ c.small.ensures) ∙ l.loop-at.invariant.1
 
 pub returns : goal.returns
 returns c =
-    let l = c in
-    letters-over ((l.args.s.now)) l.loop-at.at l.args.to (omega arith) ∙ l.loop-at.invariant.1
+    let s = take (c.args.to - c.args.from) (drop c.args.from c.args.s.now) in
+    all_from_yields_List small _ _ _ c.all.ensures.ran (YieldsList-from_slice s cc) (λ x b q k. search (rules, tests))
+    ∙ all_is small s

@@ -1,18 +1,14 @@
--- `utf8::first_left_out`: from `i` on the first that is left out is the first of all.
-use mathlib.Core.Path.{sym, ◌∙◌}
+-- `utf8::first_left_out`: the position of the first that passes is the definition's.
+use Rattle.std.proofs.Common.{ap, ◌∙◌, rules, tests}
+use Rattle.std.proofs.lemmas.Iterator.{YieldsList-from_slice}
+use Rattle.std.proofs.lemmas.Iterator.Search.{position_from_yields_List}
+use Rattle.definition.specs.Texts.{left_out}
 use Rattle.utf8.specs.Read.{found_means}
-use Rattle.utf8.proofs.Walks.{left_here, left-later, left-none}
+use Rattle.utf8.proofs.Walks.{first_by_position}
 use Rattle.utf8.proofs.first_left_out.Goals as goal
 
-pub returns-then-left_out : goal.returns-then-left_out
-unfolding found_means
-returns-then-left_out c =
-    sym (left_here _ _ c.loop-i-test.true (sym c.left_out.ensures ∙ c.if-left_out.true)) ∙ c.loop-i.invariant
-
-pub loop-i-preserved : goal.loop-i-preserved
-loop-i-preserved c =
-    sym (left-later _ _ c.loop-i-test.true (sym c.left_out.ensures ∙ c.if-left_out.false)) ∙ c.loop-i.invariant
-
 pub returns : goal.returns
-unfolding found_means
-returns c = sym (left-none _ _ c.loop-i-test.false) ∙ c.loop-i.invariant
+returns c =
+    let t = c.args.chars.now in
+    ap found_means (position_from_yields_List left_out _ _ _ c.position.ensures.ran (YieldsList-from_slice t cc) (λ x b q k. search (rules, tests)))
+    ∙ first_by_position t
