@@ -16,11 +16,8 @@ fn put_characters(table: &[u8], row: usize, chars: &mut [u32])
     requires { length chars.old ≡ decomposition_count (drop row table.now) }
     ensures { chars.new ≡ puts 0 (decomposition_into (drop row table.now)) chars.old }
 {
-    let n = table_decompositions::count(table, row);
-    let mut i: usize = 0;
-    while i < n {
-        chars[i] = table_decompositions::into_at(table, row, i);
-        i += 1;
+    for (i, c) in chars.iter_mut().enumerate() {
+        *c = table_decompositions::into_at(table, row, i);
     }
 }
 
@@ -44,10 +41,8 @@ fn put_character(c: u32, bytes: &mut [u8], at: usize) -> usize
     ensures { (bytes.new ≡ put_at at (encode c) bytes.old) × (result ≡ at + length (encode c)) × (result ≤ at + 4) }
 {
     let own = utf8::encode(c);
-    let len = own.len;
-    let all = own.bytes;
-    lent_bytes::put_at(bytes, at, &all[..len]);
-    at + len
+    lent_bytes::put_at(bytes, at, &own.bytes[..own.len]);
+    at + own.len
 }
 
 // The bytes of a row's characters, from the front on: how many they are.
@@ -58,10 +53,8 @@ pub fn put_bytes(table: &[u8], row: usize, bytes: &mut [u8]) -> usize
 {
     let n = table_decompositions::count(table, row);
     let mut at: usize = 0;
-    let mut i: usize = 0;
-    while i < n {
+    for i in 0..n {
         at = put_character(table_decompositions::into_at(table, row, i), bytes, at);
-        i += 1;
     }
     at
 }

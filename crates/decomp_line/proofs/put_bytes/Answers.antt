@@ -21,12 +21,11 @@ loop-i-preserved c =
       writing_next i.0 (omega (arith, into-length (drop c.args.row c.args.table.now), i.1, t)) c.into_at.result c.into_at.ensures
           (omega (arith, i.0.most, i.0.long, i.1, w, t, c.requires.1)) c.put_character-at.new.bytes c.put_character-at.result c.put_character-at.ensures.0 c.put_character-at.ensures.1,
       i.1,
-      omega (arith, t),
     )
 
 pub returns : goal.returns
 returns c =
     let i = c.loop-i.invariant in
-    let o = writing_over i.0 (omega (arith, into-length (drop c.args.row c.args.table.now), i.1, c.loop-i-test.false)) in
+    let o = writing_over i.0 (omega (arith, into-length (drop c.args.row c.args.table.now), i.1)) in
     let w = into_few c.requires.0 in
-    (o.0, omega (arith, i.0.most, i.0.long, i.1, i.2, w, c.requires.1), i.0.long)
+    (o.0, omega (arith, i.0.most, i.0.long, i.1, w, c.requires.1), i.0.long)

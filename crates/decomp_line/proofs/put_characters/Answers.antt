@@ -9,10 +9,10 @@ pub loop-i-preserved : goal.loop-i-preserved
 loop-i-preserved c =
     let i = c.loop-i.invariant in
     let s = drop c.args.row c.args.table.now in
-    (putting_next i.0 (omega (arith, into-length s, i.1, c.loop-i-test.true)) c.into_at.result c.into_at.ensures, i.1, i.2)
+    putting_next i (omega (arith, into-length s, c.requires)) c.into_at.result c.into_at.ensures
 
 pub returns : goal.returns
 returns c =
     let i = c.loop-i.invariant in
     let s = drop c.args.row c.args.table.now in
-    putting_over i.0 (omega (arith, into-length s, i.1, c.loop-i-test.false))
+    putting_over i (omega (arith, into-length s, c.requires))
