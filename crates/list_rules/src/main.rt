@@ -7,26 +7,13 @@
 
 ghost use Rattle.std.specs.Prelude.{◌<◌};
 
-use rule_reader::RowHere;
-use rule_row_faults::{Fault, RowParts};
-use rule_table_check::RulesRead;
+use rule_row_faults::{RowParts, RuleFault};
 use std::io;
 use std::io::Write;
-
-// The bit of a row's flags that says that it has a target.
-const TARGET_BIT: u32 = 5;
 
 // Room for a table, in a function of its own: `main` knows its length alone.
 fn table_room() -> [u8; 1048576] {
     [0u8; 1048576]
-}
-
-fn print<W: Write>(out: &mut W, text: &[u8]) -> io::Result<()> {
-    out.write_all(text)
-}
-
-fn print_number<W: Write>(out: &mut W, n: usize) -> io::Result<()> {
-    write!(out, "{n}")
 }
 
 // The characters of a row's source, each as U+ and its number.
@@ -44,27 +31,24 @@ fn print_source<W: Write>(out: &mut W, table: &[u8], at: usize, count: usize) ->
 fn print_target<W: Write>(out: &mut W, row: &[u8], o: usize) -> io::Result<()>
     requires { o < 65536 }
 {
-    print(out, b" \"")?;
-    print(
-        out,
-        lent_bytes::part_or_none(row, o + 1, base::byte(row, o) as usize),
-    )?;
-    print(out, b"\"")
+    out.write_all(b" \"")?;
+    out.write_all(lent_bytes::part_or_none(row, o + 1, base::byte(row, o) as usize))?;
+    out.write_all(b"\"")
 }
 
 // One row: its offset, source, target and flags.
 fn print_row<W: Write>(out: &mut W, table: &[u8], at: usize, parts: RowParts) -> io::Result<()> {
-    print_number(out, at)?;
+    write!(out, "{at}")?;
     if parts.source < 256 {
         print_source(out, table, at, parts.source)?;
     }
-    if rule_row::flag(table, at, TARGET_BIT) {
+    if rule_row::flag(table, at, rule_row::TARGET_BIT) {
         if parts.target < 65536 {
             let row = lent_bytes::part_or_none(table, at, parts.size);
             print_target(out, row, parts.target)?;
         }
     } else {
-        print(out, b" none")?;
+        out.write_all(b" none")?;
     }
     let flags = base::at(table, at, 2);
     writeln!(out, " {flags:02x}")
@@ -72,14 +56,11 @@ fn print_row<W: Write>(out: &mut W, table: &[u8], at: usize, parts: RowParts) ->
 
 // Lists the row at an offset, and answers whether one stood there. What is wrong with it else is said at the end.
 fn list_row<W: Write>(out: &mut W, table: &[u8], at: usize) -> io::Result<bool> {
-    match rule_reader::read_at(table, at) {
-        RowHere::Row(parts) => {
-            print_row(out, table, at, parts)?;
-            Ok(true)
-        }
-        RowHere::Wrong(_, _) => Ok(false),
-        RowHere::End => Ok(false),
-    }
+    let Ok(Some(parts)) = rule_reader::read_at(table, at) else {
+        return Ok(false);
+    };
+    print_row(out, table, at, parts)?;
+    Ok(true)
 }
 
 // All rows. There are fewer than bytes, so the turns are enough.
@@ -94,41 +75,27 @@ fn list<W: Write>(out: &mut W, table: &[u8]) -> io::Result<()> {
     Ok(())
 }
 
-// What a fault is called.
-fn print_kind<W: Write>(out: &mut W, fault: Fault) -> io::Result<()> {
-    let words = rule_fault_words::fault_words(fault);
-    let bytes = words.bytes;
-    print(out, lent_bytes::part_or_none(&bytes, 0, words.len))
-}
-
 // The first fault behind `rows` right rows: its kind, its place, and the row at `at`, in which it lies. No row stands before
 // `HEAD_BYTES`: a fault there is the header's.
-fn print_fault<W: Write>(
-    out: &mut W,
-    rows: usize,
-    at: usize,
-    fault: Fault,
-    place: usize,
-) -> io::Result<()> {
-    print_number(out, rows)?;
-    if place < table_blocks::HEAD_BYTES {
-        return print(out, b" rows: the header is faulty\n");
+fn print_fault<W: Write>(out: &mut W, rows: usize, at: usize, fault: RuleFault) -> io::Result<()> {
+    if fault.at < table_blocks::HEAD_BYTES {
+        return writeln!(out, "{rows} rows: the header is faulty");
     }
-    print(out, b" rows, then ")?;
-    print_kind(out, fault)?;
-    writeln!(out, " at {place}, in the row at {at}")
+    let words = rule_fault_words::fault_words(fault.kind);
+    let place = fault.at;
+    writeln!(
+        out,
+        "{rows} rows, then {words} at {place}, in the row at {at}"
+    )
 }
 
 // How many rows are right, and the first fault.
 fn conclude<W: Write>(out: &mut W, table: &[u8]) -> io::Result<()> {
     let walked = rule_reader::walk_rules(table);
-    let read = walked.read;
-    match read {
-        RulesRead::Valid => {
-            print_number(out, walked.rows)?;
-            print(out, b" rows\n")
-        }
-        RulesRead::Wrong(fault, place) => print_fault(out, walked.rows, walked.at, fault, place),
+    let rows = walked.rows;
+    match walked.read {
+        Ok(()) => writeln!(out, "{rows} rows"),
+        Err(fault) => print_fault(out, rows, walked.at, fault),
     }
 }
 

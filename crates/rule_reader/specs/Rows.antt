@@ -1,5 +1,5 @@
 -- What stands at an offset of a rule table, where the next row begins, and how many rows of the table are right.
-use Rattle.std.specs.Prelude.{true, false, List, [], ℕ, zero, suc, ◌+◌, min, leb, length, drop}
+use Rattle.std.specs.Prelude.{true, false, List, [], ℕ, zero, suc, ◌+◌, min, leb, length, drop, Result, Ok, Err, Option, Some, None}
 use Rattle.base.specs.Pick.{pick}
 use Rattle.definition.specs.Limits.{most_rows}
 use Rattle.definition.specs.Refusals.{Refusal, refuse}
@@ -9,8 +9,7 @@ use Rattle.definition.specs.RuleRows.{rule_size, rule_source, rule_right, source
 use Rattle.definition.specs.RuleFields.{Cursor, next, wrong, read_row}
 use Rattle.rule_row_faults.specs.Kinds.{fault_number}
 use Rattle.rule_row_faults.specs.declared.RowParts.{RowParts}
-use Rattle.rule_reader.specs.declared.RowHere.{RowHere}
-use Rattle.rule_reader.specs.declared.RowHere.TheVariants.{Row, Wrong, End}
+use Rattle.rule_row_faults.specs.declared.RuleFault.{RuleFault}
 
 -- What may stand at an offset: a row's parts, a fault's number and place, or the end
 pub data Here : Type 0 where
@@ -19,10 +18,10 @@ pub data Here : Type 0 where
   the_end : Here
 
 -- as a reader answers it
-abbrev pub here_means : RowHere → Here
-here_means (Row p) = a_row p
-here_means (Wrong k o) = a_fault (refuse (fault_number k) o)
-here_means End = the_end
+abbrev pub here_means : Result (Option RowParts) RuleFault → Here
+here_means (Ok (Some p)) = a_row p
+here_means (Ok None) = the_end
+here_means (Err f) = a_fault (refuse (fault_number f.kind) f.at)
 
 -- The parts of the row that `s` begins with
 unfoldable pub parts : List ℕ → RowParts

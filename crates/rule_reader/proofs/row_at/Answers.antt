@@ -9,12 +9,10 @@ returns-then-table-at c = at_end _ _ (omega arith)
 
 pub overflow_add-result : goal.overflow_add-result
 overflow_add-result c =
-    omega (arith, fault-near c.args.table.now c.args.at (omega arith) _ c.read_row.ensures.0 _ _ c.in-Wrong.is)
+    let n = fault-near c.args.table.now c.args.at (omega arith) _ c.in-Err.ensures.0 in omega arith
 
-pub returns-in-Parts : goal.returns-in-Parts
-returns-in-Parts c =
-    row_read c.args.table.now c.args.at (omega arith) _ c.read_row.ensures.0 c.read_row.ensures.1 _ c.in-Parts.is
+pub returns-in-Ok : goal.returns-in-Ok
+returns-in-Ok c = row_read _ _ (omega arith) _ c.in-Ok.ensures.0 c.in-Ok.ensures.1
 
-pub returns-in-Wrong : goal.returns-in-Wrong
-returns-in-Wrong c =
-    fault-read c.args.table.now c.args.at (omega arith) _ c.read_row.ensures.0 _ _ c.in-Wrong.is
+pub returns-in-Err : goal.returns-in-Err
+returns-in-Err c = fault-read _ _ (omega arith) _ c.in-Err.ensures.0
