@@ -12,7 +12,7 @@ ghost use Rattle.words.specs.Looks.{Looked};
 ghost use Rattle.rule_choice.specs.Lent.{Answers};
 ghost use Rattle.rule_choice.specs.Chosen.{chosen_means, Said};
 
-use rule_choice::{Choice, Chosen};
+use rule_choice::Target;
 use words::{Look, Span};
 
 // U+0E2D, O ang.
@@ -22,14 +22,11 @@ const O_ANG: u32 = 0x0E2D;
 fn starts_with_vowel(text: &[u8]) -> bool
     ensures { result ≡ is (λ c. vowels (lower c)) (head text.now) }
 {
-    if text.len() == 0 {
-        return false;
-    }
-    rom::is_in(rom::VOWELS, rom::lower(text[0]) as u32)
+    !text.is_empty() && rom::is_in(rom::VOWELS, rom::lower(text[0]) as u32)
 }
 
 // Does the text that a search answered start with a vowel?
-fn opens(rules: &[u8], rom: Chosen) -> bool
+fn opens(rules: &[u8], rom: Option<Target>) -> bool
     requires { Said rules.now rom }
     ensures { result ≡ opens (chosen_means rules.now rom) }
 {
@@ -55,34 +52,29 @@ fn next_rom(
     line: &[u32],
     places: &mut [u32],
     q: usize,
-) -> Chosen
+) -> Option<Target>
     requires { Prepared rules.now ready.now × (q ≤ size_in line.now + 1) }
     ensures { Answers rules.now ready.now code.now line.now places.old places.new
         (λ L t v. next_rom L t v q) (chosen_means rules.now result) × Said rules.now result }
 {
-    let second = q + 2;
     let two = rule_choice::simple_top_romanization_candidate_for_span(
         rules,
         ready,
         code,
         line,
         places,
-        Span {
-            from: q,
-            to: second,
-        },
+        Span { from: q, to: q + 2 },
     );
-    if rule_choice::is_told(two) {
+    if two.is_some() {
         return two;
     }
-    let first = q + 1;
     rule_choice::simple_top_romanization_candidate_for_span(
         rules,
         ready,
         code,
         line,
         places,
-        Span { from: q, to: first },
+        Span { from: q, to: q + 1 },
     )
 }
 
@@ -99,20 +91,21 @@ fn o_ang_test(
     ensures { Answers rules.now ready.now code.now line.now places.old places.new
         (λ L t v. o_ang_test L t v q) result }
 {
-    if words::number_at(line, q + 1) == O_ANG {
-        let from = q + 1;
-        let to = q + 2;
-        let rom = rule_choice::simple_top_romanization_candidate_for_span(
-            rules,
-            ready,
-            code,
-            line,
-            places,
-            Span { from, to },
-        );
-        return opens(rules, rom);
+    if words::number_at(line, q + 1) != O_ANG {
+        return false;
     }
-    false
+    let rom = rule_choice::simple_top_romanization_candidate_for_span(
+        rules,
+        ready,
+        code,
+        line,
+        places,
+        Span {
+            from: q + 1,
+            to: q + 2,
+        },
+    );
+    opens(rules, rom)
 }
 
 // No vowel follows, or O ang and a vowel.
@@ -129,10 +122,7 @@ fn vowel_test(
         (λ L t v. vowel_test L t v q) result }
 {
     let rom = next_rom(rules, ready, code, line, places, q);
-    if opens(rules, rom) {
-        return o_ang_test(rules, ready, code, line, places, q);
-    }
-    true
+    !opens(rules, rom) || o_ang_test(rules, ready, code, line, places, q)
 }
 
 // Test by test in the file's order; only the yes or no is kept.
@@ -150,24 +140,15 @@ pub fn is_at_end_of_syllable(
 {
     // the character two back from `p`
     let back = words::kind_at(line, p - 1);
-    if words::is_alpha_kind(back) {
-        if table_classes::class_flag(back, table_classes::PRE) {
-            return false;
-        }
-        let q = past_tone(line, p);
-        let next = words::kind_at(line, q + 1);
-        if table_classes::class_flag(next, table_classes::PRE) {
-            return true;
-        }
-        if words::is_alpha_kind(next) {
-            if edge_places::is_closed(places, p - 1) {
-                return false;
-            }
-            return vowel_test(rules, ready, code, line, places, q);
-        }
+    if !words::is_alpha_kind(back) || table_classes::class_flag(back, table_classes::PRE) {
+        return false;
+    }
+    let q = past_tone(line, p);
+    let next = words::kind_at(line, q + 1);
+    if table_classes::class_flag(next, table_classes::PRE) || !words::is_alpha_kind(next) {
         return true;
     }
-    false
+    !edge_places::is_closed(places, p - 1) && vowel_test(rules, ready, code, line, places, q)
 }
 
 // Full search: the winner's end-of-syllable target where it has one and the span's end is an end of syllable, else its
@@ -179,20 +160,17 @@ pub fn top_romanization_candidate_for_span(
     line: &[u32],
     places: &mut [u32],
     look: Look,
-) -> Chosen
+) -> Option<Target>
     requires { Prepared rules.now ready.now × Looked rules.now line.now look }
     ensures { Answers rules.now ready.now code.now line.now places.old places.new
         (λ L t v. full L t v look.from look.to) (chosen_means rules.now result) × Said rules.now result }
 {
     let best = rule_choice::top_rule(rules, ready, code, line, places, look);
-    let Choice::Matched(row) = best else {
-        return Chosen::Untold;
-    };
-    if rule_row::flag(rules, row, rule_row::END_TARGET_BIT) {
-        if is_at_end_of_syllable(rules, ready, code, line, places, look.to) {
-            return Chosen::EndTarget(row);
-        }
-        return rule_choice::target_of(rules, best);
+    let row = best?;
+    if rule_row::flag(rules, row, rule_row::END_TARGET_BIT)
+        && is_at_end_of_syllable(rules, ready, code, line, places, look.to)
+    {
+        return Some(Target::AtEnd(row));
     }
     rule_choice::target_of(rules, best)
 }

@@ -1,6 +1,6 @@
 -- `syllables::is_at_end_of_syllable`: one law for each way out.
-use mathlib.Core.Bool.{Bool, true}
-use mathlib.Core.Path.{◌≡◌, refl, sym, ◌∙◌}
+use mathlib.Core.Bool.{Bool, not}
+use mathlib.Core.Path.{◌≡◌, refl, sym, ap, ◌∙◌}
 use mathlib.Core.List.{List}
 use Prim.Native.Nat.{ℕ, ◌+◌, ◌-◌, ◌/◌, ◌≤◌}
 use native.Mathlib.Omega.{arith}
@@ -8,7 +8,7 @@ use Rattle.definition.specs.Texts.{at, prev}
 use Rattle.definition.specs.Classes.{class, alpha}
 use Rattle.definition.specs.Syllables.{past_tone}
 use Rattle.edge_places.specs.Shows.{memory, closed-shown}
-use Rattle.words.specs.Did.{asked-none}
+use Rattle.words.specs.Did.{asked_by, asked-none}
 use Rattle.words.specs.Given.{World, Lined, kinds, seen, size, size_in, kind_in, line-size, alpha_kind}
 use Rattle.words.specs.Characters.{alpha-prev, flag_prev, alpha-here, flag_here}
 use Rattle.rule_choice.specs.Lent.{lexicon_of}
@@ -17,6 +17,7 @@ use Rattle.syllables.proofs.Tones.{tone-told, tone-near}
 use Rattle.base.specs.Pick.{pick}
 use Rattle.base.specs.Bits.{flagged}
 use Rattle.syllables.proofs.is_at_end_of_syllable.Goals as goal
+use Rattle.syllables.proofs.is_at_end_of_syllable.Goals.{then-not-is_alpha_kind-via-then-not-is_alpha_kind, then-not-is_alpha_kind-via-else-not-is_alpha_kind+then-class_flag, then-class_flag-2-via-then-class_flag-2, then-class_flag-2-via-else-class_flag-2+then-not-is_alpha_kind-2}
 
 -- The character two back is known, by its packed class `k`: where a letter or mark stands there, its flag was asked
 module _ {w : World} {line : List ℕ} (g : Lined w line) (p : ℕ) (h : p ≤ size_in line) where
@@ -24,7 +25,7 @@ module _ {w : World} {line : List ℕ} (g : Lined w line) (p : ℕ) (h : p ≤ s
   near-back = omega (arith, line-size g)
 
   module _ {k : ℕ} (e : k ≡ kind_in line (p - 1)) where
-    back-alpha : {r : Bool} → r ≡ alpha_kind k → r ≡ true → alpha (kinds w) (prev w.text (p - 1)) ≡ true
+    back-alpha : {r m : Bool} → r ≡ alpha_kind k → r ≡ m → alpha (kinds w) (prev w.text (p - 1)) ≡ m
     back-alpha q t = sym (alpha-prev g (p - 1) (omega (arith, near-back)) e q) ∙ t
 
     back-pre : {r m : Bool} → r ≡ flagged (k / 1024) 6 → r ≡ m → (class (kinds w) (prev w.text (p - 1))).pre ≡ m
@@ -45,10 +46,17 @@ module _ {w : World} {line : List ℕ} (g : Lined w line) (p : ℕ) (h : p ≤ s
       next-alpha : {r m : Bool} → r ≡ alpha_kind k → r ≡ m → alpha (kinds w) (at w.text q) ≡ m
       next-alpha v u = sym (alpha-here g q near_next e v) ∙ u
 
-pub returns-then-class_flag : goal.returns-then-class_flag
-returns-then-class_flag c =
-    λ w e g. asked-none (pre-left (lexicon_of c.args.rules.now w c.args.code.now) w.text (seen w) c.args.p _ (memory (size w) c.args.places.now) refl
-    (back-alpha g.text c.args.p c.requires.2 c.kind_at-back.ensures c.is_alpha_kind.ensures c.if-is_alpha_kind.true) (back-pre g.text c.args.p c.requires.2 c.kind_at-back.ensures c.class_flag.ensures c.if-class_flag.true))
+pub returns-then-not-is_alpha_kind : goal.returns-then-not-is_alpha_kind
+returns-then-not-is_alpha_kind c =
+    elim c.then-not-is_alpha_kind.branch [
+      | then-not-is_alpha_kind-via-then-not-is_alpha_kind v ↦ λ w e g.
+          asked-none (word_begins (lexicon_of c.args.rules.now w c.args.code.now) w.text (seen w) c.args.p _ (memory (size w) c.args.places.now) refl
+          (back-alpha g.text c.args.p c.requires.2 c.kind_at-back.ensures c.is_alpha_kind.ensures v.if-not-is_alpha_kind.true))
+      | then-not-is_alpha_kind-via-else-not-is_alpha_kind+then-class_flag v ↦ λ w e g.
+          asked-none (pre-left (lexicon_of c.args.rules.now w c.args.code.now) w.text (seen w) c.args.p _ (memory (size w) c.args.places.now) refl
+          (back-alpha g.text c.args.p c.requires.2 c.kind_at-back.ensures c.is_alpha_kind.ensures v.if-not-is_alpha_kind.false)
+          (back-pre g.text c.args.p c.requires.2 c.kind_at-back.ensures v.class_flag.ensures v.if-class_flag.true))
+    ]
 
 pub overflow_add-q : goal.overflow_add-q
 overflow_add-q c =
@@ -62,43 +70,29 @@ kind_at-next-requires c =
 
 pub returns-then-class_flag-2 : goal.returns-then-class_flag-2
 returns-then-class_flag-2 c =
-    λ w e g. asked-none (pre-right (lexicon_of c.args.rules.now w c.args.code.now) w.text (seen w) c.args.p c.past_tone-q.result (memory (size w) c.args.places.now)
-    (tone g.text c.args.p c.requires.2 c.past_tone-q.result c.past_tone-q.ensures) (back-alpha g.text c.args.p c.requires.2 c.kind_at-back.ensures c.is_alpha_kind.ensures c.if-is_alpha_kind.true) (back-pre g.text c.args.p c.requires.2 c.kind_at-back.ensures c.class_flag.ensures c.if-class_flag.false) (next-pre g.text c.args.p c.requires.2 c.past_tone-q.result c.past_tone-q.ensures c.kind_at-next.ensures c.class_flag-then-is_alpha_kind.ensures c.if-class_flag-2.true))
-
-pub returns-then-is_closed : goal.returns-then-is_closed
-returns-then-is_closed c =
-    λ w e g.
-    let v = sym (closed-shown g.edges (c.args.p - 1) (omega (arith, near-back g.text c.args.p c.requires.2))) ∙ sym c.is_closed.ensures ∙ c.if-is_closed.true in
-    asked-none (consonant_left (lexicon_of c.args.rules.now w c.args.code.now) w.text (seen w) c.args.p c.past_tone-q.result (memory (size w) c.args.places.now)
-    (tone g.text c.args.p c.requires.2 c.past_tone-q.result c.past_tone-q.ensures) (back-alpha g.text c.args.p c.requires.2 c.kind_at-back.ensures c.is_alpha_kind.ensures c.if-is_alpha_kind.true) (back-pre g.text c.args.p c.requires.2 c.kind_at-back.ensures c.class_flag.ensures c.if-class_flag.false) (next-pre g.text c.args.p c.requires.2 c.past_tone-q.result c.past_tone-q.ensures c.kind_at-next.ensures c.class_flag-then-is_alpha_kind.ensures c.if-class_flag-2.false)
-    (next-alpha g.text c.args.p c.requires.2 c.past_tone-q.result c.past_tone-q.ensures c.kind_at-next.ensures c.is_alpha_kind-then-is_alpha_kind.ensures c.if-is_alpha_kind-2.true) v)
+    elim c.then-class_flag-2.branch [
+      | then-class_flag-2-via-then-class_flag-2 v ↦ λ w e g.
+          asked-none (pre-right (lexicon_of c.args.rules.now w c.args.code.now) w.text (seen w) c.args.p c.past_tone-q.result (memory (size w) c.args.places.now) (tone g.text c.args.p c.requires.2 c.past_tone-q.result c.past_tone-q.ensures) (back-alpha g.text c.args.p c.requires.2 c.kind_at-back.ensures c.is_alpha_kind.ensures c.if-not-is_alpha_kind.false) (back-pre g.text c.args.p c.requires.2 c.kind_at-back.ensures c.class_flag.ensures c.if-class_flag.false) (next-pre g.text c.args.p c.requires.2 c.past_tone-q.result c.past_tone-q.ensures c.kind_at-next.ensures c.class_flag-2.ensures v.if-class_flag-2.true))
+      | then-class_flag-2-via-else-class_flag-2+then-not-is_alpha_kind-2 v ↦ λ w e g.
+          asked-none (word_ends (lexicon_of c.args.rules.now w c.args.code.now) w.text (seen w) c.args.p c.past_tone-q.result (memory (size w) c.args.places.now) (tone g.text c.args.p c.requires.2 c.past_tone-q.result c.past_tone-q.ensures) (back-alpha g.text c.args.p c.requires.2 c.kind_at-back.ensures c.is_alpha_kind.ensures c.if-not-is_alpha_kind.false) (back-pre g.text c.args.p c.requires.2 c.kind_at-back.ensures c.class_flag.ensures c.if-class_flag.false) (next-pre g.text c.args.p c.requires.2 c.past_tone-q.result c.past_tone-q.ensures c.kind_at-next.ensures c.class_flag-2.ensures v.if-class_flag-2.false)
+          (next-alpha g.text c.args.p c.requires.2 c.past_tone-q.result c.past_tone-q.ensures c.kind_at-next.ensures v.is_alpha_kind-else-class_flag-2.ensures v.if-not-is_alpha_kind-2.true))
+    ]
 
 pub vowel_test-requires : goal.vowel_test-requires
 vowel_test-requires c =
     let near = tone-near c.args.line.now c.args.p c.past_tone-q.result c.past_tone-q.ensures in
     (c.requires.0, omega (arith, near, c.requires.2))
 
-pub returns-then-is_alpha_kind-2 : goal.returns-then-is_alpha_kind-2
-returns-then-is_alpha_kind-2 c =
-    λ w e g.
-    let v = sym (closed-shown g.edges (c.args.p - 1) (omega (arith, near-back g.text c.args.p c.requires.2))) ∙ sym c.is_closed.ensures ∙ c.if-is_closed.false in
-    let A = c.vowel_test.ensures w e g in
-    record {
-      did = by-vowel (lexicon_of c.args.rules.now w c.args.code.now) w.text (seen w) c.args.p c.past_tone-q.result (memory (size w) c.args.places.now)
-          (tone g.text c.args.p c.requires.2 c.past_tone-q.result c.past_tone-q.ensures) (back-alpha g.text c.args.p c.requires.2 c.kind_at-back.ensures c.is_alpha_kind.ensures c.if-is_alpha_kind.true) (back-pre g.text c.args.p c.requires.2 c.kind_at-back.ensures c.class_flag.ensures c.if-class_flag.false) (next-pre g.text c.args.p c.requires.2 c.past_tone-q.result c.past_tone-q.ensures c.kind_at-next.ensures c.class_flag-then-is_alpha_kind.ensures c.if-class_flag-2.false)
-          (next-alpha g.text c.args.p c.requires.2 c.past_tone-q.result c.past_tone-q.ensures c.kind_at-next.ensures c.is_alpha_kind-then-is_alpha_kind.ensures c.if-is_alpha_kind-2.true) v A.did;
+pub returns-then-not-is_closed : goal.returns-then-not-is_closed
+returns-then-not-is_closed c =
+    λ w e g. let A = c.vowel_test.ensures w e g in record {
+      did = by-vowel (lexicon_of c.args.rules.now w c.args.code.now) w.text (seen w) c.args.p c.past_tone-q.result (memory (size w) c.args.places.now) (tone g.text c.args.p c.requires.2 c.past_tone-q.result c.past_tone-q.ensures) (back-alpha g.text c.args.p c.requires.2 c.kind_at-back.ensures c.is_alpha_kind.ensures c.if-not-is_alpha_kind.false) (back-pre g.text c.args.p c.requires.2 c.kind_at-back.ensures c.class_flag.ensures c.if-class_flag.false) (next-pre g.text c.args.p c.requires.2 c.past_tone-q.result c.past_tone-q.ensures c.kind_at-next.ensures c.class_flag-2.ensures c.if-class_flag-2.false)
+          (next-alpha g.text c.args.p c.requires.2 c.past_tone-q.result c.past_tone-q.ensures c.kind_at-next.ensures c.is_alpha_kind-else-class_flag-2.ensures c.if-not-is_alpha_kind-2.false)
+          (sym (closed-shown g.edges (c.args.p - 1) (omega (arith, near-back g.text c.args.p c.requires.2))) ∙ sym c.is_closed.ensures ∙ c.if-not-is_closed.true) A.did;
       kept = A.kept;
     }
 
-pub returns-then-is_alpha_kind : goal.returns-then-is_alpha_kind
-returns-then-is_alpha_kind c =
-    λ w e g. asked-none (word_ends (lexicon_of c.args.rules.now w c.args.code.now) w.text (seen w) c.args.p c.past_tone-q.result (memory (size w) c.args.places.now)
-    (tone g.text c.args.p c.requires.2 c.past_tone-q.result c.past_tone-q.ensures) (back-alpha g.text c.args.p c.requires.2 c.kind_at-back.ensures c.is_alpha_kind.ensures c.if-is_alpha_kind.true) (back-pre g.text c.args.p c.requires.2 c.kind_at-back.ensures c.class_flag.ensures c.if-class_flag.false) (next-pre g.text c.args.p c.requires.2 c.past_tone-q.result c.past_tone-q.ensures c.kind_at-next.ensures c.class_flag-then-is_alpha_kind.ensures c.if-class_flag-2.false)
-    (next-alpha g.text c.args.p c.requires.2 c.past_tone-q.result c.past_tone-q.ensures c.kind_at-next.ensures c.is_alpha_kind-then-is_alpha_kind.ensures c.if-is_alpha_kind-2.false))
-
-pub returns : goal.returns
-returns c =
-    λ w e g. let s = line-size g.text in
-    let L = lexicon_of c.args.rules.now w c.args.code.now in
-    let x = sym (alpha-prev g.text (c.args.p - 1) (omega arith) c.kind_at-back.ensures c.is_alpha_kind.ensures) ∙ c.if-is_alpha_kind.false in
-    asked-none (word_begins L w.text (seen w) c.args.p _ (memory (size w) c.args.places.now) refl x)
+pub returns-else-not-is_closed : goal.returns-else-not-is_closed
+returns-else-not-is_closed c =
+    λ w e g. asked_by (ap not c.if-not-is_closed.false) (asked-none (consonant_left (lexicon_of c.args.rules.now w c.args.code.now) w.text (seen w) c.args.p c.past_tone-q.result (memory (size w) c.args.places.now) (tone g.text c.args.p c.requires.2 c.past_tone-q.result c.past_tone-q.ensures) (back-alpha g.text c.args.p c.requires.2 c.kind_at-back.ensures c.is_alpha_kind.ensures c.if-not-is_alpha_kind.false) (back-pre g.text c.args.p c.requires.2 c.kind_at-back.ensures c.class_flag.ensures c.if-class_flag.false) (next-pre g.text c.args.p c.requires.2 c.past_tone-q.result c.past_tone-q.ensures c.kind_at-next.ensures c.class_flag-2.ensures c.if-class_flag-2.false)
+    (next-alpha g.text c.args.p c.requires.2 c.past_tone-q.result c.past_tone-q.ensures c.kind_at-next.ensures c.is_alpha_kind-else-class_flag-2.ensures c.if-not-is_alpha_kind-2.false) (sym (closed-shown g.edges (c.args.p - 1) (omega (arith, near-back g.text c.args.p c.requires.2))) ∙ sym c.is_closed.ensures ∙ c.if-not-is_closed.false)))

@@ -10,8 +10,8 @@ use Rattle.rule_choice.specs.Lent.{lexicon_of}
 use Rattle.syllables.specs.Tests.{o_ang_follows, no_o_ang}
 use Rattle.syllables.proofs.o_ang_test.Goals as goal
 
-pub returns-then-number_at-eq-O_ANG : goal.returns-then-number_at-eq-O_ANG
-returns-then-number_at-eq-O_ANG c =
+pub returns : goal.returns
+returns c =
     λ w e g. let A = c.simple_top_romanization_candidate_for_span-rom.ensures.0 w e g in
     let z = line-size g.text in
     let here : at w.text c.args.q ≡ o_ang = omega (arith, char_at g.text c.args.q (omega (arith, c.requires.1)), c.number_at.ensures) in
@@ -20,8 +20,8 @@ returns-then-number_at-eq-O_ANG c =
       kept = A.kept;
     }
 
-pub returns : goal.returns
-returns c =
+pub returns-then-number_at-ne-O_ANG : goal.returns-then-number_at-ne-O_ANG
+returns-then-number_at-ne-O_ANG c =
     λ w e g. let z = line-size g.text in
     asked-none (no_o_ang (lexicon_of c.args.rules.now w c.args.code.now) w.text (seen w) c.args.q (memory (size w) c.args.places.now)
     (ne_eqb (at w.text c.args.q) o_ang (λ y. omega (arith, y, char_at g.text c.args.q (omega (arith, c.requires.1)), c.number_at.ensures))))
