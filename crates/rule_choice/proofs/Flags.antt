@@ -6,36 +6,6 @@ use Rattle.definition.specs.Tables.{Rule}
 use Rattle.definition.specs.Rules.{lang, holds_at}
 use Rattle.rule_choice.specs.Chosen.{allowed, start_holds, asks_end, end_holds}
 
--- does one of three flags ask?
-module _ (a b c : Bool) where
-  pub asks_first : a ≡ true → true ≡ (a || b || c)
-  asks_first e = sym (ap (λ (x : Bool). x || b || c) e)
-
-  pub asks_second : a ≡ false → b ≡ true → true ≡ (a || b || c)
-  asks_second e f = sym (ap (λ (x : Bool). x || b || c) e ∙ ap (λ (x : Bool). x || c) f)
-
-  pub asks_third : a ≡ false → b ≡ false → c ≡ (a || b || c)
-  asks_third e f = sym (ap (λ (x : Bool). x || b || c) e ∙ ap (λ (x : Bool). x || c) f)
-
--- what they allow
-allowed-there : (a b c : Bool) → not b ≡ allowed a b c true
-unfolding allowed
-allowed-there a b c = simp (or-true, or-false, and-true)
-
-allowed_elsewhere : (a b c : Bool) → (not a && not c) ≡ allowed a b c false
-unfolding allowed
-allowed_elsewhere a b c = simp (or-true, or-false, and-true)
-
-module _ (a b c x : Bool) where
-  pub allows_there : x ≡ true → not b ≡ allowed a b c x
-  allows_there e = allowed-there a b c ∙ ap (allowed a b c) (sym e)
-
-  pub allows_only : x ≡ false → a ≡ true → false ≡ allowed a b c x
-  allows_only e f = ap (λ (y : Bool). not y && not c) (sym f) ∙ allowed_elsewhere a b c ∙ ap (allowed a b c) (sym e)
-
-  pub allows_else : x ≡ false → a ≡ false → not c ≡ allowed a b c x
-  allows_else e f = ap (λ (y : Bool). not y && not c) (sym f) ∙ allowed_elsewhere a b c ∙ ap (allowed a b c) (sym e)
-
 -- where none asks, anything is allowed
 unasked : (a b c x : Bool) → (a || b || c) ≡ false → true ≡ allowed a b c x
 unfolding allowed

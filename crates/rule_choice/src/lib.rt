@@ -30,13 +30,11 @@ pub fn matches_lcode(rules: &[u8], code: &[u8], row: usize) -> bool
     ensures { result ≡ lang code.now (rule_of (drop row rules.now)) }
 {
     let codes = rule_row::codes_count(rules, row);
-    let mut left = codes;
     let mut at = row + rule_row::codes_at(rules, row) + 1;
-    while 0 < left {
-        if lent_bytes::same(code, lent_bytes::part(rules, at, 3)) {
+    for _turn in 0..codes {
+        if code == lent_bytes::part(rules, at, 3) {
             return true;
         }
-        left -= 1;
         at += 3;
     }
     codes == 0
@@ -49,31 +47,27 @@ fn asks(rules: &[u8], row: usize, only: u32, never: u32) -> bool
     ensures { result ≡ (rule_flag (drop row rules.now) only || rule_flag (drop row rules.now) never
         || rule_flag (drop row rules.now) whole_word_bit) }
 {
-    if rule_row::flag(rules, row, only) {
-        return true;
-    }
-    if rule_row::flag(rules, row, never) {
-        return true;
-    }
-    rule_row::flag(rules, row, rule_row::WHOLE_WORD_BIT)
+    rule_row::flag(rules, row, only)
+        || rule_row::flag(rules, row, never)
+        || rule_row::flag(rules, row, rule_row::WHOLE_WORD_BIT)
 }
 
 // Does what these flags ask of a place hold, where the span is there or not?
+#[tactic(auto, unfolding(crate::specs::Chosen::allowed))]
 fn allows(rules: &[u8], row: usize, only: u32, never: u32, there: bool) -> bool
     requires { (only < 8) × (never < 8) }
     ensures { result ≡ allowed (rule_flag (drop row rules.now) only) (rule_flag (drop row rules.now) never)
         (rule_flag (drop row rules.now) whole_word_bit) there }
 {
     if there {
-        return !rule_row::flag(rules, row, never);
+        !rule_row::flag(rules, row, never)
+    } else {
+        !rule_row::flag(rules, row, only) && !rule_row::flag(rules, row, rule_row::WHOLE_WORD_BIT)
     }
-    if rule_row::flag(rules, row, only) {
-        return false;
-    }
-    !rule_row::flag(rules, row, rule_row::WHOLE_WORD_BIT)
 }
 
 // What the flags ask of a start of word: is it asked, and does it hold?
+#[tactic(auto, unfolding(definition::specs::Rules::asks_start, definition::specs::RuleRows::rule_of))]
 fn asks_start(rules: &[u8], row: usize) -> bool
     ensures { result ≡ asks_start (rule_of (drop row rules.now)) }
 {
@@ -85,6 +79,7 @@ fn asks_start(rules: &[u8], row: usize) -> bool
     )
 }
 
+#[tactic(auto, unfolding(crate::specs::Chosen::start_holds, definition::specs::RuleRows::rule_of))]
 fn start_holds(rules: &[u8], row: usize, start: bool) -> bool
     ensures { result ≡ start_holds (rule_of (drop row rules.now)) start }
 {
@@ -98,12 +93,14 @@ fn start_holds(rules: &[u8], row: usize, start: bool) -> bool
 }
 
 // What the flags ask of an end of word: is it asked, and does it hold?
+#[tactic(auto, unfolding(crate::specs::Chosen::asks_end, definition::specs::RuleRows::rule_of))]
 fn asks_end(rules: &[u8], row: usize) -> bool
     ensures { result ≡ asks_end (rule_of (drop row rules.now)) }
 {
     asks(rules, row, rule_row::END_ONLY_BIT, rule_row::NOT_END_BIT)
 }
 
+#[tactic(auto, unfolding(crate::specs::Chosen::end_holds, definition::specs::RuleRows::rule_of))]
 fn end_holds(rules: &[u8], row: usize, end: bool) -> bool
     ensures { result ≡ end_holds (rule_of (drop row rules.now)) end }
 {
@@ -132,16 +129,10 @@ fn holds_at(
         → spoken ≡ lang code (rule_of (drop row rules.now)) → result ≡ holds_at code start
         (word_end (rules_of rules.now) (kinds w) w.text e) (rule_of (drop row rules.now)) }
 {
-    if spoken {
-        if start_holds(rules, row, start) {
-            if asks_end(rules, row) {
-                return end_holds(rules, row, words::is_at_end_of_word(rules, ready, line, e));
-            }
-            return true;
-        }
-        return false;
-    }
-    false
+    spoken
+        && start_holds(rules, row, start)
+        && (!asks_end(rules, row)
+            || end_holds(rules, row, words::is_at_end_of_word(rules, ready, line, e)))
 }
 
 // Do code and word flags hold, where it is known whether the span is at a start and at an end of word?
@@ -149,13 +140,7 @@ pub fn holds(rules: &[u8], code: &[u8], row: usize, start: bool, end: bool) -> b
     requires { Row (drop row rules.now) }
     ensures { result ≡ holds_at code.now start end (rule_of (drop row rules.now)) }
 {
-    if matches_lcode(rules, code, row) {
-        if start_holds(rules, row, start) {
-            return end_holds(rules, row, end);
-        }
-        return false;
-    }
-    false
+    matches_lcode(rules, code, row) && start_holds(rules, row, start) && end_holds(rules, row, end)
 }
 
 // Is the rule in a row valid for a span? The start of a word is asked only where a flag asks it, but then also under a
@@ -184,6 +169,7 @@ pub fn cand_is_valid(
 }
 
 // Has the rule in a row a higher count than the one in another?
+#[tactic(auto, unfolding(definition::specs::Rules::higher, definition::specs::RuleRows::rule_of))]
 fn is_higher(rules: &[u8], row: usize, other: usize) -> bool
     ensures { result ≡ higher (rule_of (drop row rules.now)) (rule_of (drop other rules.now)) }
 {
@@ -231,20 +217,14 @@ pub fn top_rule(
 ) -> Option<usize>
     requires { Prepared rules.now ready.now × Looked rules.now line.now look }
     ensures { Answers rules.now ready.now code.now line.now places.old places.new
-        (λ L t v. choose L t v look.from look.to) (choice_means rules.now result) × Rowed rules.now result }
+        (λ L t v. choose L t v look.span.from look.span.to) (choice_means rules.now result) × Rowed rules.now result }
 {
-    let mut row = look.first;
-    let mut left = look.count;
+    let mut row = look.found.first;
     let mut best = None;
-    while 0 < left {
-        let span = Span {
-            from: look.from,
-            to: look.to,
-        };
-        let valid = cand_is_valid(rules, ready, code, line, places, row, span);
+    for _turn in 0..look.found.count {
+        let valid = cand_is_valid(rules, ready, code, line, places, row, look.span);
         best = improve(rules, row, valid, best);
         row += rule_row::size(rules, row);
-        left -= 1;
     }
     best
 }

@@ -163,12 +163,12 @@ pub fn top_romanization_candidate_for_span(
 ) -> Option<Target>
     requires { Prepared rules.now ready.now × Looked rules.now line.now look }
     ensures { Answers rules.now ready.now code.now line.now places.old places.new
-        (λ L t v. full L t v look.from look.to) (chosen_means rules.now result) × Said rules.now result }
+        (λ L t v. full L t v look.span.from look.span.to) (chosen_means rules.now result) × Said rules.now result }
 {
     let best = rule_choice::top_rule(rules, ready, code, line, places, look);
     let row = best?;
     if rule_row::flag(rules, row, rule_row::END_TARGET_BIT)
-        && is_at_end_of_syllable(rules, ready, code, line, places, look.to)
+        && is_at_end_of_syllable(rules, ready, code, line, places, look.span.to)
     {
         return Some(Target::AtEnd(row));
     }

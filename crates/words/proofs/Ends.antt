@@ -1,14 +1,15 @@
 -- End of word: one law for each answer, and for each turn of the loops.
 use mathlib.Core.Bool.{Bool, true, false, not, ◌&&◌, ◌||◌, and-false}
-use mathlib.Core.List.{List}
+use mathlib.Core.List.{List, [], ◌∷◌}
+use Rattle.std.specs.List.{list_any}
 use mathlib.Core.Option.{none}
-use mathlib.Core.Path.{◌≡◌, sym, ap, ◌∙◌, subst}
+use mathlib.Core.Path.{◌≡◌, refl, sym, ap, ◌∙◌, subst}
 use Prim.Native.Nat.{ℕ, ◌+◌, ◌-◌, ◌<◌, ◌≤◌}
 use native.Mathlib.Omega.{arith}
+use Rattle.std.proofs.lemmas.Bool.{not-true}
 use lib.Dec.{eqb}
 use lib.ListN.{get_or, drop}
 use lib.Seq.{get_or-take}
-use borrow.Author.Tests.{eq-eqb, ne_eqb}
 use Rattle.base.specs.Alls.{All, All-map, Opt, any_cong}
 use Rattle.base.specs.Bits.{is_set}
 use Rattle.base.specs.Lists.{any, is, keep}
@@ -29,18 +30,15 @@ use Rattle.table_classes.specs.Told.{alphas_of}
 use Rattle.words.specs.Given.{World, kinds, size, letters_in, Lined}
 use Rattle.words.specs.Looks.{Looked, looked_are, looked_last}
 use Rattle.words.specs.declared.Look.{Look}
+use Rattle.words.specs.declared.Span.{Span}
 use Rattle.words.specs.Found.{Rows, rules_in, none_in, one_in, next-rows}
 use Rattle.words.specs.Goes.{brings, letter_byte, goes_from, goes_over, goes_stops, goes-next}
 
--- a byte of a text, as it was told
-module _ (ready text : List ℕ) (i c b : ℕ) (e : c ≡ get_or text i 0) (f : b ≡ get_or ready c 0) where
-  pub byte_letter : b ≡ 1 → true ≡ letter_byte ready (get_or text i 0)
-  unfolding letter_byte
-  byte_letter h = sym (eq-eqb (get_or ready (get_or text i 0) 0) 1 (ap (λ k. get_or ready k 0) (sym e) ∙ sym f ∙ h))
-
-  pub byte_other : (b ≡ 1 → ⊥) → false ≡ letter_byte ready (get_or text i 0)
-  unfolding letter_byte
-  byte_other h = sym (ne_eqb (get_or ready (get_or text i 0) 0) 1 (λ z. h (f ∙ ap (λ k. get_or ready k 0) e ∙ z)))
+-- the library's `any` is the definition's
+pub any_is : {A : Type 0} (f : A → Bool) (l : List A) → list_any f l ≡ any f l
+unfolding any
+any_is f [] = refl
+any_is f (x ∷ l) = ap (λ (t : Bool). f x || t) (any_is f l)
 
 -- of an ASCII text it was told right
 pub letters-told : (classes ready : List ℕ) → letters_in ready ≡ alphas_of classes → (w : Text) → All Low w
@@ -78,21 +76,21 @@ module _ (s : List ℕ) where
         ∙ ap (λ (b : Bool). is (any (alpha ks)) (text_where b (drop (target_at s) s))) f)
 
 -- the rows of a span, by what is left of them
-module _ (b : List ℕ) (at left : ℕ) (f : Rule → Bool) where
-  pub rows-over : left ≡ 0 → false ≡ any f (rules_in b at left)
-  unfolding any
-  rows-over e = sym (ap (any f) (none_in b at left e))
+pub rows-over : (b : List ℕ) (at left : ℕ) (f : Rule → Bool) → left ≡ 0 → false ≡ any f (rules_in b at left)
+unfolding any
+rows-over b at left f e = sym (ap (any f) (none_in b at left e))
 
-  pub rows_turn : 0 < left → Rows b at left → (z : ℕ) → z ≡ rule_size (drop at b) → (t : Bool) → t ≡ f (rule_of (drop at b))
-      → (t || any f (rules_in b (at + z) (left - 1))) ≡ any f (rules_in b at left)
-  unfolding any
-  rows_turn h r z q t e =
-      ap (λ (u : Bool). u || any f (rules_in b (at + z) (left - 1))) e
-      ∙ ap (λ m. f (rule_of (drop at b)) || any f (rules_in b (at + m) (left - 1))) q
-      ∙ sym (ap (any f) (one_in b at left h r))
+module _ (b : List ℕ) (at left rest : ℕ) (h : left ≡ rest + 1) (r : Rows b at left) (z : ℕ) (q : z ≡ rule_size (drop at b)) where
+  pub rows_next : Rows b (at + z) rest
+  rows_next = subst (Rows b (at + z)) (omega arith) (subst (λ m. Rows b (at + m) (left - 1)) (sym q) (next-rows b at left (omega arith) r))
 
-pub rows_next : (b : List ℕ) (at left : ℕ) → 0 < left → Rows b at left → (z : ℕ) → z ≡ rule_size (drop at b) → Rows b (at + z) (left - 1)
-rows_next b at left h r z q = subst (λ m. Rows b (at + m) (left - 1)) (sym q) (next-rows b at left h r)
+  pub rows_turn : (f : Rule → Bool) (t : Bool) → t ≡ f (rule_of (drop at b)) → (t || any f (rules_in b (at + z) rest)) ≡ any f (rules_in b at left)
+  unfolding any
+  rows_turn f t e =
+      ap (λ (u : Bool). u || any f (rules_in b (at + z) rest)) e
+      ∙ ap (λ m. f (rule_of (drop at b)) || any f (rules_in b (at + m) rest)) q
+      ∙ ap (λ m. f (rule_of (drop at b)) || any f (rules_in b (at + rule_size (drop at b)) m)) {x = rest} {y = left - 1} (omega arith)
+      ∙ sym (ap (any f) (one_in b at left (omega arith) r))
 
 -- by the next character, and by what goes on from here
 pub by_both : (rs : List Rule) (ks : List Class) (t : Text) (p : ℕ) (a b : Bool) → alpha ks (at t p) ≡ a → any (goes_on ks t p) rs ≡ b
@@ -105,21 +103,28 @@ pub ends_over : {w : World} {line : List ℕ} (g : Lined w line) (rs : List Rule
     → goes_from (kinds w) w.text p rs e ≡ false
 ends_over {w} g rs p e k l = goes_over (kinds w) w.text p rs (omega arith) e (omega arith)
 
-module _ {rules line : List ℕ} {look : Look} (a : rule_fault rules ≡ none) (d : Looked rules line look) (p e : ℕ) (i : look.from ≡ p) (j : look.to ≡ e)
+module _ {rules line : List ℕ} {look : Look} (a : rule_fault rules ≡ none) (d : Looked rules line look) (p e : ℕ) (k : look.span ≡ record { from = p; to = e })
     {w : World} (g : Lined w line) where
   abbrev goes : ℕ → Bool
   goes q = goes_from (kinds w) w.text p (rules_of rules) q
 
-  pub ends_turn : (b : Bool) → b ≡ any (brings (kinds w)) (rules_in rules look.first look.count) → (b || goes (e + 1)) ≡ goes e
+  i : look.span.from ≡ p
+  i = ap (λ (s : Span). s.from) k
+
+  j : look.span.to ≡ e
+  j = ap (λ (s : Span). s.to) k
+
+  pub ends_turn : (b : Bool) → b ≡ any (brings (kinds w)) (rules_in rules look.found.first look.found.count) → (b || goes (e + 1)) ≡ goes e
   ends_turn b q =
       ap (λ (x : Bool). x || goes (e + 1))
-      (q ∙ ap (any (brings (kinds w))) (looked_are a d g ∙ ap (λ s. keep (spans w.text s look.to) (rules_of rules)) i
+      (q ∙ ap (any (brings (kinds w))) (looked_are a d g ∙ ap (λ s. keep (spans w.text s look.span.to) (rules_of rules)) i
       ∙ ap (λ z. keep (spans w.text p z) (rules_of rules)) j))
       ∙ sym (goes-next (kinds w) w.text p (rules_of rules) e)
 
-  pub ends_here : look.more ≡ false → goes (e + 1) ≡ false
-  ends_here q =
+  pub ends_here : not look.found.more ≡ true → goes (e + 1) ≡ false
+  ends_here u =
+      let q = not-true _ u in
       let h = d.forward in
       goes_stops (kinds w) w.text p (rules_of rules) (e + 1) (omega (arith, h, i, j))
       (ap (λ s. is_prefix (rules_of rules) w.text s (e + 1)) (sym i)
-      ∙ ap (λ z. is_prefix (rules_of rules) w.text look.from (z + 1)) (sym j) ∙ looked_last a d g q)
+      ∙ ap (λ z. is_prefix (rules_of rules) w.text look.span.from (z + 1)) (sym j) ∙ looked_last a d g q)

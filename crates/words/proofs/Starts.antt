@@ -1,12 +1,11 @@
 -- Start of word: one law for each answer.
-use mathlib.Core.Bool.{Bool, true, false, not, ◌&&◌, and-false}
+use mathlib.Core.Bool.{Bool, true, false, not, ◌&&◌}
 use mathlib.Core.List.{List}
 use mathlib.Core.Path.{◌≡◌, refl, sym, ap, ◌∙◌}
-use Prim.Native.Nat.{ℕ, zero, suc, ◌%◌, ◌≤◌, ◌<◌}
+use Prim.Native.Nat.{ℕ, zero, suc, ◌<◌}
 use native.Mathlib.Omega.{arith}
-use lib.Dec.{eqb, leb}
+use lib.Dec.{eqb}
 use lib.ListN.{get_or, set}
-use borrow.Author.Tests.{le-leb, lt-leb}
 use Rattle.base.specs.Pick.{pick, pick_all}
 use Rattle.base.specs.Bools.{eqb_alike}
 use Rattle.definition.specs.Texts.{Text, prev}
@@ -17,30 +16,16 @@ use Rattle.definition.specs.Boundaries.{fresh, recall, word_start}
 use Rattle.edge_places.specs.Entry.{start_in}
 use Rattle.edge_places.specs.Shows.{memory, told, remembered, remembered-told, remembered-memory, recalled}
 use Rattle.words.specs.Did.{Did, Asked, asked-none}
-use Rattle.words.specs.Given.{World, kinds, seen, size, alpha_kind}
-
--- by a category
-module _ (k c : ℕ) (e : c ≡ k % 8) where
-  pub alpha_no : c < 1 → leb 1 c ≡ alpha_kind k
-  unfolding alpha_kind
-  alpha_no h = lt-leb 1 c h ∙ sym (rw (sym e) (ap (λ (b : Bool). b && leb c 3) (lt-leb 1 c h)))
-
-  pub alpha_if : 1 ≤ c → leb c 3 ≡ alpha_kind k
-  unfolding alpha_kind
-  alpha_if h = sym (rw (sym e) (ap (λ (b : Bool). b && leb c 3) (le-leb 1 c h)))
+use Rattle.words.specs.Given.{World, kinds, seen, size}
 
 module _ (ks : List Class) (t : Text) (v : View) (p : ℕ) where
   pub by_text : alpha ks (prev t p) ≡ true → false ≡ fresh ks t v p
   unfolding fresh
   by_text a = sym (ap (λ (b : Bool). not b && not (v.letter p)) a)
 
-  pub by-edge : v.letter p ≡ true → false ≡ fresh ks t v p
+  pub by-edge : alpha ks (prev t p) ≡ false → (b : Bool) → b ≡ v.letter p → not b ≡ fresh ks t v p
   unfolding fresh
-  by-edge a = sym (ap (λ (b : Bool). not (alpha ks (prev t p)) && not b) a ∙ and-false (not (alpha ks (prev t p))))
-
-  pub by-none : alpha ks (prev t p) ≡ false → v.letter p ≡ false → true ≡ fresh ks t v p
-  unfolding fresh
-  by-none a b = sym (ap (λ (b : Bool). not b && not (v.letter p)) a ∙ ap not b)
+  by-edge a b e = ap not e ∙ sym (ap (λ (x : Bool). not x && not (v.letter p)) a)
 
   -- by what is remembered
   pub asked : (m m' : Mem) (r : Bool) → get_or m p 0 ≡ 0 → r ≡ fresh ks t v p → m' ≡ set m p (pick r 1 2)

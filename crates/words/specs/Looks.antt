@@ -23,11 +23,11 @@ abbrev pub source_in : List ℕ → ℕ → ℕ → Text
 source_in line s e = take (e - s) (drop (s + 1) line)
 
 pub record Looked (rules line : List ℕ) (look : Look) : Type 0 where
-  pub forward : look.from < look.to
-  pub inside : look.to ≤ size_in line
-  pub first : look.first ≡ first_at rules (source_in line look.from look.to)
-  pub count : look.count ≡ equal_rows rules (source_in line look.from look.to)
-  pub more : look.more ≡ has_longer (source_in line look.from look.to) (rules_of rules)
+  pub forward : look.span.from < look.span.to
+  pub inside : look.span.to ≤ size_in line
+  pub first : look.found.first ≡ first_at rules (source_in line look.span.from look.span.to)
+  pub count : look.found.count ≡ equal_rows rules (source_in line look.span.from look.span.to)
+  pub more : look.found.more ≡ has_longer (source_in line look.span.from look.span.to) (rules_of rules)
 
 -- a span that begins where a longer one does; a source is no shorter than what it begins with
 begins_shorter : (t w : Text) (s k : ℕ) → begins t w s (suc k) ≡ true → begins t w s k ≡ true
@@ -63,12 +63,12 @@ past_span rs t s e h k q = any_implies (λ r. begins t r.source s (e + 1 - s)) (
 
 module _ {rules line : List ℕ} {look : Look} (a : rule_fault rules ≡ none) (d : Looked rules line look) where
   abbrev source : Text
-  source = source_in line look.from look.to
+  source = source_in line look.span.from look.span.to
 
-  found : (rules_in rules look.first look.count ≡ with_source source (rules_of rules)) × Rows rules look.first look.count
-  found = found_at rules source a look.first look.count d.first d.count
+  found : (rules_in rules look.found.first look.found.count ≡ with_source source (rules_of rules)) × Rows rules look.found.first look.found.count
+  found = found_at rules source a look.found.first look.found.count d.first d.count
 
-  pub looked_rows : Rows rules look.first look.count
+  pub looked_rows : Rows rules look.found.first look.found.count
   looked_rows = found.1
 
   -- in every world that has the line
@@ -76,29 +76,29 @@ module _ {rules line : List ℕ} {look : Look} (a : rule_fault rules ≡ none) (
     abbrev t : Text
     t = w.text
 
-    ends : look.to ≤ length t
+    ends : look.span.to ≤ length t
     ends = omega (arith, line-size g, d.inside)
 
-    source_is : source ≡ part t look.from look.to
-    source_is = part_at g look.from look.to (look.from + 1) (look.to - look.from) (omega (arith, d.forward)) ends refl refl
+    source_is : source ≡ part t look.span.from look.span.to
+    source_is = part_at g look.span.from look.span.to (look.span.from + 1) (look.span.to - look.span.from) (omega (arith, d.forward)) ends refl refl
 
-    pub looked_are : rules_in rules look.first look.count ≡ keep (spans t look.from look.to) (rules_of rules)
+    pub looked_are : rules_in rules look.found.first look.found.count ≡ keep (spans t look.span.from look.span.to) (rules_of rules)
     looked_are =
         found.0 ∙ ap (λ x. with_source x (rules_of rules)) source_is
-        ∙ sym (spanning (rules_of rules) t look.from look.to (omega (arith, d.forward)) ends)
+        ∙ sym (spanning (rules_of rules) t look.span.from look.span.to (omega (arith, d.forward)) ends)
 
-    pub looked_prefix : is_prefix (rules_of rules) t look.from look.to ≡ (ltb 0 look.count || look.more)
+    pub looked_prefix : is_prefix (rules_of rules) t look.span.from look.span.to ≡ (ltb 0 look.found.count || look.found.more)
     looked_prefix =
-        prefix_is (rules_of rules) t look.from look.to (omega (arith, d.forward)) ends
+        prefix_is (rules_of rules) t look.span.from look.span.to (omega (arith, d.forward)) ends
         ∙ ap (λ x. is_start x (rules_of rules)) (sym source_is) ∙ start_or_longer rules source a
         ∙ ap (λ n. ltb 0 n || has_longer source (rules_of rules)) (sym d.count)
-        ∙ ap (λ (b : Bool). ltb 0 look.count || b) (sym d.more)
+        ∙ ap (λ (b : Bool). ltb 0 look.found.count || b) (sym d.more)
 
     -- the last end of all, past the text too
-    pub looked_last : look.more ≡ false → is_prefix (rules_of rules) t look.from (look.to + 1) ≡ false
-    looked_last e = go (is_prefix (rules_of rules) t look.from (look.to + 1)) refl
+    pub looked_last : look.found.more ≡ false → is_prefix (rules_of rules) t look.span.from (look.span.to + 1) ≡ false
+    looked_last e = go (is_prefix (rules_of rules) t look.span.from (look.span.to + 1)) refl
       where
-        go : (b : Bool) → is_prefix (rules_of rules) t look.from (look.to + 1) ≡ b → b ≡ false
+        go : (b : Bool) → is_prefix (rules_of rules) t look.span.from (look.span.to + 1) ≡ b → b ≡ false
         go false q = refl
-        go true q = absurd (true≢false (sym (past_span (rules_of rules) t look.from look.to (omega (arith, d.forward)) ends q)
+        go true q = absurd (true≢false (sym (past_span (rules_of rules) t look.span.from look.span.to (omega (arith, d.forward)) ends q)
             ∙ ap (λ x. has_longer x (rules_of rules)) (sym source_is) ∙ sym d.more ∙ e))

@@ -16,6 +16,8 @@ ghost use Rattle.words.specs.Looks.{Looked};
 ghost use Rattle.words.specs.Choosing.{choices_of};
 ghost use Rattle.words.specs.Goes.{brings, letter_byte};
 
+use rule_table::Found;
+
 // A stretch of the text, by the positions of its ends.
 #[derive(Clone, Copy)]
 pub struct Span {
@@ -27,11 +29,8 @@ pub struct Span {
 // with it.
 #[derive(Clone, Copy)]
 pub struct Look {
-    pub from: usize,
-    pub to: usize,
-    pub first: usize,
-    pub count: usize,
-    pub more: bool,
+    pub span: Span,
+    pub found: Found,
 }
 
 // The choices of a call (`Choices` of the definition), each 0 or 1.
@@ -64,21 +63,14 @@ pub const READY: usize = INDEX + rule_memo::PLACES;
 pub fn number_at(numbers: &[u32], i: usize) -> u32
     ensures { result ≡ get_or numbers.now i 0 }
 {
-    if i < numbers.len() {
-        return numbers[i];
-    }
-    0
+    numbers.get(i).copied().unwrap_or(0)
 }
 
 // How many characters the text has: the line has three spaces more, and of each its class.
 pub fn text_len(line: &[u32]) -> usize
     ensures { result ≡ size_in line.now }
 {
-    let half = line.len() / 2;
-    if half < 3 {
-        return 0;
-    }
-    half - 3
+    (line.len() / 2).saturating_sub(3)
 }
 
 // The class at a place.
@@ -90,11 +82,11 @@ pub fn kind_at(line: &[u32], i: usize) -> u32
 }
 
 // Is a class that of a letter or mark?
+#[tactic(auto, unfolding(crate::specs::Given::alpha_kind))]
 pub fn is_alpha_kind(kind: u32) -> bool
     ensures { result ≡ alpha_kind kind }
 {
-    let category = table_classes::category(kind);
-    1 <= category && category <= 3
+    matches!(table_classes::category(kind), 1..=3)
 }
 
 // Is the character at a place a letter or mark?
@@ -110,13 +102,7 @@ fn is_fresh(line: &[u32], places: &[u32], p: usize) -> bool
     requires { p < size_in line.now }
     ensures { (w : World) → Lent w line.now places.now → result ≡ fresh (kinds w) w.text (seen w) p }
 {
-    if is_alpha_at(line, p) {
-        return false;
-    }
-    if edge_places::has_letter(places, p) {
-        return false;
-    }
-    true
+    !is_alpha_at(line, p) && !edge_places::has_letter(places, p)
 }
 
 // Worked out at first asking, then remembered: a later edge doesn't change it.
@@ -139,14 +125,8 @@ pub fn is_at_start_of_word(line: &[u32], places: &mut [u32], p: usize) -> bool
 fn has_letter(ready: &[u32], text: &[u8]) -> bool
     ensures { result ≡ any (letter_byte ready.now) text.now }
 {
-    let mut i: usize = 0;
-    while i < text.len() {
-        if number_at(ready, base::byte(text, i) as usize) == 1 {
-            return true;
-        }
-        i += 1;
-    }
-    false
+    text.iter()
+        .any(|byte| number_at(ready, usize::from(*byte)) == 1)
 }
 
 // The choices, behind the ASCII letters.
@@ -168,7 +148,7 @@ pub fn mode_in(ready: &[u32]) -> u32
 }
 
 // The index of the decomposition table.
-pub fn forms_in<'a>(ready: &'a [u32]) -> &'a [u32]
+pub fn forms_in(ready: &[u32]) -> &[u32]
     requires { index_from ≤ length ready.now }
     ensures { result.now ≡ forms_in ready.now }
 {
@@ -176,7 +156,7 @@ pub fn forms_in<'a>(ready: &'a [u32]) -> &'a [u32]
 }
 
 // The index of the rule table with what is kept of characters, behind the other.
-pub fn index_in<'a>(ready: &'a [u32]) -> &'a [u32]
+pub fn index_in(ready: &[u32]) -> &[u32]
     requires { index_from ≤ length ready.now }
     ensures { result.now ≡ index_in ready.now }
 {
@@ -184,14 +164,14 @@ pub fn index_in<'a>(ready: &'a [u32]) -> &'a [u32]
 }
 
 // What is prepared: what was made ready, and the line behind it.
-pub fn ready_in<'a>(prepared: &'a [u32]) -> &'a [u32]
+pub fn ready_in(prepared: &[u32]) -> &[u32]
     requires { all_ready ≤ length prepared.now }
     ensures { result.now ≡ ready_in prepared.now }
 {
     &prepared[..READY]
 }
 
-pub fn line_in<'a>(prepared: &'a [u32]) -> &'a [u32]
+pub fn line_in(prepared: &[u32]) -> &[u32]
     requires { all_ready ≤ length prepared.now }
     ensures { result.now ≡ line_in prepared.now }
 {
@@ -204,29 +184,20 @@ fn brings_letter(rules: &[u8], ready: &[u32], row: usize) -> bool
     ensures { (classes : List ℕ) → letters_in ready.now ≡ alphas_of classes
         → result ≡ brings (classes_of classes) (rule_of (drop row rules.now)) }
 {
-    if rule_row::flag(rules, row, rule_row::START_ONLY_BIT) {
-        return false;
-    }
-    if rule_row::flag(rules, row, rule_row::TARGET_BIT) {
-        return has_letter(ready, rule_row::target_text(rules, row));
-    }
-    false
+    !rule_row::flag(rules, row, rule_row::START_ONLY_BIT)
+        && rule_row::flag(rules, row, rule_row::TARGET_BIT)
+        && has_letter(ready, rule_row::target_text(rules, row))
 }
 
 // What the rule table has of a span, by one search.
 pub fn look_up(rules: &[u8], ready: &[u32], line: &[u32], span: Span) -> Look
     requires { Prepared rules.now ready.now × (span.from < span.to) × (span.to ≤ size_in line.now) }
-    ensures { Looked rules.now line.now result × (result.from ≡ span.from) × (result.to ≡ span.to) }
+    ensures { Looked rules.now line.now result × (result.span ≡ span) }
 {
-    let from = span.from;
-    let to = span.to;
-    let found = rule_memo::look_up(rules, index_in(ready), &line[from + 1..to + 1]);
+    let text = &line[span.from + 1..span.to + 1];
     Look {
-        from,
-        to,
-        first: found.first,
-        count: found.count,
-        more: found.more,
+        span,
+        found: rule_memo::look_up(rules, index_in(ready), text),
     }
 }
 
@@ -237,13 +208,11 @@ fn rows_bring_letter(rules: &[u8], ready: &[u32], first: usize, count: usize) ->
         → result ≡ any (brings (classes_of classes)) (rules_in rules.now first count) }
 {
     let mut row = first;
-    let mut left = count;
-    while 0 < left {
+    for _turn in 0..count {
         if brings_letter(rules, ready, row) {
             return true;
         }
         row += rule_row::size(rules, row);
-        left -= 1;
     }
     false
 }
@@ -257,17 +226,12 @@ pub fn is_at_end_of_word(rules: &[u8], ready: &[u32], line: &[u32], p: usize) ->
     if is_alpha_at(line, p + 1) {
         return false;
     }
-    let n = text_len(line);
-    let mut e = p + 1;
-    while e <= n {
-        let look = look_up(rules, ready, line, Span { from: p, to: e });
-        if rows_bring_letter(rules, ready, look.first, look.count) {
+    for end in p + 1..=text_len(line) {
+        let found = look_up(rules, ready, line, Span { from: p, to: end }).found;
+        if rows_bring_letter(rules, ready, found.first, found.count) {
             return false;
         }
-        let more = look.more;
-        if more {
-            e += 1;
-        } else {
+        if !found.more {
             return true;
         }
     }

@@ -1,16 +1,13 @@
 -- `rule_choice::matches_lcode`: the codes still to come have the language where all of the row have.
 use mathlib.Core.Path.{◌≡◌}
-use Prim.Native.Nat.{◌+◌, ◌*◌}
+use Prim.Native.Nat.{◌+◌, ◌-◌, ◌*◌}
 use lib.ListN.{drop}
 use Rattle.base.specs.Lists.{any, same}
 use Rattle.base.specs.Rows.{counted}
 use Rattle.definition.specs.RuleRows.{code_of, target_at, rule_codes}
 use Rattle.rule_choice.proofs.matches_lcode.Given as goal
 
-abbrev pub invariant-loop-left : goal.invariant-loop-left
-invariant-loop-left l =
-    (any (same l.code) (counted code_of 3 l.left (drop l.at l.rules)) ≡ any (same l.code) (rule_codes (drop l.row l.rules)))
-    × (l.at + 3 * l.left ≡ l.row + target_at (drop l.row l.rules))
-
-abbrev pub decreases-loop-left : goal.decreases-loop-left
-decreases-loop-left l = l.left
+abbrev pub invariant-loop-turn : goal.invariant-loop-turn
+invariant-loop-turn l =
+    (any (same l.code) (counted code_of 3 (l.codes - l._turn) (drop l.at l.rules)) ≡ any (same l.code) (rule_codes (drop l.row l.rules)))
+    × (l.at + 3 * (l.codes - l._turn) ≡ l.row + target_at (drop l.row l.rules))

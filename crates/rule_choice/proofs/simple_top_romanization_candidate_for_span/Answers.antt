@@ -1,8 +1,9 @@
 -- `rule_choice::simple_top_romanization_candidate_for_span`: past the text nothing, else the winner's target.
 use mathlib.Core.Option.{none}
-use mathlib.Core.Path.{refl, sym}
+use mathlib.Core.Path.{refl, sym, ap}
 use native.Mathlib.Omega.{arith}
 use Rattle.edge_places.specs.Shows.{memory}
+use Rattle.words.specs.declared.Span.{Span}
 use Rattle.words.specs.Did.{did, asked-none}
 use Rattle.words.specs.Given.{seen, size, line-size}
 use Rattle.rule_choice.specs.Lent.{lexicon_of}
@@ -26,7 +27,7 @@ returns-then-text_len-span c =
 pub returns : goal.returns
 returns c = (
   λ w e g. let A = c.top_rule-best.ensures.0 w e g in record {
-    did = simply (lexicon_of c.args.rules.now w c.args.code.now) w.text (seen w) _ _ c.args.span.from c.args.span.to c.look_up-look.ensures.1 c.look_up-look.ensures.2
+    did = simply (lexicon_of c.args.rules.now w c.args.code.now) w.text (seen w) _ _ c.args.span.from c.args.span.to (ap (λ (s : Span). s.from) c.look_up-look.ensures.1) (ap (λ (s : Span). s.to) c.look_up-look.ensures.1)
         (memory (size w) c.args.places.now) _ (choice_means c.args.rules.now c.top_rule-best.result) A.did _ c.target_of.ensures.0;
     kept = A.kept;
   },

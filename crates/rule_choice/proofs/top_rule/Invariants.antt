@@ -1,7 +1,7 @@
 -- `rule_choice::top_rule`: what is left of the rows, from the best so far on, leads where the definition does.
 use mathlib.Core.List.{List}
 use mathlib.Core.Path.{◌≡◌}
-use Prim.Native.Nat.{ℕ}
+use Prim.Native.Nat.{ℕ, ◌-◌}
 use lib.ListN.{length}
 use Rattle.std.specs.Prelude as rust
 use Rattle.definition.specs.Rules.{choose}
@@ -19,10 +19,7 @@ pub record Led (rules code : List ℕ) (w : World) (s e : ℕ) (places₀ places
       ≡ choose (lexicon_of rules w code) w.text (seen w) s e (memory (size w) places₀)
   pub kept : told places ≡ told places₀
 
-abbrev pub invariant-loop-left : goal.invariant-loop-left
-invariant-loop-left l =
-    ((w : World) → Told w l.ready → Lent w l.line l.initial.places → Led l.rules l.code w l.look.from l.look.to l.initial.places l.places l.row l.left l.best)
-    × Rows l.rules l.row l.left × Rowed l.rules l.best × (length l.places ≡ length l.initial.places)
-
-abbrev pub decreases-loop-left : goal.decreases-loop-left
-decreases-loop-left l = l.left
+abbrev pub invariant-loop-turn : goal.invariant-loop-turn
+invariant-loop-turn l =
+    ((w : World) → Told w l.ready → Lent w l.line l.initial.places → Led l.rules l.code w l.look.span.from l.look.span.to l.initial.places l.places l.row (l.look.found.count - l._turn) l.best)
+    × Rows l.rules l.row (l.look.found.count - l._turn) × Rowed l.rules l.best × (length l.places ≡ length l.initial.places)

@@ -18,7 +18,7 @@ returns-in_err-row c = (
   λ w e g. let L = lexicon_of c.args.rules.now w c.args.code.now in
       let A = c.top_rule-best.ensures.0 w e g in
       record {
-        did = did_by (ap (chosen_means c.args.rules.now) c.from_residual.ensures) (no_rule L w.text (seen w) c.args.look.from c.args.look.to
+        did = did_by (ap (chosen_means c.args.rules.now) c.from_residual.ensures) (no_rule L w.text (seen w) c.args.look.span.from c.args.look.span.to
             (memory (size w) c.args.places.now) (did_by (sym (ap (choice_means c.args.rules.now) c.in_err-row.was)) A.did));
         kept = A.kept;
       },
@@ -37,7 +37,7 @@ returns-then-is_at_end_of_syllable c =
           let d = did_by (sym (ap (choice_means R) c.in_ok-row.was)) A.did in
           let B = c.is_at_end_of_syllable.ensures w e (lent-after _ g A.kept) in
           record {
-            did = at_end L w.text (seen w) c.args.look.from c.args.look.to (memory (size w) c.args.places.now) (rule_of s) d (text_of (drop (end_target_at s) s)) ended
+            did = at_end L w.text (seen w) c.args.look.span.from c.args.look.span.to (memory (size w) c.args.places.now) (rule_of s) d (text_of (drop (end_target_at s) s)) ended
                 (did_by (sym c.if-is_at_end_of_syllable.true) B.did);
             kept = B.kept ∙ A.kept;
           },
@@ -58,7 +58,7 @@ returns c =
             let B = v.is_at_end_of_syllable.ensures w e (lent-after _ g A.kept) in
             let ended = ap (λ x. text_where x (drop (end_target_at s) s)) (sym c.flag.ensures ∙ v.if-flag.true) in
             rw v.places-is record {
-              did = did_by target (inside L w.text (seen w) c.args.look.from c.args.look.to (memory (size w) c.args.places.now) (rule_of s)
+              did = did_by target (inside L w.text (seen w) c.args.look.span.from c.args.look.span.to (memory (size w) c.args.places.now) (rule_of s)
                   (did_by (sym rule) A.did) (text_of (drop (end_target_at s) s)) ended (did_by (sym v.if-is_at_end_of_syllable.false) B.did));
               kept = B.kept ∙ A.kept;
             }
@@ -67,7 +67,7 @@ returns c =
             let A = c.top_rule-best.ensures.0 w e g in
             let ended = ap (λ x. text_where x (drop (end_target_at s) s)) (sym c.flag.ensures ∙ v.if-flag.false) in
             rw v.places-is record {
-              did = did_by target (no_end_target L w.text (seen w) c.args.look.from c.args.look.to (memory (size w) c.args.places.now) (rule_of s)
+              did = did_by target (no_end_target L w.text (seen w) c.args.look.span.from c.args.look.span.to (memory (size w) c.args.places.now) (rule_of s)
                   (did_by (sym rule) A.did) ended);
               kept = A.kept;
             }

@@ -1,27 +1,13 @@
--- `words::has_letter`: what is left holds one where the whole does.
-use mathlib.Core.Bool.{true, false}
-use mathlib.Core.Path.{◌∙◌}
-use native.Mathlib.Omega.{arith}
-use Rattle.rom.proofs.Walks.{any-over, any_turn}
+-- `words::has_letter`: of each byte it was told once.
+use Rattle.std.proofs.Common.{rules, tests, ◌∙◌}
+use Rattle.std.proofs.lemmas.Iterator.{YieldsList-from_slice}
+use Rattle.std.proofs.lemmas.Iterator.Search.{any_from_yields_List}
+use Rattle.words.proofs.Ends.{any_is}
 use Rattle.words.specs.Goes.{letter_byte}
-use Rattle.words.proofs.Ends.{byte_letter, byte_other}
 use Rattle.words.proofs.has_letter.Goals as goal
 
-pub returns-then-number_at-eq1 : goal.returns-then-number_at-eq1
-returns-then-number_at-eq1 c =
-    let l = c in
-    let a = l.args in
-    any_turn (letter_byte a.ready.now) a.text.now l.loop-i.i (omega arith) true
-    (byte_letter a.ready.now a.text.now l.loop-i.i _ _ c.byte.ensures.0 c.number_at.ensures (omega arith))
-    ∙ l.loop-i.invariant
-
-pub loop-i-preserved : goal.loop-i-preserved
-loop-i-preserved c =
-    let l = c in
-    let a = l.args in
-    any_turn (letter_byte a.ready.now) a.text.now l.loop-i.i (omega arith) false
-    (byte_other a.ready.now a.text.now l.loop-i.i _ _ c.byte.ensures.0 c.number_at.ensures (λ z. omega arith))
-    ∙ l.loop-i.invariant
-
 pub returns : goal.returns
-returns c = let l = c in any-over (letter_byte l.args.ready.now) l.args.text.now l.loop-i.i (omega arith) ∙ l.loop-i.invariant
+unfolding letter_byte
+returns c =
+    any_from_yields_List (letter_byte c.args.ready.now) _ _ _ c.any.ensures.ran (YieldsList-from_slice c.args.text.now cc) (λ x b q k. search (rules, tests))
+    ∙ any_is _ c.args.text.now

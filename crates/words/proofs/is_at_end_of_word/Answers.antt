@@ -1,6 +1,7 @@
--- `words::is_at_end_of_word`: what a source that ends at `e` or later brings is what any brings.
+-- `words::is_at_end_of_word`: what a source that ends at `end` or later brings is what any brings.
 use mathlib.Core.Bool.{true, false}
 use mathlib.Core.Path.{refl, sym, ◌∙◌}
+use Prim.Native.Nat.{◌+◌}
 use native.Mathlib.Omega.{arith}
 use Rattle.definition.specs.RuleRows.{rules_of}
 use Rattle.definition.proofs.Ranges.{rules-sourced}
@@ -17,42 +18,45 @@ returns-then-is_alpha_at c =
     by_both (rules_of a.rules.now) (kinds w) w.text a.p true _
     (sym (alpha-at g a.p (omega arith)) ∙ sym c.is_alpha_at.ensures ∙ c.if-is_alpha_at.true) refl
 
-pub loop-e-init : goal.loop-e-init
-loop-e-init c =
-    let s = c in (
-      λ w e g. goes-start (kinds w) w.text s.args.p (rules_of s.args.rules.now) (rules-sourced s.args.rules.now s.requires.0.table.accepted),
-      omega arith,
-    )
+pub loop-end-init : goal.loop-end-init
+loop-end-init c =
+    λ w e g. goes-start (kinds w) w.text c.args.p (rules_of c.args.rules.now) (rules-sourced c.args.rules.now c.requires.0.table.accepted)
 
 pub rows_bring_letter-requires : goal.rows_bring_letter-requires
-rows_bring_letter-requires c =
-    looked_rows c.requires.0.table.accepted c.look_up-look.ensures.0
+rows_bring_letter-requires c = looked_rows c.requires.0.table.accepted c.look_up.ensures.0
 
 pub returns-then-rows_bring_letter : goal.returns-then-rows_bring_letter
 returns-then-rows_bring_letter c =
-    let L = c.look_up-look.ensures in
+    let L = c.look_up.ensures in
     λ w e g. by_both (rules_of c.args.rules.now) (kinds w) w.text c.args.p false true (let z = line-size g in sym (alpha-at g c.args.p (omega arith)) ∙ sym c.is_alpha_at.ensures ∙ c.if-is_alpha_at.false)
-    (sym (c.loop-e.invariant.0 w e g) ∙ sym (ends_turn c.requires.0.table.accepted L.0 c.args.p c.loop-e.e L.1 L.2 g true
+    (sym (c.loop-end.invariant w e g) ∙ sym (ends_turn c.requires.0.table.accepted L.0 c.args.p c.loop-end.end L.1 g true
     (sym c.if-rows_bring_letter.true ∙ c.rows_bring_letter.ensures w.classes e.letters)))
 
-pub loop-e-preserved : goal.loop-e-preserved
-loop-e-preserved c =
-    let L = c.look_up-look.ensures in (
-      λ w e g. ends_turn c.requires.0.table.accepted L.0 c.args.p c.loop-e.e L.1 L.2 g false
-          (sym c.if-rows_bring_letter.false ∙ c.rows_bring_letter.ensures w.classes e.letters) ∙ c.loop-e.invariant.0 w e g,
-      omega (arith, c.loop-e.invariant.1),
-    )
+pub loop-end-preserved : goal.loop-end-preserved
+loop-end-preserved c =
+    let L = c.look_up.ensures in
+    λ w e g. ends_turn c.requires.0.table.accepted L.0 c.args.p c.loop-end.end L.1 g false
+    (sym c.if-rows_bring_letter.false ∙ c.rows_bring_letter.ensures w.classes e.letters) ∙ c.loop-end.invariant w e g
 
-pub returns-else-more : goal.returns-else-more
-returns-else-more c =
-    let L = c.look_up-look.ensures in
+pub returns-then-not-found : goal.returns-then-not-found
+returns-then-not-found c =
+    let L = c.look_up.ensures in
     λ w e g. by_both (rules_of c.args.rules.now) (kinds w) w.text c.args.p false false (let z = line-size g in sym (alpha-at g c.args.p (omega arith)) ∙ sym c.is_alpha_at.ensures ∙ c.if-is_alpha_at.false)
-    (sym (c.loop-e.invariant.0 w e g) ∙ sym (ends_turn c.requires.0.table.accepted L.0 c.args.p c.loop-e.e L.1 L.2 g false
+    (sym (c.loop-end.invariant w e g) ∙ sym (ends_turn c.requires.0.table.accepted L.0 c.args.p c.loop-end.end L.1 g false
     (sym c.if-rows_bring_letter.false ∙ c.rows_bring_letter.ensures w.classes e.letters))
-    ∙ ends_here c.requires.0.table.accepted L.0 c.args.p c.loop-e.e L.1 L.2 g c.if-more.false)
+    ∙ ends_here c.requires.0.table.accepted L.0 c.args.p c.loop-end.end L.1 g c.if-not-found.true)
 
-pub returns : goal.returns
-returns c =
+pub returns-else-not-found : goal.returns-else-not-found
+returns-else-not-found c =
+    let L = c.look_up.ensures in
     λ w e g. let z = line-size g in
-    by_both (rules_of c.args.rules.now) (kinds w) w.text c.args.p false false (let z = line-size g in sym (alpha-at g c.args.p (omega arith)) ∙ sym c.is_alpha_at.ensures ∙ c.if-is_alpha_at.false)
-    (sym (c.loop-e.invariant.0 w e g) ∙ ends_over g (rules_of c.args.rules.now) c.args.p c.loop-e.e (omega arith) (omega arith))
+    by_both (rules_of c.args.rules.now) (kinds w) w.text c.args.p false false (sym (alpha-at g c.args.p (omega arith)) ∙ sym c.is_alpha_at.ensures ∙ c.if-is_alpha_at.false)
+    (sym (c.loop-end.invariant w e g) ∙ sym (ends_turn c.requires.0.table.accepted L.0 c.args.p c.loop-end.end L.1 g false
+    (sym c.if-rows_bring_letter.false ∙ c.rows_bring_letter.ensures w.classes e.letters))
+    ∙ ends_over g (rules_of c.args.rules.now) c.args.p (c.loop-end.end + 1) (omega arith) (omega arith))
+
+pub returns-else-is_alpha_at : goal.returns-else-is_alpha_at
+returns-else-is_alpha_at c =
+    λ w e g. let z = line-size g in
+    by_both (rules_of c.args.rules.now) (kinds w) w.text c.args.p false false (sym (alpha-at g c.args.p (omega arith)) ∙ sym c.is_alpha_at.ensures ∙ c.if-is_alpha_at.false)
+    (sym (c.loop-end.invariant w e g) ∙ ends_over g (rules_of c.args.rules.now) c.args.p c.loop-end.end (omega arith) (omega arith))

@@ -1,6 +1,5 @@
--- `words::is_at_end_of_word`: what a source that ends at `e` or later brings is what any brings.
+-- `words::is_at_end_of_word`: what a source that ends at `end` or later brings is what any brings.
 use mathlib.Core.Path.{◌≡◌}
-use Prim.Native.Nat.{◌+◌, ◌-◌, ◌<◌}
 use Rattle.base.specs.Lists.{any}
 use Rattle.definition.specs.RuleRows.{rules_of}
 use Rattle.definition.specs.Boundaries.{goes_on}
@@ -8,11 +7,7 @@ use Rattle.words.specs.Given.{World, kinds, Told, Lined}
 use Rattle.words.specs.Goes.{goes_from}
 use Rattle.words.proofs.is_at_end_of_word.Given as goal
 
-abbrev pub invariant-loop-e : goal.invariant-loop-e
-invariant-loop-e l =
-    ((w : World) → Told w l.ready → Lined w l.line
-    → goes_from (kinds w) w.text l.p (rules_of l.rules) l.e ≡ any (goes_on (kinds w) w.text l.p) (rules_of l.rules))
-    × (l.p < l.e)
-
-abbrev pub decreases-loop-e : goal.decreases-loop-e
-decreases-loop-e l = l.n + 1 - l.e
+abbrev pub invariant-loop-end : goal.invariant-loop-end
+invariant-loop-end l =
+    (w : World) → Told w l.ready → Lined w l.line
+    → goes_from (kinds w) w.text l.p (rules_of l.rules) l.end ≡ any (goes_on (kinds w) w.text l.p) (rules_of l.rules)

@@ -12,7 +12,7 @@ pub returns : goal.returns
 returns c =
     let k = c in
     let a = k.args in
-    let f = c.look_up-found.ensures in
+    let f = c.look_up.ensures in
     let s = a.span.from in
     let e = a.span.to in
     let line = a.line.now in
@@ -24,6 +24,5 @@ returns c =
         count = f.count ∙ ap (λ n. equal_rows a.rules.now (take n (drop (s + 1) line))) z;
         more = f.more ∙ ap (λ n. has_longer (take n (drop (s + 1) line)) (rules_of a.rules.now)) z;
       },
-      refl,
       refl,
     )

@@ -1,7 +1,7 @@
 -- `words::rows_bring_letter`: the rows still to come have a rule that brings one where all of them have.
 use mathlib.Core.List.{List}
 use mathlib.Core.Path.{◌≡◌}
-use Prim.Native.Nat.{ℕ}
+use Prim.Native.Nat.{ℕ, ◌-◌}
 use Rattle.base.specs.Lists.{any}
 use Rattle.definition.specs.ClassRows.{classes_of}
 use Rattle.table_classes.specs.Told.{alphas_of}
@@ -10,11 +10,8 @@ use Rattle.words.specs.Found.{Rows, rules_in}
 use Rattle.words.specs.Goes.{brings}
 use Rattle.words.proofs.rows_bring_letter.Given as goal
 
-abbrev pub invariant-loop-left : goal.invariant-loop-left
-invariant-loop-left l =
+abbrev pub invariant-loop-turn : goal.invariant-loop-turn
+invariant-loop-turn l =
     ((classes : List ℕ) → letters_in l.ready ≡ alphas_of classes
-    → any (brings (classes_of classes)) (rules_in l.rules l.row l.left) ≡ any (brings (classes_of classes)) (rules_in l.rules l.first l.count))
-    × Rows l.rules l.row l.left
-
-abbrev pub decreases-loop-left : goal.decreases-loop-left
-decreases-loop-left l = l.left
+    → any (brings (classes_of classes)) (rules_in l.rules l.row (l.count - l._turn)) ≡ any (brings (classes_of classes)) (rules_in l.rules l.first l.count))
+    × Rows l.rules l.row (l.count - l._turn)
