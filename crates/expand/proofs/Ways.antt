@@ -1,5 +1,5 @@
 -- The ways out of the expansion's tests.
-use mathlib.Core.Bool.{Bool, true, false, ◌&&◌, or-false, true≢false}
+use mathlib.Core.Bool.{Bool, true, false, ◌&&◌, true≢false}
 use mathlib.Core.List.{List, [], ◌∷◌, reverse}
 use mathlib.Core.Option.{Option, none, some}
 use mathlib.Core.Path.{◌≡◌, refl, sym, ap, ◌∙◌}
@@ -7,11 +7,10 @@ use Prim.Native.Nat.{ℕ, ◌≤◌}
 use native.Mathlib.Omega.{arith}
 use lib.Dec.{eqb}
 use lib.ListN.{length}
-use borrow.Author.Tests.{ne_eqb}
 use Rattle.base.specs.Pick.{pick}
-use Rattle.base.specs.Bools.{and_left, eqb_alike}
-use Rattle.base.specs.Lists.{has, is, head, tail, maybe, same}
-use Rattle.definition.specs.Texts.{Text, among, at, consonants, letter_i, coptic_grave}
+use Rattle.base.specs.Bools.{and_left}
+use Rattle.base.specs.Lists.{has, is, head, tail, same}
+use Rattle.definition.specs.Texts.{Text, at, consonants, letter_i, coptic_grave}
 use Rattle.definition.specs.Tables.{Rule, Class}
 use Rattle.definition.specs.Rules.{first_rule}
 use Rattle.definition.specs.Within.{inner}
@@ -19,6 +18,14 @@ use Rattle.definition.specs.ExpandBounds.{space_not_small}
 use Rattle.definition.specs.Expansion.{Work, small_ya, small_target}
 use Rattle.rule_choice.specs.Chosen.{or_nothing}
 use Rattle.expand.specs.Tests.{has_grave}
+use Rattle.std.specs.declared.ops.ControlFlow.{ControlFlow}
+use Rattle.std.specs.declared.ops.ControlFlow.TheVariants.{Break, Continue}
+use Rattle.definition.specs.Tables.{Lexicon}
+use Rattle.definition.specs.Edges.{View, M}
+use Rattle.words.specs.Given.{World, seen, Lent}
+use Rattle.rule_choice.specs.Lent.{lexicon_of}
+use Rattle.steps.specs.declared.Growing.{Growing}
+use Rattle.expand.specs.Steps.{Opens}
 use Rattle.expand.specs.Sides.{after_consonant, small_here}
 
 -- what is there, and what is not
@@ -29,11 +36,6 @@ told (some y) e = refl
 pub absent : {A : Type 0} (o : Option A) → has o ≡ false → o ≡ none
 absent none e = refl
 absent (some y) e = absurd (true≢false e)
-
-pub there : {A : Type 0} (o : Option A) (d : A) → has o ≡ true → o ≡ some (maybe o d (λ x. x))
-unfolding maybe
-there none d e = absurd (true≢false (sym e))
-there (some x) d e = refl
 
 pub no_text : (w : Text) → length w ≡ 0 → same w [] ≡ true
 unfolding same
@@ -52,20 +54,6 @@ no_grave-past ks t p h = none_so (has_grave ks t p) (λ e. omega (arith, inner t
 pub no_small-past : (ks : List Class) (t : Text) (p : ℕ) → length t ≤ p → false ≡ small_here ks t p
 unfolding small_here
 no_small-past ks t p h = none_so (small_here ks t p) (λ e. omega (arith, inner t p small_ya space_not_small (and_left _ _ e)))
-
--- the last of the small ones, where those before it fail
-pub last-small : (c : ℕ) → (c ≡ 0x3083 → ⊥) → (c ≡ 0x3085 → ⊥) → (c ≡ 0x3087 → ⊥) → (c ≡ 0x30E3 → ⊥) → (c ≡ 0x30E5 → ⊥)
-    → eqb c 0x30E7 ≡ small_ya c
-unfolding small_ya among
-last-small c e f g h i =
-    sym (rw (
-      ne_eqb 0x3083 c (λ k. e (sym k)),
-      ne_eqb 0x3085 c (λ k. f (sym k)),
-      ne_eqb 0x3087 c (λ k. g (sym k)),
-      ne_eqb 0x30E3 c (λ k. h (sym k)),
-      ne_eqb 0x30E5 c (λ k. i (sym k)),
-    )
-    (or-false (eqb 0x30E7 c) ∙ eqb_alike 0x30E7 c c 0x30E7 sym sym))
 
 both : (x c d : Bool) → (x && c && d) ≡ (x && (c && d))
 both true c d = refl
@@ -93,3 +81,11 @@ module _ (rs : List Rule) (ks : List Class) (t : Text) (w : Work) where
     pub small-ruled-by : after_consonant w.rom ≡ true → first_rule rs (at t w.to ∷ []) ≡ small_target rs ks t w
     unfolding pick
     small-ruled-by f = by_tests e f
+
+-- What opens one step opens another that does the same
+pub opens_as : (rules ready line places : List ℕ) (o : ℕ) (f g : Lexicon → Text → View → M Work) (b : List ℕ) (r : ControlFlow Growing Growing)
+    → ((x : World) (code : List ℕ) → Lent x line places
+    → f (lexicon_of rules x code) x.text (seen x) ≡ g (lexicon_of rules x code) x.text (seen x))
+    → Opens rules ready line places o f b r → Opens rules ready line places o g b r
+opens_as rules ready line places o f g b (Break z) e h = (λ x code l. h.0 x code l ∙ e x code l, h.1)
+opens_as rules ready line places o f g b (Continue z) e h = (λ x code l. h.0 x code l ∙ e x code l, h.1)

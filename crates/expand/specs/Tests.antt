@@ -1,5 +1,5 @@
 -- The expansion: one law for each way out of its steps that may remember more.
-use Rattle.std.specs.Prelude.{Bool, true, false, ◌&&◌, List, [], ◌∷◌, ◌++◌, ◌≡◌, ℕ, ◌+◌, eqb}
+use Rattle.std.specs.Prelude.{Bool, true, false, ◌&&◌, List, [], ◌∷◌, ◌++◌, ◌≡◌, refl, ℕ, ◌+◌, eqb}
 use Rattle.std.proofs.Math.Option.{Option, none, some}
 use Rattle.std.proofs.Math.Path.{sym}
 use Rattle.std.proofs.Common.{ap, ◌∙◌}
@@ -19,6 +19,23 @@ unfoldable pub has_grave : List Class → Text → ℕ → Bool
 has_grave ks t p = eqb (at t p) coptic_grave && eqb (script ks (prev t p)) script_coptic
 
 module _ (L : Lexicon) (t : Text) (v : View) where
+  -- does a rule have a span: does a simple search of it answer a text?
+  unfoldable pub ruled : ℕ → ℕ → M Bool
+  ruled s e = simple L t v s e >>= (λ r. ret (has r))
+
+  module _ (s e : ℕ) (m : Mem) {m₁ : Mem} where
+    pub ruled-is : {r : Option Text} → Did (simple L t v s e m) r m₁ → Did (ruled s e m) (has r) m₁
+    unfolding ruled ret ◌>>=◌
+    ruled-is d = record { value = ap has d.value; memory = d.memory }
+
+    pub ruled-by : {b : Bool} → Did (ruled s e m) b m₁ → Did (simple L t v s e m) (simple L t v s e m).0 m₁
+    unfolding ruled ret ◌>>=◌
+    ruled-by d = record { value = refl; memory = d.memory }
+
+    pub ruled-has : {b : Bool} → Did (ruled s e m) b m₁ → has (simple L t v s e m).0 ≡ b
+    unfolding ruled ret ◌>>=◌
+    ruled-has d = sym d.value
+
   module _ (o : ℕ) (w : Work) (m : Mem) where
     pub no_grave : has_grave L.classes t w.to ≡ false → Did (grave L t v o w m) w m
     unfolding grave has_grave ret pick
@@ -59,41 +76,28 @@ module _ (L : Lexicon) (t : Text) (v : View) where
     unfolding rest ret ◌>>=◌
     rest-is d f = did (rw (outcome d, outcome f))
 
-  -- What the steps by script left: the expansion ends with it where they were done, else the rest comes
-  unfoldable pub onward : ℕ → Bool → Work → M Work
-  onward o done w = pick done (ret w) (rest L t v o w)
-
-  module _ (o : ℕ) (w : Work) (m : Mem) {b : Bool} where
-    pub ends_there : b ≡ true → {f : M Work} → onward o b w ≡ f → Did (f m) w m
-    unfolding onward ret pick
-    ends_there d e = did (ap (λ (g : M Work). g m) (sym e) ∙ rw d)
-
-    pub goes_on : b ≡ false → {f : M Work} → onward o b w ≡ f → {x : Work} {m₁ : Mem} → Did (rest L t v o w m) x m₁ → Did (f m) x m₁
-    unfolding onward pick
-    goes_on d e h = did (ap (λ (g : M Work). g m) (sym e) ∙ rw d (outcome h))
-
   -- Thai
   module _ (c : Choices) (o : ℕ) (w : Work) where
-    pub patterned : {b : Bool} {x y : Work} → b ≡ true → y ≡ x → around L.rules L.classes t w ≡ some x → onward o b y ≡ thai L t v c o w
-    unfolding thai onward pick maybe
-    patterned d f e = rw (d, f) (sym (rw e))
+    pub patterned : {x : Work} → some x ≡ around L.rules L.classes t w → ret x ≡ thai L t v c o w
+    unfolding thai maybe
+    patterned e = sym (rw (sym e))
 
-    module _ (e : around L.rules L.classes t w ≡ none) (u : Work) (d : u ≡ before L.rules L.classes t w) where
-      pub deleted : {y : Text} → y ≡ [] → silent c L.rules L.classes t v o u ≡ true → onward o true (work y u.from u.to note_del) ≡ thai L t v c o w
-      unfolding thai o_ang_step onward pick maybe
-      deleted h f = rw h (sym (rw (e, sym d, f)))
+    module _ (e : none ≡ around L.rules L.classes t w) (u : Work) (d : u ≡ before L.rules L.classes t w) where
+      pub deleted : {y : Text} → y ≡ [] → silent c L.rules L.classes t v o u ≡ true → ret (work y u.from u.to note_del) ≡ thai L t v c o w
+      unfolding thai o_ang_step pick maybe
+      deleted h f = rw h (sym (rw (sym e, sym d, f)))
 
-      pub spoken : silent c L.rules L.classes t v o u ≡ false → onward o false u ≡ thai L t v c o w
-      unfolding thai o_ang_step onward pick maybe
-      spoken f = sym (rw (e, sym d, f))
+      pub spoken : silent c L.rules L.classes t v o u ≡ false → rest L t v o u ≡ thai L t v c o w
+      unfolding thai o_ang_step pick maybe
+      spoken f = sym (rw (sym e, sym d, f))
 
     -- by script
-    pub in_thai : eqb (script L.classes (at t o)) script_thai ≡ true → {f : M Work} → f ≡ thai L t v c o w → f ≡ by_script L t v c o w
+    pub in_thai : eqb (script L.classes (at t o)) script_thai ≡ true → thai L t v c o w ≡ by_script L t v c o w
     unfolding by_script pick
-    in_thai e d = d ∙ sym (rw e)
+    in_thai e = sym (rw e)
 
-    pub elsewhere : eqb (script L.classes (at t o)) script_thai ≡ false → onward o false w ≡ by_script L t v c o w
-    unfolding by_script onward pick
+    pub elsewhere : eqb (script L.classes (at t o)) script_thai ≡ false → rest L t v o w ≡ by_script L t v c o w
+    unfolding by_script pick
     elsewhere e = sym (rw e)
 
   -- the whole
@@ -102,7 +106,13 @@ module _ (L : Lexicon) (t : Text) (v : View) where
     unfolding expand ret pick
     nothing-to-expand f = did (rw f)
 
-    pub expanded : same rom [] ≡ false → {y x : Work} {m₁ : Mem} → y ≡ double L.classes t s (capitalize c L.classes t (work rom s e note_none))
-        → Did (by_script L t v c s y m) x m₁ → Did (expand L t v c rom s e m) x m₁
-    unfolding expand pick
-    expanded f h d = did (rw (f, sym h) (outcome d))
+    module _ (f : same rom [] ≡ false) {y : Work} (h : y ≡ double L.classes t s (capitalize c L.classes t (work rom s e note_none))) where
+      -- the steps by script break off, or the rest comes
+      pub broken-off : {x : Work} → ret x ≡ by_script L t v c s y → Did (expand L t v c rom s e m) x m
+      unfolding expand ret pick
+      broken-off {x} d = did (rw (f, sym h) (ap (λ (g : M Work). g m) (sym d)))
+
+      pub gone-on : (u : Work) → rest L t v s u ≡ by_script L t v c s y → {x : Work} {m₁ : Mem} → Did (rest L t v s u m) x m₁
+          → Did (expand L t v c rom s e m) x m₁
+      unfolding expand pick
+      gone-on u d r = did (rw (f, sym h) (ap (λ (g : M Work). g m) (sym d) ∙ outcome r))

@@ -16,20 +16,18 @@ ghost use Rattle.rule_choice.specs.Chosen.{chosen_means, Said, or_nothing};
 ghost use Rattle.words.specs.Choosing.{choices_of};
 ghost use Rattle.capitals.specs.Spans.{over};
 ghost use Rattle.steps.specs.Works.{work_of, work_in, Held};
-ghost use Rattle.expand.specs.Tests.{has_grave};
+ghost use Rattle.expand.specs.Tests.{has_grave, ruled};
 ghost use Rattle.expand.specs.Sides.{after_consonant, small_here};
 ghost use Rattle.expand.specs.Steps.{Workable, Opens};
 
 use rom::Rom;
-use rule_choice::Chosen;
-use steps::{Growing, Tried, Work};
+use rule_choice::Target;
+use std::ops::ControlFlow;
+use steps::{Growing, Work};
 use words::{Choices, Span};
 
 // U+0300, the grave over a Coptic letter.
 const GRAVE: u32 = 0x0300;
-
-// The letter i.
-const LETTER_I: u32 = 105;
 
 // U+3083, U+3085 and U+3087, small ya, yu and yo of hiragana, and those of katakana.
 const HIRAGANA_YA: u32 = 0x3083;
@@ -49,13 +47,27 @@ fn has_grave(line: &[u32], to: usize) -> bool
     requires { (0 < to) × (to ≤ size_in line.now) }
     ensures { ((x : World) → Lined x line.now → result ≡ has_grave (kinds x) x.text to) × (result ≡ true → to < size_in line.now) }
 {
-    if to < words::text_len(line) {
-        if words::number_at(line, to + 1) == GRAVE {
-            return table_classes::script(words::kind_at(line, to)) == table_classes::COPTIC;
-        }
-        return false;
-    }
-    false
+    to < words::text_len(line)
+        && words::number_at(line, to + 1) == GRAVE
+        && table_classes::script(words::kind_at(line, to)) == table_classes::COPTIC
+}
+
+// Does a rule have a span? What a search answers is not asked.
+fn is_ruled(
+    rules: &[u8],
+    ready: &[u32],
+    code: &[u8],
+    line: &[u32],
+    places: &mut [u32],
+    span: Span,
+) -> bool
+    requires { Prepared rules.now ready.now × (span.from < span.to) }
+    ensures { Answers rules.now ready.now code.now line.now places.old places.new
+        (λ L t v. ruled L t v span.from span.to) result }
+{
+    rule_choice::simple_top_romanization_candidate_for_span(
+        rules, ready, code, line, places, span,
+    ).is_some()
 }
 
 // An e put in front, over the grave after the span, up to `to`.
@@ -67,9 +79,9 @@ fn put_grave(bytes: &mut [u8], g: Growing, to: usize) -> Growing
     let len = rom::put_front(bytes, g.len, b'e');
     Growing {
         len,
-        from: g.from,
         to,
         note: edge::EXPANDED,
+        ..g
     }
 }
 
@@ -89,44 +101,25 @@ fn grave(
         (λ L t v. grave L t v o (work_in bytes.old g)) (work_in bytes.new result)
         × Held bytes.new result × (result.len ≤ g.len + 1) × (result.from ≡ g.from) × (g.to ≤ result.to) × (result.to ≤ size_in line.now) }
 {
-    if has_grave(line, g.to) {
-        let to = g.to + 1;
-        let ruled = rule_choice::simple_top_romanization_candidate_for_span(
-            rules,
-            ready,
-            code,
-            line,
-            places,
-            Span { from: o, to },
-        );
-        if rule_choice::is_told(ruled) {
-            return g;
-        }
-        return put_grave(bytes, g, to);
+    if !has_grave(line, g.to) {
+        return g;
     }
-    g
+    let to = g.to + 1;
+    if is_ruled(rules, ready, code, line, places, Span { from: o, to }) {
+        return g;
+    }
+    put_grave(bytes, g, to)
 }
 
 // Small ya, yu or yo.
+#[tactic(auto, unfolding(definition::specs::Expansion::small_ya, definition::specs::Texts::among))]
 fn is_small_ya(c: u32) -> bool
     ensures { result ≡ small_ya c }
 {
-    if c == HIRAGANA_YA {
-        return true;
-    }
-    if c == HIRAGANA_YU {
-        return true;
-    }
-    if c == HIRAGANA_YO {
-        return true;
-    }
-    if c == KATAKANA_YA {
-        return true;
-    }
-    if c == KATAKANA_YU {
-        return true;
-    }
-    c == KATAKANA_YO
+    matches!(
+        c,
+        HIRAGANA_YA | HIRAGANA_YU | HIRAGANA_YO | KATAKANA_YA | KATAKANA_YU | KATAKANA_YO
+    )
 }
 
 // Does a small ya, yu or yo stand at `to`, of the script of the character before it? None does past the text.
@@ -134,14 +127,10 @@ fn is_small_next(line: &[u32], to: usize) -> bool
     requires { (0 < to) × (to ≤ size_in line.now) }
     ensures { ((x : World) → Lined x line.now → result ≡ small_here (kinds x) x.text to) × (result ≡ true → to < size_in line.now) }
 {
-    if to < words::text_len(line) {
-        if is_small_ya(words::number_at(line, to + 1)) {
-            let script = table_classes::script(words::kind_at(line, to));
-            return script == table_classes::script(words::kind_at(line, to + 1));
-        }
-        return false;
-    }
-    false
+    to < words::text_len(line)
+        && is_small_ya(words::number_at(line, to + 1))
+        && table_classes::script(words::kind_at(line, to))
+            == table_classes::script(words::kind_at(line, to + 1))
 }
 
 // Does a text end in an i after a consonant?
@@ -149,34 +138,37 @@ fn ends_in_i(text: &[u8]) -> bool
     ensures { result ≡ after_consonant text.now }
 {
     let n = text.len();
-    if n < 2 {
-        return false;
-    }
-    if base::byte(text, n - 1) == LETTER_I {
-        return rom::is_in(rom::CONSONANTS, base::byte(text, n - 2));
-    }
-    false
+    2 <= n && text[n - 1] == b'i' && rom::is_in(rom::CONSONANTS, text[n - 2] as u32)
 }
 
 // What stands in the i's place: the first rule of the small ya.
-fn small_target(rules: &[u8], ready: &[u32], line: &[u32], text: &[u8], g: Growing) -> Chosen
+fn small_target(
+    rules: &[u8],
+    ready: &[u32],
+    line: &[u32],
+    text: &[u8],
+    g: Growing,
+) -> Option<Target>
     requires { Prepared rules.now ready.now × (0 < g.to) × (g.to ≤ size_in line.now) }
     ensures { ((x : World) → Lined x line.now
         → chosen_means rules.now result ≡ small_target (rules_of rules.now) (kinds x) x.text (work text.now g.from g.to g.note))
         × Said rules.now result × (has (chosen_means rules.now result) ≡ true → (g.to < size_in line.now) × (0 < length text.now)) }
 {
-    if is_small_next(line, g.to) {
-        if ends_in_i(text) {
-            let small = words::number_at(line, g.to + 1);
-            return rule_choice::romanization_by_first_rule(rules, ready, &[small]);
-        }
-        return Chosen::Untold;
+    if is_small_next(line, g.to) && ends_in_i(text) {
+        let small = words::number_at(line, g.to + 1);
+        return rule_choice::romanization_by_first_rule(rules, ready, &[small]);
     }
-    Chosen::Untold
+    None
 }
 
 // A target in the place of the last letter, over the character after the span, up to `to`.
-fn put_small(rules: &[u8], target: Chosen, bytes: &mut [u8], g: Growing, to: usize) -> Growing
+fn put_small(
+    rules: &[u8],
+    target: Option<Target>,
+    bytes: &mut [u8],
+    g: Growing,
+    to: usize,
+) -> Growing
     requires { Said rules.now target × Held bytes.old g × (0 < g.len) × (g.len + most_target ≤ most_bytes) }
     ensures { (work_in bytes.new result
         ≡ work (without_last (take g.len bytes.old) ++ or_nothing (chosen_means rules.now target)) g.from to note_exp)
@@ -186,9 +178,9 @@ fn put_small(rules: &[u8], target: Chosen, bytes: &mut [u8], g: Growing, to: usi
     let len = rom::put_behind(bytes, short, rule_choice::chosen_text(rules, target));
     Growing {
         len,
-        from: g.from,
         to,
         note: edge::EXPANDED,
+        ..g
     }
 }
 
@@ -209,34 +201,18 @@ fn small_y(
         × Held bytes.new result × (result.len < most_bytes) × (result.from ≡ g.from) × (g.to ≤ result.to) × (result.to ≤ size_in line.now) }
 {
     let target = small_target(rules, ready, line, &bytes[..g.len], g);
-    if rule_choice::is_told(target) {
-        let from = g.from;
-        let to = g.to + 1;
-        let ruled = rule_choice::simple_top_romanization_candidate_for_span(
-            rules,
-            ready,
-            code,
-            line,
-            places,
-            Span { from: o, to },
-        );
-        if rule_choice::is_told(ruled) {
-            return g;
-        }
-        let here = rule_choice::simple_top_romanization_candidate_for_span(
-            rules,
-            ready,
-            code,
-            line,
-            places,
-            Span { from, to },
-        );
-        if rule_choice::is_told(here) {
-            return g;
-        }
-        return put_small(rules, target, bytes, g, to);
+    if target.is_none() {
+        return g;
     }
-    g
+    let from = g.from;
+    let to = g.to + 1;
+    if is_ruled(rules, ready, code, line, places, Span { from: o, to }) {
+        return g;
+    }
+    if is_ruled(rules, ready, code, line, places, Span { from, to }) {
+        return g;
+    }
+    put_small(rules, target, bytes, g, to)
 }
 
 // Grave and small ya, and what ends the expansion.
@@ -269,32 +245,23 @@ fn thai(
     bytes: &mut [u8],
     o: usize,
     g: Growing,
-) -> Tried
+) -> ControlFlow<Growing, Growing>
     requires { Workable (g.len + most_target + most_target < most_bytes) rules.now ready.now line.now o bytes.old g }
     ensures { Opens rules.now ready.now line.now places.now o
         (λ L t v. thai L t v (choices_of choices) o (work_in bytes.old g)) bytes.new result }
 {
-    let tried = steps::vowel_around(rules, ready, line, bytes, g);
-    if tried.done {
-        return tried;
+    if let Some(pattern) = steps::vowel_around(rules, ready, line, bytes, g) {
+        return ControlFlow::Break(pattern);
     }
     let u = steps::vowel_before(rules, ready, line, bytes, g);
     if o_ang::is_silent(choices, rules, ready, line, places, o, u) {
-        let growing = Growing {
+        return ControlFlow::Break(Growing {
             len: rom::keep(bytes, u.len, 0, 0),
-            from: u.from,
-            to: u.to,
             note: edge::DELETED,
-        };
-        return Tried {
-            growing,
-            done: true,
-        };
+            ..u
+        });
     }
-    Tried {
-        growing: u,
-        done: false,
-    }
+    ControlFlow::Continue(u)
 }
 
 // What the script of the span's first character, at `o`, asks for before the rest.
@@ -307,18 +274,15 @@ fn by_script(
     bytes: &mut [u8],
     o: usize,
     g: Growing,
-) -> Tried
+) -> ControlFlow<Growing, Growing>
     requires { Workable (g.len + most_target + most_target < most_bytes) rules.now ready.now line.now o bytes.old g }
     ensures { Opens rules.now ready.now line.now places.now o
         (λ L t v. by_script L t v (choices_of choices) o (work_in bytes.old g)) bytes.new result }
 {
-    if table_classes::script(words::kind_at(line, o + 1)) == table_classes::THAI {
-        return thai(choices, rules, ready, line, places, bytes, o, g);
+    if table_classes::script(words::kind_at(line, o + 1)) != table_classes::THAI {
+        return ControlFlow::Continue(g);
     }
-    Tried {
-        growing: g,
-        done: false,
-    }
+    thai(choices, rules, ready, line, places, bytes, o, g)
 }
 
 // The first steps: capitals, or else doubling. A romanization in upper case begins with no letter that is doubled.
@@ -368,20 +332,10 @@ fn all_steps(
         };
     }
     let g = first_steps(line, choices, bytes, n, span);
-    let tried = by_script(choices, rules, ready, line, places, bytes, span.from, g);
-    if tried.done {
-        return tried.growing;
+    match by_script(choices, rules, ready, line, places, bytes, span.from, g) {
+        ControlFlow::Break(done) => done,
+        ControlFlow::Continue(u) => rest(rules, ready, code, line, places, bytes, span.from, u),
     }
-    rest(
-        rules,
-        ready,
-        code,
-        line,
-        places,
-        bytes,
-        span.from,
-        tried.growing,
-    )
 }
 
 // A romanization over its span through the expansion.

@@ -66,10 +66,6 @@ module _ (q : ℕ → Bool) (z : q 0 ≡ false) where
   first_passes [] = z
   first_passes (c ∷ w) = refl
 
-  pub last_passes : (w : Text) → q (last_of w) ≡ last_is q w
-  unfolding last_is
-  last_passes w = first_passes (reverse w)
-
 pub one-there : (q : ℕ → Bool) (w : Text) → is q (head w) ≡ true → take 1 w ≡ first_of w ∷ []
 unfolding head
 one-there q [] e = absurd (true≢false (sym e))

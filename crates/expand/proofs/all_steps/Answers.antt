@@ -8,7 +8,7 @@ use Rattle.words.specs.Did.{asked-none}
 use Rattle.words.specs.Given.{seen, size}
 use Rattle.words.specs.Choosing.{choices_of}
 use Rattle.rule_choice.specs.Lent.{lexicon_of}
-use Rattle.expand.specs.Tests.{ends_there, goes_on, nothing-to-expand, expanded}
+use Rattle.expand.specs.Tests.{nothing-to-expand, broken-off, gone-on}
 use Rattle.expand.proofs.Ways.{no_text}
 use Rattle.expand.proofs.all_steps.Goals as goal
 
@@ -22,30 +22,29 @@ returns-then-n-eq0 c =
       c.requires.1,
     )
 
-pub returns-then-tried : goal.returns-then-tried
-returns-then-tried c =
-    let w = take c.args.n c.args.bytes.now in (
+pub returns-in-Break : goal.returns-in-Break
+returns-in-Break c =
+    let w = take c.args.n c.args.bytes.now in
+    let X = c.in-Break.ensures in (
       (λ u e h.
           let L = lexicon_of c.args.rules.now u c.args.code.now in
           let m = memory (size u) c.args.places.now in
-          let there = ends_there L u.text (seen u) c.args.span.from _ m c.if-tried.true (c.by_script-tried.ensures.0 u c.args.code.now h) in
-          asked-none (expanded L u.text (seen u) (choices_of c.args.choices) w c.args.span.from c.args.span.to m
-          (same_some w (omega (arith, text-length c.requires.1))) (c.first_steps-g.ensures.0 u h.text) there)),
-      c.by_script-tried.ensures.1,
+          asked-none (broken-off L u.text (seen u) (choices_of c.args.choices) w c.args.span.from c.args.span.to m
+          (same_some w (omega (arith, text-length c.requires.1))) (c.first_steps-g.ensures.0 u h.text) (X.0 u c.args.code.now h))),
+      X.1,
     )
 
-pub returns : goal.returns
-returns c =
+pub returns-in-Continue : goal.returns-in-Continue
+returns-in-Continue c =
     let w = take c.args.n c.args.bytes.now in
-    let I = c.if-tried.false in (
+    let X = c.in-Continue.ensures in (
       (λ u e h.
           let L = lexicon_of c.args.rules.now u c.args.code.now in
           let m = memory (size u) c.args.places.now in
           let A = c.rest.ensures.0 u e h in
-          let on = goes_on L u.text (seen u) c.args.span.from _ m I (c.by_script-tried.ensures.0 u c.args.code.now h) A.did in
           record {
-            did = expanded L u.text (seen u) (choices_of c.args.choices) w c.args.span.from c.args.span.to m
-                (same_some w (omega (arith, text-length c.requires.1))) (c.first_steps-g.ensures.0 u h.text) on;
+            did = gone-on L u.text (seen u) (choices_of c.args.choices) w c.args.span.from c.args.span.to m
+                (same_some w (omega (arith, text-length c.requires.1))) (c.first_steps-g.ensures.0 u h.text) _ (X.0 u c.args.code.now h) A.did;
             kept = A.kept;
           }),
       c.rest.ensures.1,

@@ -14,6 +14,7 @@ use Rattle.words.specs.Given.{kinds, line-size, char_at}
 use Rattle.steps.proofs.Letters.{not_empty}
 use Rattle.expand.proofs.Ways.{not_next, no_i, small-ruled-by}
 use Rattle.expand.proofs.small_target.Goals as goal
+use Rattle.expand.proofs.small_target.Goals.{else-is_small_next-via-then-is_small_next+else-ends_in_i, else-is_small_next-via-else-is_small_next}
 
 pub returns-then-ends_in_i : goal.returns-then-ends_in_i
 returns-then-ends_in_i c =
@@ -28,16 +29,15 @@ returns-then-ends_in_i c =
       (λ h. (c.is_small_next.ensures.1 I, not_empty (eqb letter_i) c.args.text.now (and_left _ _ i))),
     )
 
-pub returns-then-is_small_next : goal.returns-then-is_small_next
-returns-then-is_small_next c =
-    let w = work c.args.text.now c.args.g.from c.args.g.to c.args.g.note in
-    let i = sym c.ends_in_i.ensures ∙ c.if-ends_in_i.false in (
-      (λ u h. no_i (rules_of c.args.rules.now) (kinds u) u.text w (sym (c.is_small_next.ensures.0 u h) ∙ c.if-is_small_next.true) i),
+pub returns : goal.returns
+returns c =
+    let w = work c.args.text.now c.args.g.from c.args.g.to c.args.g.note in (
+      (λ u h. elim c.else-is_small_next.branch [
+        | else-is_small_next-via-then-is_small_next+else-ends_in_i v ↦
+            no_i (rules_of c.args.rules.now) (kinds u) u.text w (sym (c.is_small_next.ensures.0 u h) ∙ v.if-is_small_next.true) (sym v.ends_in_i.ensures ∙ v.if-ends_in_i.false)
+        | else-is_small_next-via-else-is_small_next v ↦
+            not_next (rules_of c.args.rules.now) (kinds u) u.text w (sym (c.is_small_next.ensures.0 u h) ∙ v.if-is_small_next.false)
+      ]),
       tt,
       (λ h. absurd (true≢false (sym h))),
     )
-
-pub returns : goal.returns
-returns c =
-    let w = work c.args.text.now c.args.g.from c.args.g.to c.args.g.note in
-    ((λ u h. not_next (rules_of c.args.rules.now) (kinds u) u.text w (sym (c.is_small_next.ensures.0 u h) ∙ c.if-is_small_next.false)), tt, (λ h. absurd (true≢false (sym h))))
