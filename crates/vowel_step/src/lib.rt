@@ -34,35 +34,23 @@ pub struct Voiced {
 }
 
 // The languages that keep the romanization at a word's end, whatever the script.
+#[tactic(auto, using(lent_bytes::specs::Library::same_texts), unfolding(crate::specs::Ways::keeping, base::specs::Lists::any))]
 fn is_keeping(code: &[u8]) -> bool
     ensures { result ≡ keeping code.now }
 {
-    if lent_bytes::same(code, b"asm") {
-        return true;
-    }
-    if lent_bytes::same(code, b"ben") {
-        return true;
-    }
-    if lent_bytes::same(code, b"guj") {
-        return true;
-    }
-    if lent_bytes::same(code, b"kas") {
-        return true;
-    }
-    lent_bytes::same(code, b"pan")
+    code == b"asm".as_slice()
+        || code == b"ben".as_slice()
+        || code == b"guj".as_slice()
+        || code == b"kas".as_slice()
+        || code == b"pan".as_slice()
 }
 
 // Does a language keep the romanization as it is at the end of a word? In Devanagari all but Sanskrit do.
+#[tactic(auto, using(lent_bytes::specs::Library::same_texts), unfolding(crate::specs::Ways::keeping, definition::specs::Vowels::keeps_end))]
 fn keeps_end(code: &[u8], script: u32) -> bool
     ensures { result ≡ keeps_end code.now script }
 {
-    if script == table_classes::DEVANAGARI {
-        if lent_bytes::same(code, b"san") {
-            return is_keeping(code);
-        }
-        return true;
-    }
-    is_keeping(code)
+    script == table_classes::DEVANAGARI && code != b"san".as_slice() || is_keeping(code)
 }
 
 // A nonspacing mark, and a flag of the character behind it.
@@ -74,25 +62,16 @@ fn is_marked(kind: u32, next: u32, k: u32) -> bool
 }
 
 // Is no vowel spoken before a character of this class, and the one behind it?
+#[tactic(auto, unfolding(crate::specs::Ways::silent))]
 fn is_silent(kind: u32, next: u32) -> bool
     ensures { result ≡ silent kind next }
 {
-    if table_classes::class_flag(kind, table_classes::SIGN) {
-        return true;
-    }
-    if table_classes::class_flag(kind, table_classes::MEDIAL) {
-        return true;
-    }
-    if table_classes::class_flag(kind, table_classes::SUBJOINED) {
-        return true;
-    }
-    if is_marked(kind, next, table_classes::SIGN) {
-        return true;
-    }
-    if table_classes::class_flag(kind, table_classes::VIRAMA) {
-        return true;
-    }
-    is_marked(kind, next, table_classes::VIRAMA)
+    table_classes::class_flag(kind, table_classes::SIGN)
+        || table_classes::class_flag(kind, table_classes::MEDIAL)
+        || table_classes::class_flag(kind, table_classes::SUBJOINED)
+        || is_marked(kind, next, table_classes::SIGN)
+        || table_classes::class_flag(kind, table_classes::VIRAMA)
+        || is_marked(kind, next, table_classes::VIRAMA)
 }
 
 // Does the Khmer yo follow a base that stays bare before it?
@@ -108,10 +87,8 @@ fn is_bare(line: &[u32], bytes: &[u8], from: usize, to: usize, e: usize) -> bool
     requires { (from ≤ to) × (to ≤ length bytes.now) × (0 < e) × (e ≤ size_in line.now) }
     ensures { (w : World) → Lined w line.now → result ≡ bare (kinds w) w.text (slice from to bytes.now) e }
 {
-    if is_before_yo(line, bytes, from, to, e) {
-        return true;
-    }
-    is_silent(words::kind_at(line, e + 1), words::kind_at(line, e + 2))
+    is_before_yo(line, bytes, from, to, e)
+        || is_silent(words::kind_at(line, e + 1), words::kind_at(line, e + 2))
 }
 
 // The script of the character at a place of the line.
@@ -168,13 +145,7 @@ fn starts_bare(start: bool, bytes: &[u8], n: usize) -> bool
     requires { n ≤ length bytes.now }
     ensures { result ≡ (start && not (any vowels (take n bytes.now))) }
 {
-    if start {
-        if ends::any_vowel(bytes, n) {
-            return false;
-        }
-        return true;
-    }
-    false
+    start && !ends::any_vowel(bytes, n)
 }
 
 // Which of the three forms, test by test in the file's order.
@@ -194,20 +165,20 @@ fn form(
         → Answers rules.now ready.now code.now line.now places.old places.new
         (λ L t v. vowel_by L t v tail (shown bytes.now vowel f) span.from span.to) (form_means result (shown bytes.now vowel f)) }
 {
-    if takes_vowel(bytes, f.from, f.to, tail) {
-        if is_bare(line, bytes, f.from, f.to, span.to) {
-            return Which::Base;
-        }
-        if table_classes::class_flag(words::kind_at(line, span.from), table_classes::VIRAMA) {
-            return Which::Plus;
-        }
-        let start = words::is_at_start_of_word(line, places, span.from);
-        if starts_bare(start, bytes, f.rom) {
-            return Which::Plus;
-        }
-        return form_settled(rules, ready, code, line, span);
+    if !takes_vowel(bytes, f.from, f.to, tail) {
+        return Which::Rom;
     }
-    Which::Rom
+    if is_bare(line, bytes, f.from, f.to, span.to) {
+        return Which::Base;
+    }
+    if table_classes::class_flag(words::kind_at(line, span.from), table_classes::VIRAMA) {
+        return Which::Plus;
+    }
+    let start = words::is_at_start_of_word(line, places, span.from);
+    if starts_bare(start, bytes, f.rom) {
+        return Which::Plus;
+    }
+    form_settled(rules, ready, code, line, span)
 }
 
 // Are vowels put behind, and nothing else?
@@ -215,8 +186,7 @@ fn is_grown(w: Which, f: Forms, letters: &[u8]) -> bool
     ensures { result ≡ grew w f letters.now }
 {
     match w {
-        Which::Rom => false,
-        Which::Base => false,
+        Which::Rom | Which::Base => false,
         Which::Plus => f.add && rom::all_in(letters, rom::VOWELS),
     }
 }

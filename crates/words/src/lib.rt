@@ -16,6 +16,8 @@ ghost use Rattle.words.specs.Looks.{Looked};
 ghost use Rattle.words.specs.Choosing.{choices_of};
 ghost use Rattle.words.specs.Goes.{brings, letter_byte};
 
+pub mod characters;
+
 use rule_table::Found;
 
 // A stretch of the text, by the positions of its ends.

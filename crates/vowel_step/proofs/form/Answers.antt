@@ -18,7 +18,7 @@ returns-then-is_bare c =
     let n = line-size g.text in
     let L = lexicon_of c.args.rules.now w c.args.code.now in
     let m = memory (size w) c.args.places.now in
-    let x = sym c.takes_vowel.ensures ∙ c.if-takes_vowel.true in
+    let x = sym c.takes_vowel.ensures ∙ c.if-not-takes_vowel.false in
     let y = sym (c.is_bare.ensures w g.text) ∙ c.if-is_bare.true in
     asked-none (stays_bare L w.text (seen w) c.args.tail u c.args.span.from c.args.span.to m x y)
 
@@ -29,7 +29,7 @@ returns-then-class_flag c =
     let n = line-size g.text in
     let L = lexicon_of c.args.rules.now w c.args.code.now in
     let m = memory (size w) c.args.places.now in
-    let x = sym c.takes_vowel.ensures ∙ c.if-takes_vowel.true in
+    let x = sym c.takes_vowel.ensures ∙ c.if-not-takes_vowel.false in
     let y = sym (c.is_bare.ensures w g.text) ∙ c.if-is_bare.false in
     let z = sym (flag_prev g.text c.args.span.from (omega (arith, c.requires.2, c.requires.3, n)) c.kind_at.ensures 3 (λ l. l.virama)
     (λ j l z. z.virama) c.class_flag.ensures) ∙ c.if-class_flag.true in
@@ -42,7 +42,7 @@ returns-then-starts_bare c =
     let n = line-size g.text in
     let L = lexicon_of c.args.rules.now w c.args.code.now in
     let m = memory (size w) c.args.places.now in
-    let x = sym c.takes_vowel.ensures ∙ c.if-takes_vowel.true in
+    let x = sym c.takes_vowel.ensures ∙ c.if-not-takes_vowel.false in
     let y = sym (c.is_bare.ensures w g.text) ∙ c.if-is_bare.false in
     let z = sym (flag_prev g.text c.args.span.from (omega (arith, c.requires.2, c.requires.3, n)) c.kind_at.ensures 3 (λ l. l.virama)
     (λ j l z. z.virama) c.class_flag.ensures) ∙ c.if-class_flag.false in
@@ -51,14 +51,14 @@ returns-then-starts_bare c =
       kept = A.kept;
     }
 
-pub returns-then-takes_vowel : goal.returns-then-takes_vowel
+pub returns : goal.returns
 unfolding shown
-returns-then-takes_vowel c =
+returns c =
     λ vowel w e g. let u = shown c.args.bytes.now vowel c.args.f in
     let n = line-size g.text in
     let L = lexicon_of c.args.rules.now w c.args.code.now in
     let m = memory (size w) c.args.places.now in
-    let x = sym c.takes_vowel.ensures ∙ c.if-takes_vowel.true in
+    let x = sym c.takes_vowel.ensures ∙ c.if-not-takes_vowel.false in
     let y = sym (c.is_bare.ensures w g.text) ∙ c.if-is_bare.false in
     let z = sym (flag_prev g.text c.args.span.from (omega (arith, c.requires.2, c.requires.3, n)) c.kind_at.ensures 3 (λ l. l.virama)
     (λ j l z. z.virama) c.class_flag.ensures) ∙ c.if-class_flag.false in
@@ -68,11 +68,11 @@ returns-then-takes_vowel c =
       kept = A.kept;
     }
 
-pub returns : goal.returns
+pub returns-then-not-takes_vowel : goal.returns-then-not-takes_vowel
 unfolding shown
-returns c =
+returns-then-not-takes_vowel c =
     λ vowel w e g. let u = shown c.args.bytes.now vowel c.args.f in
     let L = lexicon_of c.args.rules.now w c.args.code.now in
     let m = memory (size w) c.args.places.now in
-    let x = sym c.takes_vowel.ensures ∙ c.if-takes_vowel.false in
+    let x = sym c.takes_vowel.ensures ∙ c.if-not-takes_vowel.true in
     asked-none (takes_none L w.text (seen w) c.args.tail u c.args.span.from c.args.span.to m x)

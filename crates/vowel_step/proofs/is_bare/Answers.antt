@@ -12,12 +12,12 @@ use Rattle.vowel_step.proofs.is_bare.Goals as goal
 pub returns-then-is_before_yo : goal.returns-then-is_before_yo
 returns-then-is_before_yo c =
     let base = slice c.args.from c.args.to c.args.bytes.now in
-    λ w g. or_here _ _ (sym c.is_before_yo.ensures ∙ c.if-is_before_yo.true) ∙ bare-told g c.args.e base (omega (arith, c.requires.3, line-size g))
+    λ w g. c.if-is_before_yo.true ∙ or_here _ _ (sym c.is_before_yo.ensures ∙ c.if-is_before_yo.true) ∙ bare-told g c.args.e base (omega (arith, c.requires.3, line-size g))
 
-pub returns : goal.returns
-returns c =
+pub returns-else-is_before_yo : goal.returns-else-is_before_yo
+returns-else-is_before_yo c =
     let base = slice c.args.from c.args.to c.args.bytes.now in
     λ w g. or_next _ _ (sym c.is_before_yo.ensures ∙ c.if-is_before_yo.false)
-    (c.is_silent.ensures ∙ ap (λ (k : ℕ). silent k c.kind_at-2.result) c.kind_at.ensures
-    ∙ ap (silent (kind_in c.args.line.now (c.args.e + 1))) c.kind_at-2.ensures)
+    (c.is_silent.ensures ∙ ap (λ (k : ℕ). silent k c.kind_at-else-is_before_yo.result) c.kind_at.ensures
+    ∙ ap (silent (kind_in c.args.line.now (c.args.e + 1))) c.kind_at-else-is_before_yo.ensures)
     ∙ bare-told g c.args.e base (omega (arith, c.requires.3, line-size g))

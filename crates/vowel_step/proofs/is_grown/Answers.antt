@@ -2,6 +2,7 @@
 use mathlib.Core.Bool.{Bool, ◌&&◌}
 use mathlib.Core.Path.{fun_ext, sym, ap, ◌∙◌}
 use Prim.Native.Nat.{ℕ}
+use Rattle.std.proofs.Common.{inl, inr}
 use Rattle.base.specs.Lists.{all}
 use Rattle.definition.specs.Texts.{vowels}
 use Rattle.rom.specs.Sets.{in_vowels}
@@ -11,11 +12,11 @@ use Rattle.vowel_step.proofs.is_grown.Goals as goal
 
 pub returns-in-Rom : goal.returns-in-Rom
 unfolding grew
-returns-in-Rom c = sym (ap (λ (w : Which). grew w c.args.f c.args.letters.now) c.in-Rom.is)
-
-pub returns-in-Base : goal.returns-in-Base
-unfolding grew
-returns-in-Base c = sym (ap (λ (w : Which). grew w c.args.f c.args.letters.now) c.in-Base.is)
+returns-in-Rom c =
+    elim c.in-Rom.is [
+      | inl e ↦ sym (ap (λ (w : Which). grew w c.args.f c.args.letters.now) e)
+      | inr e ↦ sym (ap (λ (w : Which). grew w c.args.f c.args.letters.now) e)
+    ]
 
 pub returns-then-f : goal.returns-then-f
 unfolding grew
