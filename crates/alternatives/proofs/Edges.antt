@@ -9,6 +9,7 @@ use native.Mathlib.Decide.{dec_lt}
 use lib.ListN.{length, take, drop, length-append}
 use lib.Seq.{length-take-le, take-take, take-append-le}
 use borrow.Rule.Slice.PartMut.{put_mid}
+use Rattle.std.specs.Prelude.{Some, None}
 use Rattle.base.specs.Loans.{back_end}
 use Rattle.base.specs.Lists.{put, keep, same}
 use Rattle.base.specs.Alls.{All, All-append, Opt, Opt-map, all-all}
@@ -36,8 +37,7 @@ use Rattle.definition.proofs.Offers.{found_alike}
 use Rattle.utf8.specs.Encodings.{TextBytes}
 use Rattle.edge.specs.declared.Numbers.{Numbers}
 use Rattle.edge.specs.Slots.{bytes_of, edge_by, numbers_of, edge_of, edges_of}
-use Rattle.edge.specs.declared.BestEdge.TheVariants.{At}
-use Rattle.edge.specs.Best.{Found}
+use Rattle.edge.specs.Best.{BestEdge, best_means, Found}
 use Rattle.edge.specs.Counted.{counted-agree, all-agree, all-at}
 use Rattle.edge.specs.Stored.{Slot, Stored, slot-length, slot-size, edge-agree, slot-agree}
 use Rattle.listing.specs.Items.{Written, put_items, put_items-append}
@@ -45,7 +45,9 @@ use Rattle.rule_table.specs.Doors.{with_source}
 use Rattle.rule_table.specs.Sorted.{rules_from}
 use Rattle.words.specs.Did.{Did}
 use Rattle.definition.specs.Alternatives.{vowels_low}
-use Rattle.words.specs.Found.{Rows, rules_in}
+use Rattle.words.specs.declared.Look.{Look}
+use Rattle.words.specs.Found.{Rows, rules_in, found_at}
+use Rattle.words.specs.Looks.{Looked, source_in}
 use Rattle.offers.specs.Texts.{Spoken}
 
 -- A syllable's letters are ASCII
@@ -67,23 +69,23 @@ core-bytes b core t y =
 
 -- The edge in a slot: its numbers and its text as they were read, the text copied
 module _ (room s : List ℕ) (n used : ℕ) (h : Sound n (edge_of room s)) (t : Slot room used s) (l : used ≤ length room) where
-  pub slot-short : length (bytes_of room s) ≤ most_bytes
+  slot-short : length (bytes_of room s) ≤ most_bytes
   slot-short = let k = h.short in omega (arith, k, slot-size room s used t l, slot-length room s used t l)
 
   module _ (e : Numbers) (q : e ≡ numbers_of s) where
-    pub span_inside : (e.from < e.to) × (e.to ≤ n)
+    span_inside : (e.from < e.to) × (e.to ≤ n)
     unfolding edge_by
     span_inside = subst (λ (m : Numbers). (m.from < m.to) × (m.to ≤ n)) (sym q) (h.forward, h.inside)
 
     module _ (b : List ℕ) (p : b ≡ bytes_of room s) where
-      pub spoken_at : Spoken e b
+      spoken_at : Spoken e b
       unfolding edge_by
       spoken_at = subst (λ (m : Numbers). Spoken m b) (sym q) (subst (Spoken (numbers_of s)) (sym p) (record {
         text = t.text;
         core = λ z. core-bytes (bytes_of room s) (numbers_of s).core t.text (h.core.there z);
       }))
 
-      pub edge-at-slot : edge_by e b ≡ edge_of room s
+      edge-at-slot : edge_by e b ≡ edge_of room s
       edge-at-slot = ap (λ m. edge_by m b) q ∙ ap (edge_by (numbers_of s)) p
 
 -- The rows with a source are no more than the table has
@@ -96,13 +98,20 @@ keep-most f (x ∷ l) = go (f x) (keep-most f l)
     go true h = omega arith
     go false h = omega arith
 
-pub rows_few : (b : List ℕ) (w : Text) (at n : ℕ) → rule_fault b ≡ none → rules_in b at n ≡ with_source w (rules_of b) → Rows b at n
+rows_few : (b : List ℕ) (w : Text) (at n : ℕ) → rule_fault b ≡ none → rules_in b at n ≡ with_source w (rules_of b) → Rows b at n
     → n ≤ most_rows
 unfolding with_source
 rows_few b w at n e f r =
     let z = ap length f in
     let k = length-take-le n (rules_from b at) r.enough in
     omega (arith, z, k, keep-most (λ r. same r.source w) (rules_of b), rules_few b e)
+
+pub looked-rows : (rules line : List ℕ) (look : Look) → rule_fault rules ≡ none → Looked rules line look
+    → Rows rules look.found.first look.found.count × (look.found.count ≤ most_rows)
+looked-rows rules line look z d =
+    let w = source_in line look.span.from look.span.to in
+    let f = found_at rules w z look.found.first look.found.count d.first d.count in
+    (f.1, rows_few rules w look.found.first look.found.count z f.0 f.1)
 
 module _ (y : Bool) (L : Lexicon) (t : Text) (v : View) where
   -- One edge's alternatives, or none
@@ -163,7 +172,7 @@ pub best_sound : (n p : ℕ) (es : List Edge) (o : Option Edge) → All (Sound n
 best_sound n p es o h e = subst (Opt (Sound n)) (sym e) (Opt-map (λ x z. z.0) (right_best es p) (right-all (Sound n) p es h))
 
 -- where the path goes on from there
-pub next-inside : (n p : ℕ) (es : List Edge) (o : Option Edge) → All (Sound n) es → o ≡ right_best es p → p < n → (p < next o p) × (next o p ≤ n)
+next-inside : (n p : ℕ) (es : List Edge) (o : Option Edge) → All (Sound n) es → o ≡ right_best es p → p < n → (p < next o p) × (next o p ≤ n)
 next-inside n p es o h e l = go o (subst (Opt (λ x. Sound n x × (x.from ≡ p))) (sym e) (right-all (Sound n) p es h))
   where
     go : (o : Option Edge) → Opt (λ x. Sound n x × (x.from ≡ p)) o → (p < next o p) × (next o p ≤ n)
@@ -201,6 +210,19 @@ module _ (slots room room' : List ℕ) (count used : ℕ) (h : Stored slots room
   edges_stay = counted-agree slot_bytes (edge_of room) (edge_of room') (Slot room used)
       (λ s s' f. edge-agree room room' used e s s' f) count slots slots refl h.rows
 
+  -- so the best of them, as it was answered for any room, is the best of those at first
+  module _ (best : BestEdge) (p : ℕ) (b : (room : List ℕ) → best_means room slots best ≡ right_best (edges_of room count slots) p) where
+    pub best_stays : best_means room' slots best ≡ right_best (edges_of room count slots) p
+    best_stays = b room' ∙ ap (λ es. right_best es p) (sym edges_stay)
+
+    -- and the path goes on within the text
+    pub goes_on : (n q : ℕ) → All (Sound n) (edges_of room count slots) → p < n → ((room : List ℕ) → q ≡ next (best_means room slots best) p)
+        → (p < q) × (q ≤ n)
+    goes_on n q s l f =
+        let z = next-inside n p (edges_of room count slots) (best_means room' slots best) s best_stays l in
+        let y = f room' in
+        (omega (arith, z.0, y), omega (arith, z.1, y))
+
   pub stored_stays : Stored slots room' count used
   stored_stays = record {
     rows = all-agree slot_bytes (Slot room used) (Slot room' used)
@@ -211,11 +233,11 @@ module _ (slots room room' : List ℕ) (count used : ℕ) (h : Stored slots room
   }
 
 -- the slot that was answered is one of them
-pub slot-found : (slots room : List ℕ) (count used o : ℕ) → Stored slots room count used → Found count (At o) → Slot room used (drop o slots)
+slot-found : (slots room : List ℕ) (count used o : ℕ) → Stored slots room count used → Found count (Some o) → Slot room used (drop o slots)
 slot-found slots room count used o h f =
     subst (λ k. Slot room used (drop k slots)) (sym f.2) (all-at slot_bytes (Slot room used) count f.0 slots f.1 h.rows)
 
-pub slot-wide : (room s : List ℕ) (used : ℕ) → used ≤ length room → Slot room used s → Slot room (length room) s
+slot-wide : (room s : List ℕ) (used : ℕ) → used ≤ length room → Slot room used s → Slot room (length room) s
 slot-wide room s used l h = slot-agree room room used refl s s refl (length room) l h
 
 -- The room behind the texts was lent, and came back
@@ -223,3 +245,35 @@ pub front_stays : (room : List ℕ) (used : ℕ) (ys : List ℕ) → used ≤ le
 front_stays room used ys l =
     ap (take used) (back_end room used ys) ∙ take-append-le used (take used room) ys (omega (arith, length-take-le used room l))
     ∙ take-take used used room (omega arith)
+
+-- Where an edge was found its slot can be read, and what was read of it is that edge; else nothing was found
+pub not-there : (best : BestEdge) → ((o : ℕ) → best ≡ Some o → ⊥) → best ≡ None
+not-there (Some o) h = absurd (h o refl)
+not-there None h = refl
+
+module _ (slots room : List ℕ) (count used n : ℕ) {best : BestEdge} {o : ℕ} (is : best ≡ Some o)
+    (h : Stored slots room count used) (f : Found count best) (y : Opt (Sound n) (best_means room slots best)) where
+  abbrev s : List ℕ
+  s = drop o slots
+
+  there : Slot room used s
+  there = slot-found slots room count used o h (subst (Found count) is f)
+
+  sound : Sound n (edge_of room s)
+  sound = subst (λ b. Opt (Sound n) (best_means room slots b)) is y
+
+  pub best-slot : Slot room (length room) s
+  best-slot = slot-wide room s used h.within there
+
+  pub best-short : length (bytes_of room s) ≤ most_bytes
+  best-short = slot-short room s n used sound there h.within
+
+  module _ (e : Numbers) (q : e ≡ numbers_of s) where
+    pub best-inside : (e.from < e.to) × (e.to ≤ n)
+    best-inside = span_inside room s n used sound there h.within e q
+
+    pub best-spoken : (b : List ℕ) → b ≡ bytes_of room s → Spoken e b
+    best-spoken b p = spoken_at room s n used sound there h.within e q b p
+
+    pub best-edge : (b : List ℕ) → b ≡ bytes_of room s → edge_by e b ≡ edge_of room s
+    best-edge b p = edge-at-slot room s n used sound there h.within e q b p

@@ -188,41 +188,37 @@ module _ (y : Bool) (e : Numbers) (b : List ℕ) (r : Rule) (o : Offers) (h : Te
             ∙ ap (λ l. put new (other (edge_by e []) n w) (news l (drop (suc k) O))) more
             ∙ ap (λ l. put new (other (edge_by e []) n w) (news (ws ++ take (k + 1) T) l)) rest)
 
--- A row whose rule holds, and one whose rule does not
+-- A row whose rule holds
 module _ (y : Bool) (x : Edge) (r : Rule) (ws : List Text) (hold : Bool) where
   pub one_holds : hold ≡ true → news ws (offers y x r) ≡ news ws (all_offers y x (put hold r []))
   unfolding all_offers
   one_holds h = ap (news ws) (sym (append-nil (offers y x r)) ∙ ap (λ b. all_offers y x (put b r [])) (sym h))
-
-  pub none-holds : hold ≡ false → [] ≡ news ws (all_offers y x (put hold r []))
-  unfolding all_offers news
-  none-holds h = ap (λ b. news ws (all_offers y x (put b r []))) (sym h)
 
   -- what is marked then
   pub marked_holds : (cells : List ℕ) → hold ≡ true → Marked (ws ++ texts (offers y x r)) cells → Marked (ws ++ texts (all_offers y x (put hold r []))) cells
   unfolding all_offers
   marked_holds cells h m = subst (λ l. Marked (ws ++ texts l) cells) (sym (append-nil (offers y x r)) ∙ ap (λ b. all_offers y x (put b r [])) (sym h)) m
 
-  pub marked_not : (cells : List ℕ) → hold ≡ false → Marked ws cells → Marked (ws ++ texts (all_offers y x (put hold r []))) cells
+  -- a row whose rule does not hold gives nothing, and one that offers nothing
+  pub none-holds : hold ≡ false → all_offers y x (put hold r []) ≡ []
   unfolding all_offers
-  marked_not cells h m = subst (λ l. Marked l cells) (sym (append-nil ws) ∙ ap (λ b. ws ++ texts (all_offers y x (put b r []))) (sym h)) m
+  none-holds h = ap (λ b. all_offers y x (put b r [])) h
 
-  -- nothing is new, or marked, where nothing is offered
-  module _ (n : offers y x r ≡ []) where
-    none-offered : all_offers y x (put hold r []) ≡ []
-    unfolding all_offers
-    none-offered = go hold
-      where
-        go : (b : Bool) → all_offers y x (put b r []) ≡ []
-        go true = unfold all_offers in (append-nil (offers y x r) ∙ n)
-        go false = unfold all_offers in refl
+  pub none-offered : offers y x r ≡ [] → all_offers y x (put hold r []) ≡ []
+  none-offered n = go hold
+    where
+      go : (b : Bool) → all_offers y x (put b r []) ≡ []
+      go true = unfold all_offers in (append-nil (offers y x r) ∙ n)
+      go false = unfold all_offers in refl
 
+  -- then nothing is new, or marked
+  module _ (n : all_offers y x (put hold r []) ≡ []) where
     pub none-new : [] ≡ news ws (all_offers y x (put hold r []))
     unfolding news
-    none-new = sym (ap (news ws) none-offered)
+    none-new = sym (ap (news ws) n)
 
     pub none_marked : (cells : List ℕ) → Marked ws cells → Marked (ws ++ texts (all_offers y x (put hold r []))) cells
-    none_marked cells m = subst (λ l. Marked l cells) (sym (append-nil ws) ∙ ap (λ l. ws ++ texts l) (sym none-offered)) m
+    none_marked cells m = subst (λ l. Marked l cells) (sym (append-nil ws) ∙ ap (λ l. ws ++ texts l) (sym n)) m
 
 -- Some rows, `before` of them done
 module _ (x : Edge) (code : Text) (a : Asked) (rules : List ℕ) where

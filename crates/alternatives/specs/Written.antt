@@ -10,10 +10,9 @@ use Rattle.definition.specs.Bounds.{Sound}
 use Rattle.definition.specs.Offers.{news}
 use Rattle.definition.specs.Offers.{found_all}
 use Rattle.edge.specs.declared.Numbers.{Numbers}
-use Rattle.edge.specs.declared.BestEdge.{BestEdge}
 use Rattle.edge.specs.Slots.{edge_by, edges_of}
 use Rattle.edge.specs.Stored.{Stored}
-use Rattle.edge.specs.Best.{best_means, Found}
+use Rattle.edge.specs.Best.{BestEdge, best_means, Found}
 use Rattle.listing.specs.Sizes.{Countable}
 use Rattle.listing.specs.Items.{Written, put_items}
 use Rattle.edge_places.specs.Shows.{memory, told}

@@ -18,12 +18,12 @@ ghost use Rattle.listing.specs.Items.{Puts};
 ghost use Rattle.words.specs.Found.{Row, Rows};
 ghost use Rattle.words.specs.Given.{size_in, Prepared};
 ghost use Rattle.marks.specs.Marked.{Marked};
-ghost use Rattle.offers.specs.Texts.{note_at, Spoken, holding};
+ghost use Rattle.offers.specs.Texts.{Spoken, holding};
 ghost use Rattle.alternatives.specs.News.{offered, earlier, row_offered, holding_offers, Blank, offer_bytes, edge_bytes};
 ghost use Rattle.alternatives.specs.Written.{Offering, Offered, EdgeReady, PathReady, Alternatives, PathAlternatives};
 
-use edge::{BestEdge, Numbers};
-use offers::{Asked, Offers};
+use edge::Numbers;
+use offers::Asked;
 use words::Span;
 
 // An edge with fewer rows than this is offered so little that no filter is kept.
@@ -56,10 +56,8 @@ fn is_offered(
     ensures { result ≡ any (same w.now) (offered (edge_by e text.now) code.now asked rules.now before
         ++ row_offered (edge_by e text.now) asked rules.now row k) }
 {
-    if offers::rows_offer(rules, code, asked, before, e, text, w) {
-        return true;
-    }
-    offers::row_offers(rules, row, asked.readings, e, text, k, w)
+    offers::rows_offer(rules, code, asked, before, e, text, w)
+        || offers::row_offers(rules, row, asked.readings, e, text, k, w)
 }
 
 // Is a text that a row offers new: not the edge's own, and not offered before? What the filter surely doesn't hold was not offered.
@@ -80,28 +78,10 @@ fn is_new(
     ensures { result ≡ not (any (same w.now) (earlier (edge_by e text.now) code.now asked rules.now before
         ++ row_offered (edge_by e text.now) asked rules.now row k)) }
 {
-    if lent_bytes::same(w, text) {
+    if w == text {
         return false;
     }
-    let held = marks::may_hold(cells, w);
-    if held {
-        let again = is_offered(rules, code, asked, before, row, e, text, k, w);
-        return !again;
-    }
-    true
-}
-
-// The annotation of text number `k` of a row: an alternative's, then that of the end-of-syllable target, then the target's.
-fn note_of(o: Offers, k: usize) -> u8
-    ensures { result ≡ note_at o k }
-{
-    if k < o.others {
-        return edge::ALT;
-    }
-    if offers::is_reading(o, k) {
-        return edge::ALT2;
-    }
-    edge::ALT3
+    !(marks::may_hold(cells, w) && is_offered(rules, code, asked, before, row, e, text, k, w))
 }
 
 // The row of an alternative, which has its edge's span, where it is new.
@@ -109,16 +89,16 @@ fn put_new(out: &mut [u8], at: usize, new: bool, e: Numbers, note: u8, w: &[u8])
     requires { Countable at offer_bytes × Short most_alternative w.now }
     ensures { Puts true (put new (other (edge_by e []) note w.now) []) offer_bytes (at, out.old) (result, out.new) }
 {
-    if new {
-        let other = Numbers {
-            from: e.from,
-            to: e.to,
-            note,
-            core: 0,
-        };
-        return listing::put_other(out, at, other, w);
+    if !new {
+        return at;
     }
-    at
+    let other = Numbers {
+        from: e.from,
+        to: e.to,
+        note,
+        core: 0,
+    };
+    listing::put_other(out, at, other, w)
 }
 
 // What a row offers that is new; all of it is marked.
@@ -140,17 +120,14 @@ fn put_offers(
         (at, out.old) (result, out.new) cells.new }
 {
     let o = offers::offers_of(rules, row, asked.readings, e, text);
-    let n = offers::offers_count(o);
     let mut bytes = [0u8; offers::MOST_OFFER];
     let mut to = at;
-    let mut k: usize = 0;
-    while k < n {
+    for k in 0..o.count() {
         let len = offers::put_offer(&mut bytes, rules, row, o, e, text, k);
         let w = &bytes[..len];
         let new = is_new(rules, code, asked, before, row, e, text, cells, k, w);
-        to = put_new(out, to, new, e, note_of(o, k), w);
+        to = put_new(out, to, new, e, o.offer(k).note(), w);
         marks::mark(cells, w);
-        k += 1;
     }
     to
 }
@@ -173,13 +150,13 @@ fn put_holding(
         (holding_offers (edge_by e text.now) code.now asked (rule_of (drop row rules.now)))
         (at, out.old) (result, out.new) cells.new }
 {
-    if offers::may_offer(rules, row) {
-        if rule_choice::holds(rules, code, row, asked.start, asked.end) {
-            return put_offers(out, at, rules, code, asked, before, row, e, text, cells);
-        }
-        return at;
+    if offers::may_offer(rules, row)
+        && rule_choice::holds(rules, code, row, asked.start, asked.end)
+    {
+        put_offers(out, at, rules, code, asked, before, row, e, text, cells)
+    } else {
+        at
     }
-    at
 }
 
 // What some rows offer that is new, whose rules hold. The filter is empty at first: one that held an earlier edge's texts
@@ -202,11 +179,9 @@ fn put_rows(
 {
     let mut to = at;
     let mut row = asked.first;
-    let mut before: usize = 0;
-    while before < rows {
+    for before in 0..rows {
         to = put_holding(out, to, rules, code, asked, before, row, e, text, cells);
         row += rule_row::size(rules, row);
-        before += 1;
     }
     to
 }
@@ -228,7 +203,7 @@ fn put_filtered(
         (holding code.now asked.start asked.end rules.now asked.first rows)) edge_bytes
         (at, out.old) (result, out.new) }
 {
-    lent_bytes::clear(cells);
+    cells.fill(0);
     put_rows(out, at, rules, code, asked, rows, e, text, cells)
 }
 
@@ -238,13 +213,10 @@ fn filter_len(rows: usize, free: usize) -> usize
     ensures { result ≤ free }
 {
     if rows < FEW_ROWS {
-        return 0;
+        0
+    } else {
+        free.min(rows * ROW_CELLS)
     }
-    let most = rows * ROW_CELLS;
-    if most < free {
-        return most;
-    }
-    free
 }
 
 // The alternatives of an edge, by the rules that are valid for its span.
@@ -276,17 +248,17 @@ fn put_edge_alternatives(
     let asked = Asked {
         start,
         end,
-        first: look.first,
+        first: look.found.first,
         readings: choices.readings == 1,
     };
-    let cells = filter_len(look.count, free.len());
+    let cells = filter_len(look.found.count, free.len());
     put_filtered(
         out,
         at,
         rules,
         code,
         asked,
-        look.count,
+        look.found.count,
         e,
         text,
         &mut free[..cells],
@@ -304,36 +276,33 @@ fn put_best_alternatives(
     room: &mut [u8],
     places: &mut [u32],
     listed: Listed,
-    best: BestEdge,
+    best: Option<usize>,
 ) -> usize
     requires { EdgeReady rules.now ready.now line.now slots.now room.old listed best }
     ensures { Alternatives rules.now ready.now code.now line.now places.old places.new
         (join (best_means room.old slots.now best) []) (listed.at, out.old) (result, out.new) × (result ≤ listed.at + edge_bytes)
         × (take listed.used room.new ≡ take listed.used room.old) }
 {
-    match best {
-        BestEdge::At(slot) => {
-            let e = edge::numbers_at(slots, slot);
-            let mut text = [0u8; rom::MOST_BYTES];
-            let own = edge::edge_text(slots, room, slot);
-            let len = own.len();
-            lent_bytes::put_text(&mut text, own);
-            let used = listed.used;
-            put_edge_alternatives(
-                out,
-                listed.at,
-                rules,
-                ready,
-                code,
-                line,
-                places,
-                &mut room[used..],
-                e,
-                &text[..len],
-            )
-        }
-        BestEdge::Nothing => listed.at,
-    }
+    let Some(slot) = best else {
+        return listed.at;
+    };
+    let e = edge::numbers_at(slots, slot);
+    let mut bytes = [0u8; rom::MOST_BYTES];
+    let own = edge::edge_text(slots, room, slot);
+    let text = &mut bytes[..own.len()];
+    text.copy_from_slice(own);
+    put_edge_alternatives(
+        out,
+        listed.at,
+        rules,
+        ready,
+        code,
+        line,
+        places,
+        &mut room[listed.used..],
+        e,
+        text,
+    )
 }
 
 // The alternatives of the path, edge by edge.
@@ -354,17 +323,12 @@ pub fn put_alternatives(
         (edges_of room.old listed.count slots.now) (listed.at, out.old) (result, out.new) }
 {
     let n = words::text_len(line);
-    let count = listed.count;
-    let used = listed.used;
     let mut to = listed.at;
     let mut p: usize = 0;
+    // The path moves by each edge's own length, so no range goes over it.
     while p < n {
         let best = standing::best_right_neighbor_edge(slots, starts, p);
-        let here = Listed {
-            at: to,
-            count,
-            used,
-        };
+        let here = Listed { at: to, ..listed };
         to = put_best_alternatives(
             out, rules, ready, code, line, slots, room, places, here, best,
         );

@@ -1,4 +1,5 @@
 -- `alternatives::is_offered`: the rows before, then this row.
+use mathlib.Core.Path.{◌∙◌}
 use lib.ListN.{take, drop}
 use Rattle.definition.specs.RuleRows.{rule_of}
 use Rattle.definition.specs.Offers.{offers}
@@ -11,11 +12,11 @@ use Rattle.alternatives.proofs.is_offered.Goals as goal
 pub returns-then-rows_offer : goal.returns-then-rows_offer
 returns-then-rows_offer c =
     let x = edge_by c.args.e c.args.text.now in
-    by_rows c.args.w.now (offered x c.args.code.now c.args.asked c.args.rules.now c.args.before)
+    c.if-rows_offer.true ∙ by_rows c.args.w.now (offered x c.args.code.now c.args.asked c.args.rules.now c.args.before)
     (take c.args.k (texts (offers c.args.asked.readings x (rule_of (drop c.args.row c.args.rules.now))))) c.rows_offer.result c.rows_offer.ensures c.if-rows_offer.true
 
-pub returns : goal.returns
-returns c =
+pub returns-else-rows_offer : goal.returns-else-rows_offer
+returns-else-rows_offer c =
     let x = edge_by c.args.e c.args.text.now in
     by_row c.args.w.now (offered x c.args.code.now c.args.asked c.args.rules.now c.args.before)
     (take c.args.k (texts (offers c.args.asked.readings x (rule_of (drop c.args.row c.args.rules.now))))) c.rows_offer.result c.rows_offer.ensures c.if-rows_offer.false

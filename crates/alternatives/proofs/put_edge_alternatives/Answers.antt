@@ -1,9 +1,7 @@
 -- `alternatives::put_edge_alternatives`: the rows of its span are the rules of its span, asked as the definition asks.
 use mathlib.Core.Bool.{true}
 use mathlib.Core.Path.{◌≡◌, ap, ◌∙◌}
-use Prim.Native.Nat.{◌≤◌}
 use Rattle.base.specs.Lists.{keep}
-use Rattle.definition.specs.Limits.{most_rows}
 use Rattle.definition.specs.RuleRows.{rules_of}
 use Rattle.definition.specs.Rules.{spans}
 use Rattle.definition.specs.Paths.{reads}
@@ -12,41 +10,28 @@ use Rattle.edge.specs.Slots.{edge_by}
 use Rattle.listing.specs.Items.{put_items}
 use Rattle.edge_places.specs.Shows.{memory}
 use Rattle.words.specs.Given.{seen, size}
-use Rattle.words.specs.Found.{Rows, rules_in, found_at}
-use Rattle.words.specs.Looks.{source_in, looked_are}
+use Rattle.words.specs.declared.Span.{Span}
+use Rattle.words.specs.Found.{rules_in}
+use Rattle.words.specs.Looks.{looked_are}
 use Rattle.rule_choice.specs.Lent.{lexicon_of}
 use Rattle.offers.specs.Texts.{holding}
-use Rattle.alternatives.proofs.Edges.{rows_few, valid-found, found-edge, start-told, start_recalls}
+use Rattle.alternatives.proofs.Edges.{looked-rows, valid-found, found-edge, start-told, start_recalls}
 use Rattle.alternatives.proofs.put_edge_alternatives.Goals as goal
 
 pub filter_len-cells-requires : goal.filter_len-cells-requires
-filter_len-cells-requires c =
-    let rows : Rows c.args.rules.now c.look_up-look.result.first c.look_up-look.result.count × (c.look_up-look.result.count ≤ most_rows) = let r = c.args.rules.now in
-    let look = c.look_up-look.result in
-    let d = c.look_up-look.ensures.0 in
-    let w = source_in c.args.line.now look.from look.to in
-    let z = c.requires.0.table.accepted in
-    let f = found_at r w z look.first look.count d.first d.count in
-    (f.1, rows_few r w look.first look.count z f.0 f.1) in
-    (rows).1
+filter_len-cells-requires c = (looked-rows c.args.rules.now c.args.line.now c.look_up-look.result c.requires.0.table.accepted c.look_up-look.ensures.0).1
 
 pub put_filtered-requires : goal.put_filtered-requires
 put_filtered-requires c =
-    let rows : Rows c.args.rules.now c.look_up-look.result.first c.look_up-look.result.count × (c.look_up-look.result.count ≤ most_rows) = let r = c.args.rules.now in
-    let look = c.look_up-look.result in
-    let d = c.look_up-look.ensures.0 in
-    let w = source_in c.args.line.now look.from look.to in
-    let z = c.requires.0.table.accepted in
-    let f = found_at r w z look.first look.count d.first d.count in
-    (f.1, rows_few r w look.first look.count z f.0 f.1) in
-    ((rows).0, (rows).1, c.requires.1, c.requires.4)
+    let z = looked-rows c.args.rules.now c.args.line.now c.look_up-look.result c.requires.0.table.accepted c.look_up-look.ensures.0 in
+    (z.0, z.1, c.requires.1, c.requires.4)
 
 pub returns : goal.returns
 returns c =
     let e = c.args.e in
     let rules = c.args.rules.now in
-    let found = rules_in rules c.look_up-look.result.first c.look_up-look.result.count in
-    let rs = holding c.args.code.now c.is_at_start_of_word-start.result c.is_at_end_of_word-end.result rules c.look_up-look.result.first c.look_up-look.result.count in (
+    let found = rules_in rules c.look_up-look.result.found.first c.look_up-look.result.found.count in
+    let rs = holding c.args.code.now c.is_at_start_of_word-start.result c.is_at_end_of_word-end.result rules c.look_up-look.result.found.first c.look_up-look.result.found.count in (
       (λ w told lent.
           let L = lexicon_of rules w c.args.code.now in
           let T = w.text in
@@ -55,8 +40,7 @@ returns c =
           let d = c.is_at_start_of_word-start.ensures w lent in
           let are : found ≡ keep (spans T e.from e.to) (rules_of rules) =
           looked_are c.requires.0.table.accepted c.look_up-look.ensures.0 lent.text
-          ∙ ap (λ s. keep (spans T s c.look_up-look.result.to) (rules_of rules)) c.look_up-look.ensures.1
-          ∙ ap (λ z. keep (spans T e.from z) (rules_of rules)) c.look_up-look.ensures.2 in (
+          ∙ ap (λ (s : Span). keep (spans T s.from s.to) (rules_of rules)) c.look_up-look.ensures.1 in (
             c.put_filtered.ensures.0
                 ∙ ap (λ b. put_items true (found_by b (edge_by e c.args.text.now) rs) (c.args.at, c.args.out.now)) (ap reads (c.choices_in-choices.ensures ∙ told.choices))
                 ∙ ap (λ l. put_items true l (c.args.at, c.args.out.now)) (found-edge (reads w.choices) L T (seen w) m₀ e c.args.text.now rs

@@ -11,12 +11,12 @@ put_other-requires c =
     let s = c.requires.1 in
     (omega (arith, c.requires.0, s.long), low_bytes c.args.w.now s.low)
 
-pub returns-then-new : goal.returns-then-new
-returns-then-new c =
+pub returns : goal.returns
+returns c =
     let t : c.args.new ≡ true = cc in
     put_one c.args.at c.args.out.now c.args.new c.args.e c.args.note c.args.w.now t c.requires.1 (c.put_other.result, c.put_other.new.out) c.put_other.ensures
 
-pub returns : goal.returns
-returns c =
+pub returns-then-not-new : goal.returns-then-not-new
+returns-then-not-new c =
     let t : c.args.new ≡ false = cc in
     put_not c.args.at c.args.out.now c.args.new c.args.e c.args.note c.args.w.now t

@@ -2,7 +2,7 @@
 use mathlib.Core.Bool.{true}
 use mathlib.Core.List.{◌++◌}
 use mathlib.Core.Path.{◌≡◌}
-use Prim.Native.Nat.{◌+◌, ◌-◌, ◌*◌, ◌≤◌}
+use Prim.Native.Nat.{◌+◌, ◌*◌, ◌≤◌}
 use lib.ListN.{length, take, drop}
 use Rattle.definition.specs.Limits.{most_alternative}
 use Rattle.definition.specs.RuleRows.{rule_of}
@@ -18,10 +18,9 @@ abbrev pub invariant-loop-k : goal.invariant-loop-k
 invariant-loop-k l =
     let x = edge_by l.e l.text in
     let ws = earlier x l.code l.asked l.rules l.before in
-    let os = offers l.asked.readings x (rule_of (drop l.row l.rules)) in
-    (put_items true (news (ws ++ take l.k (texts os)) (drop l.k os)) (l.to, l.out) ≡ put_items true (news ws os) (l.at, l.initial.out))
-    × (l.k ≤ l.n) × (l.to ≤ l.at + offer_bytes * l.k) × (length l.out ≡ length l.initial.out) × (length l.cells ≡ length l.initial.cells)
-    × Marked (offered x l.code l.asked l.rules l.before ++ take l.k (texts os)) l.cells × (length l.bytes ≡ most_alternative)
-
-abbrev pub decreases-loop-k : goal.decreases-loop-k
-decreases-loop-k l = l.n - l.k
+    let os = offers l.asked.readings x (rule_of (drop l.row l.rules)) in record {
+      written : put_items true (news (ws ++ take l.k (texts os)) (drop l.k os)) (l.to, l.out) ≡ put_items true (news ws os) (l.at, l.initial.out);
+      small : l.to ≤ l.at + offer_bytes * l.k;
+      marked : Marked (offered x l.code l.asked l.rules l.before ++ take l.k (texts os)) l.cells;
+      long : length l.bytes ≡ most_alternative;
+    }

@@ -2,7 +2,7 @@
 use mathlib.Core.Bool.{true}
 use mathlib.Core.Path.{◌≡◌}
 use Prim.Native.Nat.{◌+◌, ◌-◌, ◌*◌, ◌≤◌}
-use lib.ListN.{length, drop}
+use lib.ListN.{drop}
 use Rattle.definition.specs.Offers.{found_by}
 use Rattle.edge.specs.Slots.{edge_by}
 use Rattle.listing.specs.Items.{put_items}
@@ -16,12 +16,11 @@ use Rattle.alternatives.proofs.put_rows.Given as goal
 
 abbrev pub invariant-loop-before : goal.invariant-loop-before
 invariant-loop-before l =
-    let x = edge_by l.e l.text in
-    (put_items true (left_news x l.code l.asked l.rules l.before l.row (l.rows - l.before)) (l.to, l.out)
-    ≡ put_items true (found_by l.asked.readings x (holding l.code l.asked.start l.asked.end l.rules l.asked.first l.rows)) (l.at, l.initial.out))
-    × (rules_from l.rules l.row ≡ drop l.before (rules_from l.rules l.asked.first)) × Rows l.rules l.row (l.rows - l.before)
-    × (l.before ≤ l.rows) × (l.to ≤ l.at + row_bytes * l.before) × (length l.out ≡ length l.initial.out) × (length l.cells ≡ length l.initial.cells)
-    × Marked (offered x l.code l.asked l.rules l.before) l.cells
-
-abbrev pub decreases-loop-before : goal.decreases-loop-before
-decreases-loop-before l = l.rows - l.before
+    let x = edge_by l.e l.text in record {
+      written : put_items true (left_news x l.code l.asked l.rules l.before l.row (l.rows - l.before)) (l.to, l.out)
+          ≡ put_items true (found_by l.asked.readings x (holding l.code l.asked.start l.asked.end l.rules l.asked.first l.rows)) (l.at, l.initial.out);
+      here : rules_from l.rules l.row ≡ drop l.before (rules_from l.rules l.asked.first);
+      rest : Rows l.rules l.row (l.rows - l.before);
+      small : l.to ≤ l.at + row_bytes * l.before;
+      marked : Marked (offered x l.code l.asked l.rules l.before) l.cells;
+    }

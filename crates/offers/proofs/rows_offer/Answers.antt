@@ -45,7 +45,7 @@ loop-preserved c =
     let z = c.size-row.ensures.0 in (
       rows_turn a.w.now a.asked.readings (edge_by a.e a.text.now) a.code.now a.asked.start a.asked.end a.rules.now c.loop.row left (omega arith)
           c.loop.invariant.1 _ z false (sym c.if-holding_row_offers.false ∙ c.holding_row_offers.ensures) _ (omega arith) ∙ c.loop.invariant.0,
-      subst (Rows a.rules.now (c.loop.row + c.size-row.result)) (omega arith) (rows_next a.rules.now c.loop.row left (omega arith) c.loop.invariant.1 _ z),
+      rows_next a.rules.now c.loop.row left (a.rows - (c.loop.counter + 1)) (omega arith) c.loop.invariant.1 _ z,
     )
 
 pub returns : goal.returns
