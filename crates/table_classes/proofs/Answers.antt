@@ -1,14 +1,13 @@
 -- A packed class from what a lookup told, and lists of answers.
 use Prim.Native.Nat.{ℕ, ◌+◌, ◌*◌, ◌%◌, ◌≤◌, ◌<◌}
-use mathlib.Core.Bool.{true, false, ◌&&◌, and-false}
+use Rattle.std.specs.Prelude.{Option, Some, None}
+use mathlib.Core.Bool.{◌&&◌}
 use mathlib.Core.List.{List, ◌++◌, map, append-nil}
 use mathlib.Core.Path.{◌≡◌, sym, ap, ◌∙◌, subst}
 use native.Mathlib.Omega.{arith}
 use lib.Dec.{leb}
 use lib.ListN.{length, get_or, set, take, drop, length-map, drop_of_length-le}
 use lib.Seq.{take_all}
-use borrow.Author.Tests.{le-leb, lt-leb}
-use Rattle.base.specs.Bits.{bit}
 use Rattle.base.specs.Pick.{pick}
 use Rattle.base.specs.Copies.{copied}
 use Rattle.definition.specs.Texts.{latin}
@@ -18,25 +17,18 @@ use Rattle.definition.specs.Classes.{plain, class, alpha}
 use Rattle.table_classes.specs.Told.{Fine, class_means, Ranged, packed}
 use Rattle.table_classes.specs.Packing.{packed_row, packed-plain, says, says_alpha, map_at}
 use Rattle.table_classes.specs.declared.ClassRow.{ClassRow}
-use Rattle.table_classes.specs.declared.ClassOf.{ClassOf}
-use Rattle.table_classes.specs.declared.ClassOf.TheVariants.{Row, Absent}
 
 -- the default
-pub plain-letter : (c : ℕ) → true ≡ latin c → 1 ≡ packed (plain c)
-unfolding pick
-plain-letter c e = sym (packed-plain c ∙ rw (sym e))
-
-pub plain_other : (c : ℕ) → false ≡ latin c → 0 ≡ packed (plain c)
-unfolding pick
-plain_other c e = sym (packed-plain c ∙ rw (sym e))
+pub plain_packed : (c : ℕ) → packed (plain c) ≡ pick (latin c) 1 0
+plain_packed c = packed-plain c
 
 -- a lookup's answer
-module _ (c : ℕ) (r : ClassOf) (k : Class) (h : class_means c r ≡ k) where
-  pub absent_is : r ≡ Absent → packed (plain c) ≡ packed k
+module _ (c : ℕ) (r : Option ClassRow) (k : Class) (h : class_means c r ≡ k) where
+  pub absent_is : r ≡ None → packed (plain c) ≡ packed k
   unfolding class_means
   absent_is e = ap packed (ap (class_means c) (sym e) ∙ h)
 
-  module _ (row : ClassRow) (e : r ≡ Row row) (g : Ranged r) where
+  module _ (row : ClassRow) (e : r ≡ Some row) (g : Ranged r) where
     pub row_ranged : (row.category ≤ 7) × (row.script ≤ 127) × (row.flags < 256)
     unfolding Ranged
     row_ranged = subst Ranged e g
@@ -48,18 +40,9 @@ module _ (c : ℕ) (r : ClassOf) (k : Class) (h : class_means c r ≡ k) where
         ∙ ap packed (ap (class_means c) (sym e) ∙ h)
 
 -- a letter or a mark, by its category
-module _ (b : List ℕ) (fine : Fine b) (c n : ℕ) (e : n ≡ packed (class (classes_of b) c)) where
-  asked : alpha (classes_of b) c ≡ (leb 1 (n % 8) && leb (n % 8) 3)
-  asked = sym (says_alpha n c (classes_of b) (rw e (says b fine c)))
-
-  pub alpha-low : n % 8 < 1 → 0 ≡ bit (alpha (classes_of b) c)
-  alpha-low h = rw (asked, lt-leb 1 (n % 8) h)
-
-  pub alpha_high : 3 < n % 8 → 0 ≡ bit (alpha (classes_of b) c)
-  alpha_high h = rw (asked, lt-leb (n % 8) 3 h, and-false)
-
-  pub alpha-is : 1 ≤ n % 8 → n % 8 ≤ 3 → 1 ≡ bit (alpha (classes_of b) c)
-  alpha-is h g = rw (asked, le-leb 1 (n % 8) h, le-leb (n % 8) 3 g)
+pub alpha_asked : (b : List ℕ) (c n : ℕ) → Fine b → n ≡ packed (class (classes_of b) c)
+    → alpha (classes_of b) c ≡ (leb 1 (n % 8) && leb (n % 8) 3)
+alpha_asked b c n fine e = sym (says_alpha n c (classes_of b) (rw e (says b fine c)))
 
 -- A turn of writing answers: the value at `i` goes in; after the last the list is the answers
 pub written : (f : ℕ → ℕ) (t old now : List ℕ) (i v : ℕ) → length old ≡ length t → i < length t

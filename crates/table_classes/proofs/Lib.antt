@@ -1,4 +1,3 @@
-pub mod Rightness
 pub mod Search
 pub mod Answers
 pub mod Halves

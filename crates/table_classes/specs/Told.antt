@@ -1,27 +1,26 @@
 -- What the answers of this crate's functions say, in the definition's terms.
-use Rattle.std.specs.Prelude.{ℕ, zero, suc, ◌+◌, ◌*◌, ◌≤◌, ◌<◌, List, [], ◌∷◌, map, ◌≡◌}
+use Rattle.std.specs.Prelude.{ℕ, zero, suc, ◌+◌, ◌*◌, ◌≤◌, ◌<◌, List, [], ◌∷◌, map, ◌≡◌, Option, Some, None}
 use Rattle.std.proofs.Math.Option.{none}
 use Rattle.base.specs.Bits.{bit}
 use Rattle.definition.specs.Limits.{most_script, ascii_characters}
 use Rattle.definition.specs.Tables.{Class, category_Zs}
 use Rattle.definition.specs.ClassRows.{class_by, class_fault, classes_of}
 use Rattle.definition.specs.Classes.{plain, class, alpha}
-use Rattle.table_classes.specs.declared.ClassOf.{ClassOf}
-use Rattle.table_classes.specs.declared.ClassOf.TheVariants.{Row, Absent}
+use Rattle.table_classes.specs.declared.ClassRow.{ClassRow}
 
 -- A class table that was checked
 abbrev pub Fine : List ℕ → Type 0
 Fine b = class_fault b ≡ none
 
 -- a character's class by its row, or the default
-unfoldable pub class_means : ℕ → ClassOf → Class
-class_means c (Row r) = class_by c r.category r.script r.flags
-class_means c Absent = plain c
+unfoldable pub class_means : ℕ → Option ClassRow → Class
+class_means c (Some r) = class_by c r.category r.script r.flags
+class_means c None = plain c
 
 -- a row's numbers are within those of an accepted table, and its flags are a byte
-unfoldable pub Ranged : ClassOf → Type 0
-Ranged (Row r) = (r.category ≤ category_Zs) × (r.script ≤ most_script) × (r.flags < 256)
-Ranged Absent = Unit {0}
+unfoldable pub Ranged : Option ClassRow → Type 0
+Ranged (Some r) = (r.category ≤ category_Zs) × (r.script ≤ most_script) × (r.flags < 256)
+Ranged None = Unit {0}
 
 -- A class in one number: category in bits 0 to 2, script in 3 to 9, flags from 10 on
 unfoldable pub flags_of : Class → ℕ

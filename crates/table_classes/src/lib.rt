@@ -1,7 +1,7 @@
 // The class table (dicts/model.rs, dicts/mod.rs): its check, and what it says of a character.
 #![tactic(auto)]
 
-ghost use Rattle.std.specs.Prelude.{◌≡◌, ◌++◌, ◌+◌, ◌*◌, ◌/◌, ◌%◌, ◌≤◌, ◌<◌, length, drop, get_or, take};
+ghost use Rattle.std.specs.Prelude.{◌≡◌, ◌++◌, ◌+◌, ◌*◌, ◌/◌, ◌%◌, ◌≤◌, ◌<◌, length, drop, get_or, take, IfSome};
 ghost use Rattle.base.specs.Bits.{bit, flagged};
 ghost use Rattle.definition.specs.ClassRows.{class_fits, space_right, latin_right, class_right};
 ghost use Rattle.definition.specs.ClassRows.{class_fault, classes_of};
@@ -10,9 +10,10 @@ ghost use Rattle.table_blocks.specs.Faults.{table_means};
 ghost use Rattle.table_classes.specs.Told.{Fine, class_means, Ranged, packed, kinds_of, alphas_of};
 ghost use Rattle.table_classes.specs.Plain.{Plain, fault_from};
 
-use table_blocks::TableRead;
+use table_blocks::TableFault;
 
-// Scripts that the engine asks for.
+// Scripts that the engine asks for. Scripts, categories and flags stay numbers: they are bytes of the class table's format, which
+// has others that the engine does not ask for.
 pub const THAI: u32 = 1;
 
 pub const COPTIC: u32 = 2;
@@ -57,88 +58,65 @@ pub struct ClassRow {
     pub flags: u32,
 }
 
-// A character's row, if it has one.
-#[derive(Clone, Copy)]
-pub enum ClassOf {
-    Row(ClassRow),
-    Absent,
-}
-
 // A class row within the table, of a scalar value that rises, with known numbers.
+#[tactic(auto, using(table_blocks::specs::Held::held_from, table_blocks::specs::Held::short_from), unfolding(definition::specs::ClassRows::class_fits))]
 fn class_fits(classes: &[u8], row: usize, low: u32) -> bool
     ensures { result ≡ class_fits low (drop row classes.now) }
 {
-    if classes.len() < row {
-        return false;
-    }
-    if classes.len() - row < 6 {
+    if classes.len() < row || classes.len() - row < 6 {
         return false;
     }
     let c = base::three(classes, row, 0);
-    if c < low {
-        return false;
-    }
-    if 7 < base::at(classes, row, 3) {
-        return false;
-    }
-    if 127 < base::at(classes, row, 4) {
-        return false;
-    }
-    table_blocks::scalar(c)
+    low <= c
+        && base::at(classes, row, 3) <= 7
+        && base::at(classes, row, 4) <= 127
+        && table_blocks::scalar(c)
 }
 
 // A space has a plain row.
+#[tactic(auto, unfolding(definition::specs::ClassRows::space_right))]
 fn space_right(classes: &[u8], row: usize) -> bool
     ensures { result ≡ space_right (drop row classes.now) }
 {
     base::three(classes, row, 0) != 32
         || (base::at(classes, row, 3) == 7
-            && (base::at(classes, row, 4) == 0 && base::at(classes, row, 5) == 0))
+            && base::at(classes, row, 4) == 0
+            && base::at(classes, row, 5) == 0)
 }
 
 // A-Z and a-z are letters.
+#[tactic(auto, unfolding(definition::specs::ClassRows::latin_right))]
 fn latin_right(classes: &[u8], row: usize) -> bool
     ensures { result ≡ latin_right (drop row classes.now) }
 {
-    if table_blocks::latin(base::three(classes, row, 0)) {
-        return base::at(classes, row, 3) == 1;
-    }
-    true
+    !table_blocks::latin(base::three(classes, row, 0)) || base::at(classes, row, 3) == 1
 }
 
 // A class row that may follow the characters below `low`.
+#[tactic(auto, unfolding(definition::specs::ClassRows::class_right))]
 fn class_right(classes: &[u8], row: usize, low: u32) -> bool
     ensures { result ≡ class_right low (drop row classes.now) }
 {
-    class_fits(classes, row, low) && (space_right(classes, row) && latin_right(classes, row))
+    class_fits(classes, row, low) && space_right(classes, row) && latin_right(classes, row)
 }
 
 // A right row of the commonest kind: a character past the Latin letters, not below `low`, and below the surrogates. The
-// answer is the character past its own, or 0 for any other row.
-fn plain_class(classes: &[u8], row: usize, low: u32) -> u32
+// answer is the character past its own, or none for a row of another kind.
+fn plain_class(classes: &[u8], row: usize, low: u32) -> Option<u32>
     requires { row ≤ length classes.now }
-    ensures { 0 < result → Plain low (drop row classes.now) result }
+    ensures { IfSome result (λ past. Plain low (drop row classes.now) past) }
 {
     if classes.len() - row < 6 {
-        return 0;
+        return None;
     }
     let c = base::three(classes, row, 0);
-    if c < low {
-        return 0;
+    if c < low || !matches!(c, 0x7B..=0xD7FF) {
+        return None;
     }
-    if c < 123 {
-        return 0;
+    if 7 < base::at(classes, row, 3) || 127 < base::at(classes, row, 4) {
+        return None;
     }
-    if 0xD7FF < c {
-        return 0;
-    }
-    if 7 < base::at(classes, row, 3) {
-        return 0;
-    }
-    if 127 < base::at(classes, row, 4) {
-        return 0;
-    }
-    c + 1
+    Some(c + 1)
 }
 
 // Where the check of a class table stands: at a row, with as many rows left, characters from `low` on to come.
@@ -150,60 +128,53 @@ pub struct Walk {
 }
 
 // Past the rows of the commonest kind that stand one after another.
-fn plain_classes(classes: &[u8], at: usize, left: u32, low: u32) -> Walk
-    requires { at ≤ length classes.now }
-    ensures { (fault_from classes.now result.at result.left result.low ≡ fault_from classes.now at left low)
-        × (at ≤ result.at) × (result.at ≤ length classes.now) }
+fn plain_classes(classes: &[u8], start: Walk) -> Walk
+    requires { start.at ≤ length classes.now }
+    ensures { (fault_from classes.now result.at result.left result.low ≡ fault_from classes.now start.at start.left start.low)
+        × (start.at ≤ result.at) × (result.at ≤ length classes.now) }
 {
-    let mut here = at;
-    let mut more = left;
-    let mut least = low;
-    while 0 < more {
-        let next = plain_class(classes, here, least);
-        if next == 0 {
-            return Walk {
-                at: here,
-                left: more,
-                low: least,
-            };
-        }
-        least = next;
-        here += 6;
-        more -= 1;
+    let mut walk = start;
+    for _turn in 0..start.left {
+        let Some(past) = plain_class(classes, walk.at, walk.low) else {
+            return walk;
+        };
+        walk = Walk {
+            at: walk.at + 6,
+            left: walk.left - 1,
+            low: past,
+        };
     }
-    Walk {
-        at: here,
-        left: more,
-        low: least,
-    }
+    walk
 }
 
 // The first fault of a class table. No more than `MOST_ROWS` rows, and characters rise.
-pub fn check_classes(classes: &[u8]) -> TableRead
+pub fn check_classes(classes: &[u8]) -> Result<(), TableFault>
     ensures { table_means result ≡ class_fault classes.now }
 {
-    if table_blocks::headed(classes) {
-        let mut at: usize = table_blocks::HEAD_BYTES;
-        let mut left: u32 = table_blocks::MOST_ROWS;
-        let mut low: u32 = 0;
-        while at < classes.len() {
-            if left == 0 {
-                return TableRead::Fault(at);
-            }
-            if class_right(classes, at, low) {
-                let past = base::three(classes, at, 0) + 1;
-                let next = at + 6;
-                let walk = plain_classes(classes, next, left - 1, past);
-                at = walk.at;
-                left = walk.left;
-                low = walk.low;
-            } else {
-                return TableRead::Fault(at);
-            }
-        }
-        return TableRead::Valid;
+    if !table_blocks::headed(classes) {
+        return Err(TableFault { at: 0 });
     }
-    TableRead::Fault(0)
+    let mut walk = Walk {
+        at: table_blocks::HEAD_BYTES,
+        left: table_blocks::MOST_ROWS,
+        low: 0,
+    };
+    // a `while`: a turn goes past a row and all those of the commonest kind behind it
+    while walk.at < classes.len() {
+        let Walk { at, left, low } = walk;
+        if left == 0 || !class_right(classes, at, low) {
+            return Err(TableFault { at });
+        }
+        walk = plain_classes(
+            classes,
+            Walk {
+                at: at + 6,
+                left: left - 1,
+                low: base::three(classes, at, 0) + 1,
+            },
+        );
+    }
+    Ok(())
 }
 
 // The numbers of the row at a place.
@@ -220,18 +191,19 @@ fn class_row(classes: &[u8], row: usize) -> ClassRow
 }
 
 // The row of a character, halving the rows that may be it: characters rise.
-fn class_of(classes: &[u8], c: u32) -> ClassOf
+fn class_of(classes: &[u8], c: u32) -> Option<ClassRow>
     requires { Fine classes.now }
     ensures { (class_means c result ≡ class (classes_of classes.now) c) × Ranged result }
 {
     let mut low: usize = 0;
     let mut high: usize = (classes.len() - table_blocks::HEAD_BYTES) / 6;
+    // a search by hand: the rows are bytes of a lent table, and the library's search wants a slice of rows
     while low < high {
         let mid = low + (high - low) / 2;
         let row = table_blocks::HEAD_BYTES + mid * 6;
         let char = base::three_there(classes, row, 0);
         if char == c {
-            return ClassOf::Row(class_row(classes, row));
+            return Some(class_row(classes, row));
         }
         if char < c {
             low = mid + 1;
@@ -239,17 +211,15 @@ fn class_of(classes: &[u8], c: u32) -> ClassOf
             high = mid;
         }
     }
-    ClassOf::Absent
+    None
 }
 
 // The packed class of a character with no row.
+#[tactic(auto, using(crate::proofs::Answers::plain_packed), unfolding(base::specs::Pick::pick))]
 fn plain_kind(c: u32) -> u32
     ensures { result ≡ packed (plain c) }
 {
-    if table_blocks::latin(c) {
-        return 1;
-    }
-    0
+    u32::from(table_blocks::latin(c))
 }
 
 // The numbers of a row in one.
@@ -265,10 +235,10 @@ pub fn kind_of(classes: &[u8], c: u32) -> u32
     requires { Fine classes.now }
     ensures { result ≡ packed (class (classes_of classes.now) c) }
 {
-    let ClassOf::Row(row) = class_of(classes, c) else {
-        return plain_kind(c);
-    };
-    pack(row)
+    match class_of(classes, c) {
+        Some(row) => pack(row),
+        None => plain_kind(c),
+    }
 }
 
 // What a packed class says: category, script and flag `k`, by shifts and masks.
@@ -312,29 +282,21 @@ pub fn classify(classes: &[u8], line: &mut [u32])
     let half = line.len() / 2;
     let mut known: u32 = 32;
     let mut kind = kind_of(classes, known);
-    let mut i: usize = 0;
-    while i < half {
+    for i in 0..half {
         let c = line[i];
         kind = next_kind(classes, c, known, kind);
         line[half + i] = kind;
         known = c;
-        i += 1;
     }
 }
 
 // 1 for a letter or a mark, 0 for any other character.
+#[tactic(auto, using(crate::proofs::Answers::alpha_asked), unfolding(base::specs::Bits::bit))]
 fn alpha_bit(classes: &[u8], c: u32) -> u32
     requires { Fine classes.now }
     ensures { result ≡ bit (alpha (classes_of classes.now) c) }
 {
-    let category = kind_of(classes, c) % 8;
-    if category < 1 {
-        return 0;
-    }
-    if 3 < category {
-        return 0;
-    }
-    1
+    u32::from(matches!(category(kind_of(classes, c)), 1..=3))
 }
 
 // Of each ASCII character whether it is a letter or a mark: targets are ASCII.
@@ -342,9 +304,7 @@ pub fn classify_ascii(classes: &[u8], alphas: &mut [u32])
     requires { Fine classes.now × (length alphas.old ≡ 128) }
     ensures { alphas.new ≡ alphas_of classes.now }
 {
-    let mut i: u32 = 0;
-    while i < 128 {
+    for i in 0..128u32 {
         alphas[i as usize] = alpha_bit(classes, i);
-        i += 1;
     }
 }

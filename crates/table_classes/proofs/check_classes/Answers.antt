@@ -10,55 +10,53 @@ use Rattle.definition.specs.ClassRows.{class_size, class_next, class_right, clas
 use Rattle.table_blocks.specs.Faults.{table_means}
 use Rattle.definition.specs.Checking.{started, no_header, over, next, spent, wrong}
 use Rattle.table_classes.proofs.check_classes.Goals as goal
+use Rattle.table_classes.proofs.check_classes.Goals.{then-left-eq0-via-then-left-eq0, then-left-eq0-via-else-left-eq0+then-not-class_right}
 
-pub loop-at-init : goal.loop-at-init
+pub returns-then-not-headed : goal.returns-then-not-headed
+unfolding table_means class_fault
+returns-then-not-headed c =
+    no_header class_size class_next class_right most_rows 0 c.args.classes.now
+    (sym c.if-not-headed.true ∙ c.headed.ensures)
+
+pub loop-walk-init : goal.loop-walk-init
 unfolding class_fault
-loop-at-init c =
+loop-walk-init c =
     started class_size class_next class_right most_rows 0 c.args.classes.now
-    (sym c.if-headed.true ∙ c.headed.ensures)
+    (sym c.if-not-headed.false ∙ c.headed.ensures)
 
 pub returns-then-left-eq0 : goal.returns-then-left-eq0
 unfolding table_means
 returns-then-left-eq0 c =
-    let l = c in
-    spent class_size class_next class_right class_moves ((l.args.classes.now)) l.loop-at.at l.loop-at.left l.loop-at.low
-    (omega arith) (omega arith)
-    ∙ l.loop-at.invariant
+    let w = c.loop-walk.walk in
+    let b = c.args.classes.now in
+    elim c.then-left-eq0.branch [
+      | then-left-eq0-via-then-left-eq0 x ↦
+          spent class_size class_next class_right class_moves b w.at w.left w.low (omega arith) (omega arith) ∙ c.loop-walk.invariant
+      | then-left-eq0-via-else-left-eq0+then-not-class_right x ↦
+          wrong class_size class_next class_right class_moves b w.at w.left w.low (omega arith)
+          (sym x.if-not-class_right.true ∙ x.class_right.ensures) ∙ c.loop-walk.invariant
+    ]
 
 pub plain_classes-walk-requires : goal.plain_classes-walk-requires
 plain_classes-walk-requires c =
-    let l = c in
-    let e : class_right l.loop-at.low (drop l.loop-at.at ((l.args.classes.now))) ≡ true =
-    sym c.class_right.ensures ∙ c.if-class_right.true in
-    omega (arith, (class-checked l.loop-at.low (drop l.loop-at.at ((l.args.classes.now))) e).inside, length-drop l.loop-at.at ((l.args.classes.now)))
+    let w = c.loop-walk.walk in
+    let b = c.args.classes.now in
+    let e : class_right w.low (drop w.at b) ≡ true = sym c.class_right.ensures ∙ c.if-not-class_right.false in
+    omega (arith, (class-checked w.low (drop w.at b) e).inside, length-drop w.at b)
 
-pub loop-at-preserved : goal.loop-at-preserved
+pub loop-walk-preserved : goal.loop-walk-preserved
 unfolding class_size class_next
-loop-at-preserved c =
-    let w = c in
-    let l = w in
+loop-walk-preserved c =
+    let w = c.loop-walk.walk in
     c.plain_classes-walk.ensures.0
-    ∙ next class_size class_next class_right class_moves ((l.args.classes.now)) l.loop-at.at l.loop-at.left l.loop-at.low
+    ∙ next class_size class_next class_right class_moves c.args.classes.now w.at w.left w.low
     (omega arith) (omega arith)
-    (sym c.if-class_right.true ∙ w.class_right.ensures) _ _ _ refl refl (omega (arith, c.three-past.ensures.0))
-    ∙ l.loop-at.invariant
-
-pub returns-else-class_right : goal.returns-else-class_right
-unfolding table_means
-returns-else-class_right c =
-    let l = c in
-    wrong class_size class_next class_right class_moves ((l.args.classes.now)) l.loop-at.at l.loop-at.left l.loop-at.low (omega arith)
-    (sym c.if-class_right.false ∙ c.class_right.ensures) ∙ l.loop-at.invariant
-
-pub returns-then-headed : goal.returns-then-headed
-unfolding table_means
-returns-then-headed c =
-    let l = c in
-    over class_size class_next class_right class_moves ((l.args.classes.now)) l.loop-at.at l.loop-at.left l.loop-at.low (omega arith)
-    ∙ l.loop-at.invariant
+    (sym c.if-not-class_right.false ∙ c.class_right.ensures) _ _ _ refl refl (omega (arith, c.three.ensures.0))
+    ∙ c.loop-walk.invariant
 
 pub returns : goal.returns
-unfolding table_means class_fault
+unfolding table_means
 returns c =
-    no_header class_size class_next class_right most_rows 0 c.args.classes.now
-    (sym c.if-headed.false ∙ c.headed.ensures)
+    let w = c.loop-walk.walk in
+    over class_size class_next class_right class_moves c.args.classes.now w.at w.left w.low (omega arith)
+    ∙ c.loop-walk.invariant

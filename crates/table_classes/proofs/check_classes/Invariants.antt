@@ -6,9 +6,9 @@ use Rattle.definition.specs.ClassRows.{class_size, class_next, class_right, clas
 use Rattle.definition.specs.Checking.{from}
 use Rattle.table_classes.proofs.check_classes.Given as goal
 
-abbrev pub invariant-loop-at : goal.invariant-loop-at
-invariant-loop-at l =
-    from class_size class_next class_right l.at l.left l.low l.classes ≡ class_fault l.classes
+abbrev pub invariant-loop-walk : goal.invariant-loop-walk
+invariant-loop-walk l =
+    from class_size class_next class_right l.walk.at l.walk.left l.walk.low l.classes ≡ class_fault l.classes
 
-abbrev pub decreases-loop-at : goal.decreases-loop-at
-decreases-loop-at l = length l.classes - l.at
+abbrev pub decreases-loop-walk : goal.decreases-loop-walk
+decreases-loop-walk l = length l.classes - l.walk.at

@@ -1,5 +1,5 @@
 -- `table_classes::classify`: the first `i` places of the second half are written, and `kind` is the class of `known`.
-use Prim.Native.Nat.{◌+◌, ◌-◌, ◌≤◌}
+use Prim.Native.Nat.{◌+◌, ◌≤◌}
 use mathlib.Core.Path.{◌≡◌}
 use lib.ListN.{length}
 use Rattle.definition.specs.ClassRows.{classes_of}
@@ -13,6 +13,3 @@ invariant-loop-i l =
     (l.i ≤ l.half) × (l.half + l.half ≡ length l.initial.line) × (length l.line ≡ length l.initial.line)
     × Written (λ k. packed (class (classes_of l.classes) k)) l.initial.line l.half l.i l.line
     × (l.kind ≡ packed (class (classes_of l.classes) l.known))
-
-abbrev pub decreases-loop-i : goal.decreases-loop-i
-decreases-loop-i l = l.half - l.i

@@ -1,5 +1,5 @@
 -- `table_classes::classify_ascii`: the first `i` are written, the rest is as it was.
-use Prim.Native.Nat.{◌-◌, ◌≤◌}
+use Prim.Native.Nat.{◌≤◌}
 use mathlib.Core.Path.{◌≡◌}
 use mathlib.Core.List.{◌++◌}
 use lib.ListN.{length, take, drop}
@@ -9,6 +9,3 @@ use Rattle.table_classes.proofs.classify_ascii.Given as goal
 abbrev pub invariant-loop-i : goal.invariant-loop-i
 invariant-loop-i l =
     (l.i ≤ 128) × (l.alphas ≡ take l.i (alphas_of l.classes) ++ drop l.i l.initial.alphas) × (length l.alphas ≡ 128)
-
-abbrev pub decreases-loop-i : goal.decreases-loop-i
-decreases-loop-i l = 128 - l.i

@@ -9,6 +9,6 @@ returns c =
     let h = c in
     let e = h.three-c.ensures.0 in
     let a = h.args in
-    λ _. told (drop a.row a.classes.now) a.low (omega (arith, length-drop a.row a.classes.now))
+    told (drop a.row a.classes.now) a.low (omega (arith, length-drop a.row a.classes.now))
     (omega (arith, e)) (omega (arith, e)) (omega (arith, e))
-    (omega (arith, c.at.ensures.0)) (omega (arith, c.at-2.ensures.0)) h.three-c.result e
+    (omega (arith, c.at.ensures.0)) (omega (arith, c.at-else-at-gt7.ensures.0)) h.three-c.result e
