@@ -17,7 +17,7 @@ use Rattle.definition.specs.BlockTurns.{chain-each}
 use Rattle.definition.specs.Checked.{vowel-checked}
 use Rattle.definition.specs.Accepted.{vowel_moves, vowels-chain}
 use Rattle.table_vowels.specs.Told.{FineVowels}
-use Rattle.table_vowels.proofs.VowelTests.{letters-at}
+use Rattle.table_vowels.proofs.VowelTests.{letters_at}
 
 pub record Kept (s : List ℕ) : Type 0 where
   pub inside : 3 + vowel_length s ≤ length s
@@ -69,7 +69,7 @@ module _ (b : List ℕ) (k at : ℕ) where
         → some (record { script = k; ao = eqb t 1; letters = take (to - from) (drop from b) }) ≡ row_from at b k
     unfolding row_from vowel_row head keep vowel_of
     row_hit e t from to p q r =
-        rw (first, letters-at b at from to q r, p, eq-eqb (vowel_script (drop at b)) k e, sym e)
+        rw (first, letters_at b at from to q r, p, eq-eqb (vowel_script (drop at b)) k e, sym e)
 
     pub row_miss : (vowel_script (drop at b) ≡ k → ⊥) → (to : ℕ) → to ≡ at + 3 + vowel_length (drop at b)
         → (row_from to b k ≡ row_from at b k) × From to b
