@@ -1,5 +1,5 @@
--- A target's plus sign: the tests by first bytes and length, what is left without it, and the bytes of a fallback.
-use mathlib.Core.Bool.{Bool, true, false, true≢false, and-false}
+-- A target's plus sign: the tests by first bytes, what is left without it, and the bytes of a fallback.
+use mathlib.Core.Bool.{Bool, true, false, true≢false}
 use mathlib.Core.List.{[], ◌∷◌}
 use mathlib.Core.Option.{Option, none, some}
 use mathlib.Core.Path.{◌≡◌, refl, sym, ap, ◌∙◌}
@@ -8,10 +8,10 @@ use native.Mathlib.Omega.{arith}
 use lib.Dec.{eqb}
 use lib.ListN.{length, get_or, drop}
 use borrow.Author.Tests.{eq-eqb, ne_eqb}
-use Rattle.base.specs.Bools.{and_left, eqb_alike}
+use Rattle.base.specs.Bools.{and_left}
 use Rattle.base.specs.Pick.{pick}
 use Rattle.base.specs.Lists.{head, tail, has, is, maybe}
-use Rattle.definition.specs.Texts.{Text, plus_sign, letter_n}
+use Rattle.definition.specs.Texts.{Text, plus_sign}
 use Rattle.definition.specs.Building.{is_tail, fallback_plus}
 use Rattle.rom.specs.Sets.{member, member-before, plus_before_set, in_plus-before}
 use Rattle.rule_choice.specs.Chosen.{or_nothing}
@@ -37,12 +37,8 @@ plus-there [] e = absurd (true≢false (sym e))
 plus-there (x ∷ w) e = omega arith
 
 module _ (w : Text) where
-  -- neither test holds without it
+  -- the test does not hold without it
   module _ (h : get_or w 0 0 ≡ plus_sign → ⊥) where
-    pub no_tail : false ≡ is_tail w
-    unfolding is_tail
-    no_tail = sym (rw (without w h))
-
     pub no_plus : false ≡ fallback_plus w
     unfolding fallback_plus
     no_plus = sym (rw (without w h))
@@ -55,27 +51,6 @@ module _ (w : Text) where
   pub fallback_there : fallback_plus w ≡ true → 0 < length w
   unfolding fallback_plus
   fallback_there e = plus-there w (and_left _ _ e)
-
--- A tail by its length
-pub tail_of_two : (w : Text) → get_or w 0 0 ≡ plus_sign → length w ≡ 2 → true ≡ is_tail w
-unfolding is_tail
-tail_of_two [] e l = absurd (omega arith)
-tail_of_two (x ∷ w) e l = simp (with_plus (x ∷ w) e, eq-eqb (length w) 1 (omega arith))
-
-pub tail_of_three : (w : Text) → get_or w 0 0 ≡ plus_sign → length w ≡ 3 → eqb (get_or w 1 0) letter_n ≡ is_tail w
-unfolding is_tail head
-tail_of_three [] e l = absurd (omega arith)
-tail_of_three (x ∷ []) e l = absurd (omega arith)
-tail_of_three (x ∷ y ∷ w) e l =
-    simp (eq-eqb plus_sign x (sym e), ne_eqb (length (y ∷ w)) 1 (λ z. omega arith), eq-eqb (length (y ∷ w)) 2 (omega arith))
-    (eqb_alike y letter_n letter_n y sym sym)
-
-pub no_tail_of : (w : Text) → (length w ≡ 2 → ⊥) → (length w ≡ 3 → ⊥) → false ≡ is_tail w
-unfolding is_tail head
-no_tail_of [] h k = refl
-no_tail_of (x ∷ w) h k =
-    simp (ne_eqb (length w) 1 (λ z. h (omega arith)), ne_eqb (length w) 2 (λ z. k (omega arith)))
-    (sym (and-false (eqb plus_sign x)))
 
 -- A plus is dropped before a letter of the set
 pub plus-before : (w : Text) → get_or w 0 0 ≡ plus_sign → member plus_before_set (get_or w 1 0) ≡ fallback_plus w

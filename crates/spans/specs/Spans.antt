@@ -1,6 +1,7 @@
 -- The edge of a span as it is answered, and the text of a fallback.
-use Rattle.std.specs.Prelude.{true, false, List, ◌≡◌, ℕ, eqb, take}
-use Rattle.std.proofs.Math.Option.{Option, none, some}
+use Rattle.std.specs.Prelude.{Option, Some, None, List, ◌≡◌, ℕ, eqb, take}
+use mathlib.Core.Option.{none, some}
+use mathlib.Core.Option as math
 use Rattle.base.specs.Pick.{pick}
 use Rattle.base.specs.Lists.{tail, maybe}
 use Rattle.definition.specs.Texts.{Text}
@@ -28,19 +29,20 @@ Finds rules ready vowels code line before after f r =
 abbrev pub edge_with : Numbers → Text → Edge
 edge_with e w = record { from = e.from; to = e.to; note = e.note; core = e.core; text = w }
 
--- what was answered, where it is there, with its text in the array `b`
-unfoldable pub found : List ℕ → Spanned → Option Edge
-found b r = pick r.there (some (edge_with r.numbers (take r.len b))) none
+-- what was answered, with its text in the array `b`
+abbrev pub found : List ℕ → Option Spanned → math.Option Edge
+found b None = none
+found b (Some r) = some (edge_with r.numbers (take r.len b))
 
 -- An edge is found, that of the definition's `f`, and its text in the array `b` is clean
 abbrev pub FindsEdge : List ℕ → List ℕ → List ℕ → List ℕ → List ℕ → List ℕ → List ℕ → (Tables → Text → View → M Edge) → List ℕ → Spanned → Type 0
 FindsEdge rules ready vowels code line before after f b r =
-    Finds rules ready vowels code line before after f (edge_with r.numbers (take r.len b)) × (r.there ≡ true) × Clean (held b r.len)
+    Finds rules ready vowels code line before after f (edge_with r.numbers (take r.len b)) × Clean (held b r.len)
 
 -- What is left in the array: a clean text where there is an edge, and else what was in it
-pub record Leaves (before after : List ℕ) (r : Spanned) : Type 0 where
-  pub clean : r.there ≡ true → Clean (held after r.len)
-  pub kept : r.there ≡ false → after ≡ before
+abbrev pub Leaves : List ℕ → List ℕ → Option Spanned → Type 0
+Leaves before after None = after ≡ before
+Leaves before after (Some r) = Clean (held after r.len)
 
 -- The expansion with the call's choices, of every world that the lent slices stand for
 abbrev pub Expands : List ℕ → List ℕ → List ℕ → List ℕ → List ℕ → List ℕ → Text → Span → Work → Type 0
@@ -53,7 +55,7 @@ unfoldable pub plus_dropped : Text → Text
 plus_dropped w = pick (fallback_plus w) (tail w) w
 
 -- the bytes of a fallback: a target, or those of the character itself
-unfoldable pub fallback_bytes : Option Text → List ℕ → Text
+unfoldable pub fallback_bytes : math.Option Text → List ℕ → Text
 fallback_bytes o own = maybe o own plus_dropped
 
 -- the annotation of a category that has no letters; none for another

@@ -1,5 +1,5 @@
 -- The edge of a span: one law for each way out, and the bytes of what full search answers.
-use Rattle.std.specs.Prelude.{Bool, true, false, List, [], ◌∷◌, ◌≡◌, refl, ℕ, ◌≤◌, length, take}
+use Rattle.std.specs.Prelude.{Bool, true, false, [], ◌∷◌, ◌≡◌, refl, ℕ, ◌≤◌, length}
 use Rattle.std.proofs.Math.Option.{Option, none, some}
 use Rattle.std.proofs.Math.Path.{sym}
 use Rattle.std.proofs.Common.{ap, ◌∙◌, arith, eq-eqb, ne_eqb}
@@ -15,8 +15,6 @@ use Rattle.definition.specs.Expansion.{Work, work, expand}
 use Rattle.definition.specs.Building.{is_tail, without_plus, grown, as_edge, edge_of, span_edge}
 use Rattle.words.specs.Did.{Did, did, did_by, outcome}
 use Rattle.rule_choice.specs.Chosen.{or_nothing}
-use Rattle.spans.specs.Spans.{edge_with, found}
-use Rattle.spans.specs.declared.Spanned.{Spanned}
 
 -- an edge by its parts
 abbrev pub edge_by : ℕ → ℕ → ℕ → ℕ → Text → Edge
@@ -41,11 +39,6 @@ module _ (tail : Bool) (rom new w : Text) (s e n : ℕ) where
       pub as_plain : tail ≡ false → edge_by s e note_rom 0 w ≡ as_edge tail rom new (work w s e n)
       unfolding as_edge pick
       as_plain b = simp (eq-eqb n note_none a, g, b)
-
--- what was answered, where it is there
-pub found-there : (b : List ℕ) (r : Spanned) → r.there ≡ true → found b r ≡ some (edge_with r.numbers (take r.len b))
-unfolding found pick
-found-there b r e = rw e
 
 -- a text that is there, and none
 there-is : (o : Option Text) → has o ≡ true → o ≡ some (or_nothing o)

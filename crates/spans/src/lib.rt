@@ -21,42 +21,28 @@ ghost use Rattle.spans.specs.Spans.{Finds, edge_with, FindsEdge, found, Leaves, 
 
 use edge::Numbers;
 use rom::Rom;
-use rule_choice::Chosen;
+use rule_choice::Target;
 use steps::Growing;
 use vowel_step::Voiced;
 use words::{Look, Span};
 
-// A plus sign, and the letter n.
-const PLUS: u32 = 43;
-
-const LETTER_N: u32 = 110;
-
-// The edge of a span, where there is one: its text is the first `len` bytes of an array that is lent.
+// The edge of a span: its numbers, and its text, which is the first `len` bytes of an array that is lent.
 #[derive(Clone, Copy)]
 pub struct Spanned {
-    pub there: bool,
     pub numbers: Numbers,
     pub len: usize,
 }
 
 // Is a target a tail: a plus and one byte, or a plus and two of which the first is n?
+#[tactic(auto, unfolding(definition::specs::Building::is_tail, base::specs::Lists::head))]
 fn is_tail(w: &[u8]) -> bool
     ensures { result ≡ is_tail w.now }
 {
-    if base::byte(w, 0) != PLUS {
-        return false;
-    }
-    if w.len() == 2 {
-        return true;
-    }
-    if w.len() == 3 {
-        return base::byte(w, 1) == LETTER_N;
-    }
-    false
+    matches!(w, [b'+', _] | [b'+', b'n', _])
 }
 
 // A text without its first byte.
-fn without_first<'a>(w: &'a [u8]) -> &'a [u8]
+fn without_first(w: &[u8]) -> &[u8]
     requires { 0 < length w.now }
     ensures { result.now ≡ drop 1 w.now }
 {
@@ -64,7 +50,7 @@ fn without_first<'a>(w: &'a [u8]) -> &'a [u8]
 }
 
 // A tail loses its plus.
-fn without_plus<'a>(w: &'a [u8]) -> &'a [u8]
+fn without_plus(w: &[u8]) -> &[u8]
     ensures { result.now ≡ without_plus w.now }
 {
     if is_tail(w) {
@@ -80,35 +66,30 @@ fn as_edge(tail: bool, core: usize, grows: bool, from: usize, to: usize, note: u
     ensures { (rom new text : Text) → grows ≡ grown rom new → core ≡ length rom
         → edge_with result text ≡ as_edge tail rom new (work text from to note) }
 {
-    if note != edge::UNTOUCHED {
-        return Numbers {
-            from,
-            to,
-            note,
-            core: 0,
-        };
-    }
-    if grows {
-        return Numbers {
-            from,
-            to,
-            note: edge::CORE,
-            core: core as u8,
-        };
-    }
-    if tail {
-        return Numbers {
-            from,
-            to,
-            note: edge::TAIL,
-            core: 0,
-        };
-    }
-    Numbers {
+    let numbers = Numbers {
         from,
         to,
-        note: edge::ROM,
+        note,
         core: 0,
+    };
+    if note != edge::UNTOUCHED {
+        numbers
+    } else if grows {
+        Numbers {
+            note: edge::CORE,
+            core: core as u8,
+            ..numbers
+        }
+    } else if tail {
+        Numbers {
+            note: edge::TAIL,
+            ..numbers
+        }
+    } else {
+        Numbers {
+            note: edge::ROM,
+            ..numbers
+        }
     }
 }
 
@@ -147,11 +128,7 @@ fn put_first(room: &mut [u8], bytes: &[u8], n: usize)
     requires { (n ≤ length bytes.now) × (n ≤ length room.old) }
     ensures { room.new ≡ take n bytes.now ++ drop n room.old }
 {
-    let mut i: usize = 0;
-    while i < n {
-        room[i] = bytes[i];
-        i += 1;
-    }
+    room[..n].copy_from_slice(&bytes[..n]);
 }
 
 // A romanization through the expansion, and put into what is lent.
@@ -238,7 +215,6 @@ fn voiceless_edge(
     if plain::is_untouched(words::choices_in(ready), line, w, w.len(), span) {
         lent_bytes::put_text(bytes, w);
         return Spanned {
-            there: true,
             numbers: as_edge(tail, w.len(), false, span.from, span.to, edge::UNTOUCHED),
             len: w.len(),
         };
@@ -254,7 +230,6 @@ fn voiceless_edge(
         bytes,
     );
     Spanned {
-        there: true,
         numbers: as_edge(tail, w.len(), false, x.from, x.to, x.note),
         len: x.len,
     }
@@ -284,7 +259,6 @@ fn edge_of(
     let v = voiced(rules, ready, vowels, code, line, places, w, tail, span);
     let x = put_expanded(rules, ready, code, line, places, v.rom, span, bytes);
     Spanned {
-        there: true,
         numbers: as_edge(tail, w.len(), v.grown, x.from, x.to, x.note),
         len: x.len,
     }
@@ -300,57 +274,41 @@ pub fn put_span_edge(
     places: &mut [u32],
     look: Look,
     bytes: &mut [u8],
-) -> Spanned
+) -> Option<Spanned>
     requires { Prepared rules.now ready.now × FineVowels vowels.now × Looked rules.now line.now look × (bytes.old ≡ replicate most_bytes 0) }
     ensures { Finds rules.now ready.now vowels.now code.now line.now
-        places.old places.new (λ D t v. span_edge D t v look.from look.to) (found bytes.new result)
+        places.old places.new (λ D t v. span_edge D t v look.span.from look.span.to) (found bytes.new result)
         × Leaves bytes.old bytes.new result }
 {
-    let span = Span {
-        from: look.from,
-        to: look.to,
-    };
-    let chosen = syllables::top_romanization_candidate_for_span(
+    let target = syllables::top_romanization_candidate_for_span(
         rules, ready, code, line, places, look,
-    );
-    if rule_choice::is_told(chosen) {
-        let w = rule_choice::chosen_text(rules, chosen);
-        return edge_of(
-            rules,
-            ready,
-            vowels,
-            code,
-            line,
-            places,
-            without_plus(w),
-            is_tail(w),
-            span,
-            bytes,
-        );
-    }
-    Spanned {
-        there: false,
-        numbers: Numbers {
-            from: span.from,
-            to: span.to,
-            note: edge::UNTOUCHED,
-            core: 0,
-        },
-        len: 0,
-    }
+    )?;
+    let w = rule_choice::chosen_text(rules, Some(target));
+    Some(edge_of(
+        rules,
+        ready,
+        vowels,
+        code,
+        line,
+        places,
+        without_plus(w),
+        is_tail(w),
+        look.span,
+        bytes,
+    ))
 }
+
+// A plus sign.
+const PLUS: u32 = 43;
 
 // A fallback's plus is dropped before m, n, g or r.
 fn fallback_plus(w: &[u8]) -> bool
     ensures { result ≡ fallback_plus w.now }
 {
-    if base::byte(w, 0) != PLUS {
-        return false;
-    }
-    rom::is_in(rom::PLUS_BEFORE, base::byte(w, 1))
+    base::byte(w, 0) == PLUS && rom::is_in(rom::PLUS_BEFORE, base::byte(w, 1))
 }
 
-fn plus_dropped<'a>(w: &'a [u8]) -> &'a [u8]
+fn plus_dropped(w: &[u8]) -> &[u8]
     ensures { result.now ≡ plus_dropped w.now }
 {
     if fallback_plus(w) {
@@ -363,34 +321,29 @@ fn plus_dropped<'a>(w: &'a [u8]) -> &'a [u8]
 pub fn fallback_text<'a>(
     rules: &'a [u8],
     text: &'a [u8],
-    chosen: Chosen,
+    chosen: Option<Target>,
     at: usize,
     len: usize,
 ) -> &'a [u8]
     requires { Said rules.now chosen × (at + len ≤ length text.now) }
     ensures { result.now ≡ fallback_bytes (chosen_means rules.now chosen) (take len (drop at text.now)) }
 {
-    if rule_choice::is_told(chosen) {
+    if chosen.is_some() {
         return plus_dropped(rule_choice::chosen_text(rules, chosen));
     }
     lent_bytes::part(text, at, len)
 }
 
 // The annotation of a category whose characters have no letters.
+#[tactic(auto, unfolding(crate::specs::Spans::category_note, base::specs::Pick::pick))]
 pub fn category_note(category: u32) -> u8
     ensures { result ≡ category_note category }
 {
-    if category == table_classes::NONSPACING {
-        return edge::MN;
+    match category {
+        table_classes::NONSPACING => edge::MN,
+        table_classes::FORMAT => edge::CF,
+        table_classes::PRIVATE => edge::CO,
+        table_classes::SEPARATOR => edge::ZS,
+        _ => edge::UNTOUCHED,
     }
-    if category == table_classes::FORMAT {
-        return edge::CF;
-    }
-    if category == table_classes::PRIVATE {
-        return edge::CO;
-    }
-    if category == table_classes::SEPARATOR {
-        return edge::ZS;
-    }
-    edge::UNTOUCHED
 }

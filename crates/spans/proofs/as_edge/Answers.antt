@@ -20,7 +20,7 @@ returns-then-tail c =
     λ rom new w g k.
     by-tail c.args.tail rom new w c.args.from c.args.to c.args.note (omega arith) (sym g ∙ c.if-grows.false) c.if-tail.true
 
-pub returns : goal.returns
-returns c =
+pub returns-else-tail : goal.returns-else-tail
+returns-else-tail c =
     λ rom new w g k.
     as_plain c.args.tail rom new w c.args.from c.args.to c.args.note (omega arith) (sym g ∙ c.if-grows.false) c.if-tail.false

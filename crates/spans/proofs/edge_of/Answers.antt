@@ -38,6 +38,5 @@ returns c =
                 (memory (size u) c.args.places.now) A.did Z.did);
             kept = Z.kept ∙ A.kept;
           },
-      refl,
       c.put_expanded-x.ensures.1,
     )

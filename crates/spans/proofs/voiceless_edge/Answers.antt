@@ -42,7 +42,6 @@ returns-then-is_untouched c =
           (edge-done D u.text (seen u) c.args.tail w w (work w c.args.span.from c.args.span.to note_none) c.args.span.from c.args.span.to m
           (did (ap (λ (f : M Text). f m) (voiceless u lent.text (lexicon D) refl (seen u) c.args.tail w)))
           (did (ap (λ (f : M Work). f m) (U (lexicon D) refl (seen u)))))),
-      refl,
       clean_by w q h,
     )
 
@@ -70,6 +69,5 @@ returns c =
                 (did (ap (λ (f : M Text). f m) (voiceless u lent.text (lexicon D) refl (seen u) c.args.tail w))) Z.did);
             kept = Z.kept;
           },
-      refl,
       c.put_grown-x.ensures.1,
     )
