@@ -1,8 +1,6 @@
 -- `plain::is_voiceless`: no vowel of the script that the line tells.
-use mathlib.Core.Path.{sym, ap, ◌∙◌}
-use Prim.Native.Nat.{◌+◌, ◌≤◌}
-use native.Mathlib.Omega.{arith}
-use lib.ListN.{length}
+use Rattle.std.proofs.Common.{sym, ap, ◌∙◌, ◌+◌, ◌≤◌, arith, length}
+use Rattle.std.proofs.lemmas.Bool.{not-true}
 use Rattle.definition.specs.VowelRows.{vowels_of}
 use Rattle.definition.specs.Vowels.{vowel_row}
 use Rattle.words.specs.Given.{line-size}
@@ -16,4 +14,4 @@ returns c =
     λ e x g.
     let h : c.args.span.from ≤ length x.text + 1 = omega (arith, c.requires.1, c.requires.2, line-size g) in
     let k = script-here g c.args.span.from h c.kind_at.ensures c.script-script.ensures in
-    voiceless x c.args.span.from c.args.span.to vs (ap (vowel_row vs) (sym k) ∙ c.has_vowel.ensures c.if-has_vowel.false)
+    voiceless x c.args.span.from c.args.span.to vs (ap (vowel_row vs) (sym k) ∙ c.has_vowel.ensures (not-true c.has_vowel.result e))
