@@ -34,10 +34,10 @@ module _ (c : Choices) (rs : List Rule) (ks : List Class) (t : Text) (w : Work) 
     no_o_ang e = sym (rw (ne_eqb (at t o) o_ang e))
 
     module _ (e : at t o ≡ o_ang) where
-      pub not_alone : (w.from + 1 ≡ w.to → ⊥) → false ≡ silent c rs ks t v o w
+      pub not_alone : eqb (w.from + 1) w.to ≡ false → false ≡ silent c rs ks t v o w
       unfolding silent
-      not_alone f = sym (rw (eq-eqb (at t o) o_ang e, ne_eqb (w.from + 1) w.to f))
+      not_alone f = sym (rw (eq-eqb (at t o) o_ang e, f))
 
-      pub alone : w.from + 1 ≡ w.to → {b : Bool} → between c rs ks t v w ≡ b → not b ≡ silent c rs ks t v o w
+      pub alone : eqb (w.from + 1) w.to ≡ true → {b : Bool} → between c rs ks t v w ≡ b → not b ≡ silent c rs ks t v o w
       unfolding silent
-      alone f g = sym (rw (eq-eqb (at t o) o_ang e, eq-eqb (w.from + 1) w.to f, g))
+      alone f g = sym (rw (eq-eqb (at t o) o_ang e, f, g))

@@ -16,21 +16,13 @@ ghost use Rattle.o_ang.specs.Sides.{beside};
 
 use steps::Growing;
 use words::Choices;
-
-// U+0E2D, O ang.
-const O_ANG: u32 = 0x0E2D;
-
-// U+0020, the one space that ends the walk back.
-const SPACE: u32 = 0x20;
+use words::characters::{O_ANG, SPACE};
 
 // Is a text one or more of the consonants beside which O ang is spoken?
 fn is_beside(text: &[u8]) -> bool
     ensures { result ≡ beside text.now }
 {
-    if text.len() == 0 {
-        return false;
-    }
-    rom::all_in(text, rom::O_ANG_SIDE)
+    !text.is_empty() && rom::all_in(text, rom::O_ANG_SIDE)
 }
 
 // Is what the first rule of a character says one or more of the consonants beside which O ang is spoken?
@@ -48,23 +40,19 @@ fn is_in_thai(line: &[u32], g: Growing) -> bool
     ensures { (x : World) → Lined x line.now
         → result ≡ (eqb (script (kinds x) (prev x.text g.from)) script_thai && eqb (script (kinds x) (at x.text g.to)) script_thai) }
 {
-    if table_classes::script(words::kind_at(line, g.from)) == table_classes::THAI {
-        return table_classes::script(words::kind_at(line, g.to + 1)) == table_classes::THAI;
-    }
-    false
+    table_classes::script(words::kind_at(line, g.from)) == table_classes::THAI
+        && table_classes::script(words::kind_at(line, g.to + 1)) == table_classes::THAI
 }
 
-// Does a space stand among the characters from `from` up to `to`?
+// Does a space, which ends the walk back, stand among the characters from `from` up to `to`?
 fn has_space(line: &[u32], from: usize, to: usize) -> bool
     requires { to ≤ size_in line.now }
     ensures { (x : World) → Lined x line.now → result ≡ ltb from (stretch_start x.text to) }
 {
-    let mut i = to;
-    while from < i {
-        if words::number_at(line, i) == SPACE {
+    for i in (from..to).rev() {
+        if words::number_at(line, i + 1) == SPACE {
             return true;
         }
-        i -= 1;
     }
     false
 }
@@ -74,10 +62,7 @@ fn ends_between(choices: Choices, line: &[u32], from: usize, to: usize) -> bool
     requires { to ≤ size_in line.now }
     ensures { (x : World) → Lined x line.now → result ≡ ltb from (walk_start (choices_of choices) x.text to) }
 {
-    if choices.o_ang == 1 {
-        return has_space(line, from, to);
-    }
-    false
+    choices.o_ang == 1 && has_space(line, from, to)
 }
 
 // `find_rom_edge_path_backwards_str`, as far as it is asked: does the nearest text to the left of `p` that is not empty, as far
@@ -89,6 +74,7 @@ fn is_after_side(choices: Choices, line: &[u32], places: &[u32], p: usize) -> bo
 {
     let mut at = p;
     let mut clear = p;
+    // A `while`: each turn goes back by as much as places tell, and no range or chain steps so.
     while 0 < at {
         if ends_between(choices, line, at - 1, clear) {
             return false;
@@ -116,13 +102,9 @@ fn is_between(
     ensures { (x : World) (w : Text) → Lent x line.now places.now
         → result ≡ between (choices_of choices) (rules_of rules.now) (kinds x) x.text (seen x) (work w g.from g.to g.note) }
 {
-    if is_in_thai(line, g) {
-        if is_after_side(choices, line, places, g.from) {
-            return starts_beside(rules, ready, words::number_at(line, g.to + 1));
-        }
-        return false;
-    }
-    false
+    is_in_thai(line, g)
+        && is_after_side(choices, line, places, g.from)
+        && starts_beside(rules, ready, words::number_at(line, g.to + 1))
 }
 
 // O ang alone is silent unless it stands between Thai consonants.
@@ -139,14 +121,7 @@ pub fn is_silent(
     ensures { (x : World) (w : Text) → Lent x line.now places.now
         → result ≡ silent (choices_of choices) (rules_of rules.now) (kinds x) x.text (seen x) o (work w g.from g.to g.note) }
 {
-    if words::number_at(line, o + 1) == O_ANG {
-        if g.from + 1 == g.to {
-            if is_between(choices, rules, ready, line, places, g) {
-                return false;
-            }
-            return true;
-        }
-        return false;
-    }
-    false
+    words::number_at(line, o + 1) == O_ANG
+        && g.from + 1 == g.to
+        && !is_between(choices, rules, ready, line, places, g)
 }

@@ -13,10 +13,8 @@ ghost use Rattle.rule_choice.specs.Lent.{Answers};
 ghost use Rattle.rule_choice.specs.Chosen.{chosen_means, Said};
 
 use rule_choice::Target;
+use words::characters::O_ANG;
 use words::{Look, Span};
-
-// U+0E2D, O ang.
-const O_ANG: u32 = 0x0E2D;
 
 // Does a text start with a vowel, large or small?
 fn starts_with_vowel(text: &[u8]) -> bool

@@ -19,8 +19,8 @@ returns-then-script-eq-THAI c =
     ap (λ (k : ℕ). eqb k script_thai) (script-here h c.args.g.to (omega arith) c.kind_at-then-script-eq-THAI.ensures c.script-then-script-eq-THAI.ensures)
     ∙ sym (rw (eq-eqb (script (kinds x) (prev x.text c.args.g.from)) script_thai before))
 
-pub returns : goal.returns
-returns c =
+pub returns-else-script-eq-THAI : goal.returns-else-script-eq-THAI
+returns-else-script-eq-THAI c =
     λ x h. let z = line-size h in
     let d = script-prev h c.args.g.from (omega arith) c.kind_at.ensures c.script.ensures in
-    sym (rw (ne_eqb (script (kinds x) (prev x.text c.args.g.from)) script_thai (λ e. omega (arith, e, d))))
+    ne_eqb _ _ c.if-script-eq-THAI.false ∙ sym (rw (ne_eqb (script (kinds x) (prev x.text c.args.g.from)) script_thai (λ e. omega (arith, e, d))))
