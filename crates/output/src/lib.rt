@@ -10,7 +10,8 @@ ghost use Rattle.output.specs.Whole.{Whole, RowsPut, ShownPut};
 
 use alternatives::Listed;
 
-// What is shown of a lattice: its mode; and how many edges it has, and how much text room they take.
+// What is shown of a lattice: its mode, a number as the C interface has it; and how many edges it has, and how much text room
+// they take.
 #[derive(Clone, Copy)]
 pub struct Built {
     pub mode: u8,
@@ -53,14 +54,14 @@ fn put_rows(
 }
 
 // The header in front of rows that end at `end`, where all of it fits.
+#[tactic(auto, unfolding(base::specs::Pick::pick))]
 fn put_head(out: &mut [u8], end: usize)
     requires { 5 ≤ end }
     ensures { out.new ≡ pick (leb end (length out.old)) (put_at 0 (1 ∷ four (end - 5)) out.old) out.old }
 {
-    if out.len() < end {
-        return;
+    if end <= out.len() {
+        listing::put_header(out, end - 5);
     }
-    listing::put_header(out, end - 5);
 }
 
 // What a mode shows: how many bytes that are, and they are written where they fit. The text room is free afterwards:
