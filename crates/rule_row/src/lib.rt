@@ -76,25 +76,14 @@ pub fn codes_count(rules: &[u8], row: usize) -> usize
 fn both_end(rules: &[u8], a: usize, b: usize) -> usize
     ensures { Ends (drop a rules.now) (drop b rules.now) result × (result < 772) }
 {
-    let first = codes_at(rules, a);
-    let other = codes_at(rules, b);
-    if first <= other {
-        return first;
-    }
-    other
+    codes_at(rules, a).min(codes_at(rules, b))
 }
 
 // Whether the table reaches past offset `o` of a row.
 fn reaches(rules: &[u8], row: usize, o: usize) -> bool
     ensures { result ≡ ltb (row + o) (length rules.now) }
 {
-    if rules.len() <= row {
-        return false;
-    }
-    if o < rules.len() - row {
-        return true;
-    }
-    false
+    row < rules.len() && o < rules.len() - row
 }
 
 // Four bytes of a row as one number, the last the highest: to tell whether they are alike, a compiler compares words as they
@@ -114,12 +103,9 @@ fn past_alike(rules: &[u8], a: usize, b: usize, end: usize) -> usize
     ensures { Level (drop a rules.now) (drop b rules.now) result × (result ≤ end) }
 {
     let mut o = 6;
-    while o < end {
-        if word(rules, a, o) == word(rules, b, o) {
-            o += 3;
-        } else {
-            return o;
-        }
+    // the place where it stops is the answer, so no `for` over places is plainer
+    while o < end && word(rules, a, o) == word(rules, b, o) {
+        o += 3;
     }
     o
 }
@@ -132,6 +118,7 @@ fn rest_rises(rules: &[u8], a: usize, b: usize, from: usize, end: usize) -> bool
     ensures { result ≡ rises (rule_source (drop a rules.now)) (rule_source (drop b rules.now)) }
 {
     let mut o = from;
+    // places three bytes apart: a `for` with `step_by` would need its own proof that it ends, and would be no shorter
     while o < end {
         let x = base::three(rules, a, o);
         let y = base::three(rules, b, o);
@@ -153,11 +140,9 @@ pub fn sources_rise(rules: &[u8], a: usize, b: usize) -> bool
     ensures { result ≡ rises (rule_source (drop a rules.now)) (rule_source (drop b rules.now)) }
 {
     let end = both_end(rules, a, b);
-    if reaches(rules, a, end) {
-        if reaches(rules, b, end) {
-            let from = past_alike(rules, a, b, end);
-            return rest_rises(rules, a, b, from, end);
-        }
+    if reaches(rules, a, end) && reaches(rules, b, end) {
+        let from = past_alike(rules, a, b, end);
+        return rest_rises(rules, a, b, from, end);
     }
     rest_rises(rules, a, b, 6, end)
 }
@@ -175,9 +160,10 @@ fn past_text(rules: &[u8], row: usize, o: usize, there: bool) -> usize
     ensures { (result ≡ past_text there o (drop row rules.now)) × (result ≤ o + 256) }
 {
     if there {
-        return o + (1 + base::at(rules, row, o) as usize);
+        o + (1 + base::at(rules, row, o) as usize)
+    } else {
+        o
     }
-    o
 }
 
 pub fn end_target_at(rules: &[u8], row: usize) -> usize
@@ -241,10 +227,8 @@ fn other_at(rules: &[u8], row: usize, k: usize) -> usize
     ensures { result ≡ other_at (drop row rules.now) k }
 {
     let mut o = others_at(rules, row) + 1;
-    let mut left = k;
-    while 0 < left {
+    for _turn in 0..k {
         o += 1 + base::at(rules, row, o) as usize;
-        left -= 1;
     }
     o
 }

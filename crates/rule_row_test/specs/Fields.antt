@@ -23,7 +23,7 @@ use Rattle.definition.specs.Checked.{RuleChecked, rule-checked}
 use Rattle.definition.specs.Places.{Placed, rule_placed}
 use Rattle.table_blocks.specs.Held.{held}
 use Rattle.definition.specs.There.{three-there, byte_there}
-use Rattle.rule_row_test.specs.Texts.{Walked}
+use Rattle.rule_row_test.specs.Texts.{Passed, Refused}
 
 -- yes to something of a row, or the row is not right
 pub record Told (P : Type 0) (s : List ℕ) (r : Bool) : Type 0 where
@@ -120,65 +120,62 @@ module _ (b : List ℕ) (row target end : ℕ) (low : get_or (drop row b) 2 0 < 
       ap (texts_right (both x)) (here b row (target_at S) target e)
       ∙ ap (λ i. texts_right (both i) (drop (target_at S) S)) f ∙ targets S low
 
-  module _ (others : ℕ) (w : Walked b end (both x) target others) where
-    pub targets_wrong : others ≡ 0 → Told (Tail (drop row b)) (drop row b) false
-    targets_wrong i = told_no S (λ c p.
-        let k = p.others in
-        let y : (target_right S && end_target_right S) ≡ true = rw (c.target, c.end_target) refl in
-        sym (targets_right ∙ y) ∙ w.wrong i (omega (arith, targets_size)))
+  pub targets_wrong : Refused b end (both x) target → Told (Tail (drop row b)) (drop row b) false
+  targets_wrong w = told_no S (λ c p.
+      let k = p.others in
+      let y : (target_right S && end_target_right S) ≡ true = rw (c.target, c.end_target) refl in
+      sym (targets_right ∙ y) ∙ w.wrong (omega (arith, targets_size)))
 
-    module _ (h : 0 < others) where
-      others-place : others ≡ row + others_at S
-      others-place = w.ends h ∙ targets_size
+  module _ (others : ℕ) (w : Passed b end (both x) target others) where
+    others-place : others ≡ row + others_at S
+    others-place = w.ends ∙ targets_size
 
-      pub no_count : end ≤ others → Told (Tail (drop row b)) (drop row b) false
-      no_count l = told_no S (λ c p. let k = p.others in absurd (omega (arith, others-place)))
+    pub no_count : end ≤ others → Told (Tail (drop row b)) (drop row b) false
+    no_count l = told_no S (λ c p. let k = p.others in absurd (omega (arith, others-place)))
 
-      module _ (n : ℕ) (g : n ≡ get_or (drop others b) 0 0) where
-        count-is : n ≡ get_or S (others_at S) 0
-        count-is = g ∙ byte_here b row (others_at S) others others-place
+    module _ (n : ℕ) (g : n ≡ get_or (drop others b) 0 0) where
+      count-is : n ≡ get_or S (others_at S) 0
+      count-is = g ∙ byte_here b row (others_at S) others others-place
 
-        pub too_many : most_alternatives < n → Told (Tail (drop row b)) (drop row b) false
+      pub too_many : most_alternatives < n → Told (Tail (drop row b)) (drop row b) false
+      unfolding others_right
+      too_many l = told_no S (λ c p.
+          let k = leb-true (get_or S (others_at S) 0) most_alternatives (and_left _ _ c.others) in
+          absurd (omega (arith, count-is)))
+
+      module _ (from : ℕ) (q : from ≡ others + 1) where
+        others-here : drop from b ≡ drop (others_at S + 1) S
+        others-here = here b row (others_at S + 1) from (omega (arith, others-place))
+
+        others-size : from + texts_size n (drop from b) ≡ row + others_end (others_at S) S
+        unfolding others_end
+        others-size =
+            let d = ap (texts_size n) others-here in
+            let m = ap (λ i. texts_size i (drop (others_at S + 1) S)) count-is in
+            omega (arith, d, m, others-place)
+
+        others-is : texts_right n (drop from b) ≡ texts_right (get_or S (others_at S) 0) (drop (others_at S + 1) S)
+        others-is = ap (texts_right n) others-here ∙ ap (λ i. texts_right i (drop (others_at S + 1) S)) count-is
+
+        pub others-wrong : Refused b end n from → Told (Tail (drop row b)) (drop row b) false
         unfolding others_right
-        too_many l = told_no S (λ c p.
-            let k = leb-true (get_or S (others_at S) 0) most_alternatives (and_left _ _ c.others) in
-            absurd (omega (arith, count-is)))
+        others-wrong v = told_no S (λ c p.
+            sym (others-is ∙ and_right (leb (get_or S (others_at S) 0) most_alternatives) _ c.others)
+            ∙ v.wrong (omega (arith, others-size, c.filled)))
 
-        module _ (from : ℕ) (q : from ≡ others + 1) where
-          others-here : drop from b ≡ drop (others_at S + 1) S
-          others-here = here b row (others_at S + 1) from (omega (arith, others-place))
-
-          others-size : from + texts_size n (drop from b) ≡ row + others_end (others_at S) S
-          unfolding others_end
-          others-size =
-              let d = ap (texts_size n) others-here in
-              let m = ap (λ i. texts_size i (drop (others_at S + 1) S)) count-is in
-              omega (arith, d, m, others-place)
-
-          others-is : texts_right n (drop from b) ≡ texts_right (get_or S (others_at S) 0) (drop (others_at S + 1) S)
-          others-is = ap (texts_right n) others-here ∙ ap (λ i. texts_right i (drop (others_at S + 1) S)) count-is
-
-          pub others-told : n ≤ most_alternatives → 0 < end → (r : ℕ) → Walked b end n from r → Told (Tail (drop row b)) (drop row b) (eqb r end)
-          unfolding others_right
-          others-told l y r v = record {
-            yes = λ t.
-                let i = eqb-true r end t in
-                let j : 0 < r = omega arith in
-                record {
-                  filled = omega (arith, v.ends j, others-size);
-                  target = and_left _ _ (sym targets_right ∙ w.right h);
-                  end_target = and_right (target_right S) _ (sym targets_right ∙ w.right h);
-                  others = rw (le-leb (get_or S (others_at S) 0) most_alternatives (omega (arith, count-is))) (sym others-is ∙ v.right j);
-                };
-            no = λ t. refuted S (λ c p. by_place r
-                (λ i. sym (others-is ∙ and_right (leb (get_or S (others_at S) 0) most_alternatives) _ c.others)
-                ∙ v.wrong i (omega (arith, others-size, c.filled)))
-                (λ j. sym (eq-eqb r end (omega (arith, v.ends j, others-size, c.filled))) ∙ t));
-          }
-            where
-              by_place : (r : ℕ) → (r ≡ 0 → true ≡ false) → (0 < r → true ≡ false) → true ≡ false
-              by_place zero f g = f refl
-              by_place (suc r) f g = g (omega arith)
+        pub others-told : n ≤ most_alternatives → (r : ℕ) → Passed b end n from r → Told (Tail (drop row b)) (drop row b) (eqb r end)
+        unfolding others_right
+        others-told l r v = record {
+          yes = λ t.
+              let i = eqb-true r end t in
+              record {
+                filled = omega (arith, v.ends, others-size);
+                target = and_left _ _ (sym targets_right ∙ w.right);
+                end_target = and_right (target_right S) _ (sym targets_right ∙ w.right);
+                others = rw (le-leb (get_or S (others_at S) 0) most_alternatives (omega (arith, count-is))) (sym others-is ∙ v.right);
+              };
+          no = λ t. refuted S (λ c p. sym (eq-eqb r end (omega (arith, v.ends, others-size, c.filled))) ∙ t);
+        }
 
 -- Its codes: `n` of them, their count at `codes`
 module _ (b : List ℕ) (row codes end : ℕ) (e : codes ≡ row + codes_at (drop row b)) (z : end ≡ row + rule_size (drop row b))

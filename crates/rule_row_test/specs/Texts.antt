@@ -1,6 +1,6 @@
--- Texts one after another, from a place on: where they end, or 0 where they are not right or reach too far.
+-- Texts one after another, from a place on: where they end, or none where they are not right or reach too far.
 use Prim.Native.Nat.{ℕ, zero, suc, ◌+◌, ◌-◌, ◌≤◌, ◌<◌}
-use Rattle.std.specs.Prelude.{Bool, true, false, List, ◌≡◌, take}
+use Rattle.std.specs.Prelude.{Bool, true, false, List, ◌≡◌, take, Option, Some, None}
 use Rattle.std.proofs.Math.Path.{refl, sym, ap, subst}
 use Rattle.std.proofs.Common.{◌∙◌, drop-drop, le-leb}
 use native.Mathlib.Omega.{arith}
@@ -10,20 +10,32 @@ use Rattle.base.specs.Lists.{all}
 use Rattle.definition.specs.Limits.{most_target}
 use Rattle.definition.specs.RuleRows.{printable, text_size, text_of, text_right, texts_size, texts_right}
 
-pub record Walked (b : List ℕ) (end count from r : ℕ) : Type 0 where
-  pub ends : 0 < r → r ≡ from + texts_size count (drop from b)
-  pub inside : 0 < r → r ≤ end
-  pub right : 0 < r → texts_right count (drop from b) ≡ true
-  pub wrong : r ≡ 0 → from + texts_size count (drop from b) ≤ end → texts_right count (drop from b) ≡ false
+-- they are right and end at `r`, not past `end`
+pub record Passed (b : List ℕ) (end count from r : ℕ) : Type 0 where
+  pub ends : r ≡ from + texts_size count (drop from b)
+  pub inside : r ≤ end
+  pub right : texts_right count (drop from b) ≡ true
+
+-- or one is not right, where they do not reach past `end`
+pub record Refused (b : List ℕ) (end count from : ℕ) : Type 0 where
+  pub wrong : from + texts_size count (drop from b) ≤ end → texts_right count (drop from b) ≡ false
+
+abbrev pub Walked : List ℕ → ℕ → ℕ → ℕ → Option ℕ → Type 0
+Walked b end count from (Some r) = Passed b end count from r
+Walked b end count from None = Refused b end count from
+
+pub begun : (b : List ℕ) (end count from : ℕ) (r : Option ℕ) → Walked b end (count - 0) from r → Walked b end count from r
+begun b end count from r w =
+    let e : count - 0 ≡ count = omega arith in
+    subst (λ i. Walked b end i from r) e w
 
 module _ (b : List ℕ) (end at : ℕ) where
-  pub none_left : (left : ℕ) → 0 < at → at ≤ end → left ≡ 0 → Walked b end left at at
+  pub none_left : (left : ℕ) → at ≤ end → left ≡ 0 → Walked b end left at (Some at)
   unfolding texts_size texts_right
-  none_left left h k e = record {
-    ends = λ z. rw e (omega arith);
-    inside = λ z. k;
-    right = λ z. rw e refl;
-    wrong = λ z. absurd (omega arith);
+  none_left left k e = record {
+    ends = rw e (omega arith);
+    inside = k;
+    right = rw e refl;
   }
 
   -- a first text that reaches too far, and one that is not right
@@ -38,44 +50,33 @@ module _ (b : List ℕ) (end at : ℕ) where
   not_right (suc n) h e = rw e refl
 
   passed : (to : ℕ) → to ≡ at + text_size (drop at b) → drop (text_size (drop at b)) (drop at b) ≡ drop to b
-      → text_right (drop at b) ≡ true → (n : ℕ) → 0 < n → (r : ℕ) → Walked b end (n - 1) to r → Walked b end n at r
+      → text_right (drop at b) ≡ true → (n : ℕ) (r : Option ℕ) → Walked b end n to r → Walked b end (suc n) at r
   unfolding texts_size texts_right
-  passed to f d p zero h r w = absurd (omega arith)
-  passed to f d p (suc n) h r w =
-      let e : suc n - 1 ≡ n = omega arith in
-      let v : Walked b end n to r = subst (λ i. Walked b end i to r) e w in record {
-        ends = λ z. let q = v.ends z in rw d (omega arith);
-        inside = v.inside;
-        right = λ z. rw (p, d) (v.right z);
-        wrong = λ z k. rw (p, d) (v.wrong z (let l = rw d at k in omega arith));
-      }
+  passed to f d p n (Some r) w = record {
+    ends = let q = w.ends in rw d (omega arith);
+    inside = w.inside;
+    right = rw (p, d) w.right;
+  }
+  passed to f d p n None w = record {
+    wrong = λ k. rw (p, d) (w.wrong (let l = rw d at k in omega arith));
+  }
 
   module _ (left : ℕ) (h : 0 < left) where
-    pub far : end < at + text_size (drop at b) → Walked b end left at 0
-    far l = record {
-      ends = λ z. absurd (omega arith);
-      inside = λ z. absurd (omega arith);
-      right = λ z. absurd (omega arith);
-      wrong = λ z k. absurd (omega (arith, too_far left h l));
-    }
+    pub far : end < at + text_size (drop at b) → Walked b end left at None
+    far l = record { wrong = λ k. absurd (omega (arith, too_far left h l)) }
 
-    bad : text_right (drop at b) ≡ false → Walked b end left at 0
-    bad e = record {
-      ends = λ z. absurd (omega arith);
-      inside = λ z. absurd (omega arith);
-      right = λ z. absurd (omega arith);
-      wrong = λ z k. not_right left h e;
-    }
+    bad : text_right (drop at b) ≡ false → Walked b end left at None
+    bad e = record { wrong = λ k. not_right left h e }
 
-    pub past_end : end ≤ at → Walked b end left at 0
+    pub past_end : end ≤ at → Walked b end left at None
     past_end l = far (unfold text_size in omega arith)
 
     module _ (n : ℕ) (e : n ≡ get_or (drop at b) 0 0) where
-      pub too_long : most_target < n → Walked b end left at 0
+      pub too_long : most_target < n → Walked b end left at None
       too_long l = bad (unfold text_right in rw (lt-leb (get_or (drop at b) 0 0) most_target (omega arith)) refl)
 
       module _ (to : ℕ) (f : to ≡ at + 1 + n) where
-        pub past_text : end < to → Walked b end left at 0
+        pub past_text : end < to → Walked b end left at None
         past_text l = far (unfold text_size in omega arith)
 
         module _ (m : n ≤ most_target) (x : Bool) (g : x ≡ all printable (take (to - (at + 1)) (drop (at + 1) b))) where
@@ -87,11 +88,12 @@ module _ (b : List ℕ) (end at : ℕ) where
               (ap (λ l. all printable (take (get_or (drop at b) 0 0) l)) (drop-drop 1 at b)
               ∙ ap (λ i. all printable (take i (drop (at + 1) b))) (sym d) ∙ sym g)
 
-          pub unprintable : x ≡ false → Walked b end left at 0
+          pub unprintable : x ≡ false → Walked b end left at None
           unprintable i = bad (right_is ∙ i)
 
-          pub text-passed : x ≡ true → (r : ℕ) → Walked b end (left - 1) to r → Walked b end left at r
+          pub text-passed : x ≡ true → (next : ℕ) → left ≡ suc next → (r : Option ℕ) → Walked b end next to r → Walked b end left at r
           unfolding text_size
-          text-passed i r w =
+          text-passed i next one r w =
               let d : at + (1 + get_or (drop at b) 0 0) ≡ to = omega arith in
-              passed to (omega arith) (drop-drop (1 + get_or (drop at b) 0 0) at b ∙ ap (λ j. drop j b) d) (right_is ∙ i) left h r w
+              subst (λ i. Walked b end i at r) (sym one)
+              (passed to (omega arith) (drop-drop (1 + get_or (drop at b) 0 0) at b ∙ ap (λ j. drop j b) d) (right_is ∙ i) next r w)

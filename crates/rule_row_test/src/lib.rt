@@ -25,15 +25,9 @@ pub fn all_printable(s: &[u8], from: usize, to: usize) -> bool
     requires { (from ≤ to) × (to ≤ length s.now) }
     ensures { result ≡ all printable (take (to - from) (drop from s.now)) }
 {
-    let mut at = from;
-    while at < to {
-        if rule_row_faults::printable(base::byte(s, at)) {
-            at += 1;
-        } else {
-            return false;
-        }
-    }
-    true
+    s[from..to]
+        .iter()
+        .all(|b| rule_row_faults::printable(*b as u32))
 }
 
 // Whether all numbers of three bytes from a place to another are scalar values.
@@ -42,12 +36,12 @@ fn all_scalar(s: &[u8], from: usize, to: usize) -> bool
     ensures { result ≡ all scalar (counted three_at 3 ((to - from) / 3) (drop from s.now)) }
 {
     let mut at = from;
+    // places three bytes apart: a `for` with `step_by` would need its own proof that it ends, and would be no shorter
     while at < to {
-        if table_blocks::scalar(base::three_there(s, at, 0)) {
-            at += 3;
-        } else {
+        if !table_blocks::scalar(base::three_there(s, at, 0)) {
             return false;
         }
+        at += 3;
     }
     true
 }
@@ -58,43 +52,40 @@ fn all_codes(s: &[u8], from: usize, to: usize) -> bool
     ensures { result ≡ all (all small) (counted code_of 3 ((to - from) / 3) (drop from s.now)) }
 {
     let mut at = from;
+    // places three bytes apart: a `for` with `step_by` would need its own proof that it ends, and would be no shorter
     while at < to {
-        if rule_row_faults::code_letters(s, at, 0) {
-            at += 3;
-        } else {
+        if !rule_row_faults::code_letters(s, at, 0) {
             return false;
         }
+        at += 3;
     }
     true
 }
 
-// Past as many texts from a place on, or 0 where one of them is not right or reaches past `end`.
-fn past_texts(s: &[u8], from: usize, end: usize, count: u32) -> usize
-    requires { (0 < from) × (from ≤ end) × (end ≤ length s.now) }
+// Past as many texts from a place on, or none where one of them is not right or reaches past `end`.
+fn past_texts(s: &[u8], from: usize, end: usize, count: u32) -> Option<usize>
+    requires { (from ≤ end) × (end ≤ length s.now) }
     ensures { Walked s.now end count from result }
 {
     let mut at = from;
-    let mut left = count;
-    while 0 < left {
+    for _turn in 0..count {
         if end <= at {
-            return 0;
+            return None;
         }
         let n = base::at_there(s, at, 0);
         if rule_row_faults::MOST_TARGET < n {
-            return 0;
+            return None;
         }
         let to = at + 1 + n as usize;
         if end < to {
-            return 0;
+            return None;
         }
-        if all_printable(s, at + 1, to) {
-            at = to;
-            left -= 1;
-        } else {
-            return 0;
+        if !all_printable(s, at + 1, to) {
+            return None;
         }
+        at = to;
     }
-    at
+    Some(at)
 }
 
 // Whether the texts of a row are right and end where it does: its targets, then its alternatives.
@@ -105,10 +96,9 @@ fn texts_right(s: &[u8], row: usize, target: usize, end: usize) -> bool
     ensures { Told (Tail (drop row s.now)) (drop row s.now) result }
 {
     let flags = base::at_there(s, row, 2);
-    let others = past_texts(s, target, end, flags / 32 % 2 + flags / 64);
-    if others == 0 {
+    let Some(others) = past_texts(s, target, end, flags / 32 % 2 + flags / 64) else {
         return false;
-    }
+    };
     if end <= others {
         return false;
     }
@@ -116,7 +106,10 @@ fn texts_right(s: &[u8], row: usize, target: usize, end: usize) -> bool
     if rule_row_faults::MOST_ALTERNATIVES < count {
         return false;
     }
-    past_texts(s, others + 1, end, count) == end
+    let Some(past) = past_texts(s, others + 1, end, count) else {
+        return false;
+    };
+    past == end
 }
 
 // Whether the language codes of a row are right, and its texts.
@@ -133,10 +126,7 @@ fn codes_right(s: &[u8], row: usize, codes: usize, end: usize) -> bool
     if end <= target {
         return false;
     }
-    if all_codes(s, codes + 1, target) {
-        return texts_right(s, row, target, end);
-    }
-    false
+    all_codes(s, codes + 1, target) && texts_right(s, row, target, end)
 }
 
 // Where the characters of a source begin that are still to be asked: past the first where it lies below the surrogates.
@@ -145,9 +135,10 @@ fn asked_from(s: &[u8], row: usize) -> usize
     ensures { Asked (drop row s.now) row result }
 {
     if base::three_there(s, row, 6) < 0xD800 {
-        return row + 9;
+        row + 9
+    } else {
+        row + 6
     }
-    row + 6
 }
 
 // Whether all fields of the row at `row` are right, wherever its source stands in order.
@@ -178,8 +169,5 @@ pub fn fields_right(s: &[u8], row: usize) -> bool
     if end <= codes {
         return false;
     }
-    if all_scalar(s, asked_from(s, row), codes) {
-        return codes_right(s, row, codes, end);
-    }
-    false
+    all_scalar(s, asked_from(s, row), codes) && codes_right(s, row, codes, end)
 }

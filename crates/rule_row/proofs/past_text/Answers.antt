@@ -13,8 +13,8 @@ returns-then-there c =
     let e = ap (λ b. past_text b t.o s) (sym c.if-there.true) in
     (past_one s t.o _ c.at.ensures.0 ∙ e, omega arith)
 
-pub returns : goal.returns
-returns c =
+pub returns-else-there : goal.returns-else-there
+returns-else-there c =
     let t = c.args in
     let s = drop t.row t.rules.now in
     (past-none s t.o ∙ ap (λ b. past_text b t.o s) (sym c.if-there.false), omega arith)

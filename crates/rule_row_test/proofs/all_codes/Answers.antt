@@ -14,16 +14,16 @@ loop-at-preserved c =
     let l = c in
     let a = l.args in (
       omega arith,
-      threes-next code_of (all small) ((l.args.s.now)) l.loop-at.at a.to (omega arith) l.loop-at.invariant.0 (sym c.if-code_letters.true ∙ c.code_letters.ensures)
+      threes-next code_of (all small) ((l.args.s.now)) l.loop-at.at a.to (omega arith) l.loop-at.invariant.0 (sym c.if-not-code_letters.false ∙ c.code_letters.ensures)
           ∙ l.loop-at.invariant.1,
     )
 
-pub returns-else-code_letters : goal.returns-else-code_letters
+pub returns-then-not-code_letters : goal.returns-then-not-code_letters
 unfolding code_small
-returns-else-code_letters c =
+returns-then-not-code_letters c =
     let l = c in
     let a = l.args in
-    threes-other code_of (all small) ((l.args.s.now)) l.loop-at.at a.to (omega arith) l.loop-at.invariant.0 (sym c.if-code_letters.false ∙ c.code_letters.ensures)
+    threes-other code_of (all small) ((l.args.s.now)) l.loop-at.at a.to (omega arith) l.loop-at.invariant.0 (sym c.if-not-code_letters.true ∙ c.code_letters.ensures)
     ∙ l.loop-at.invariant.1
 
 pub returns : goal.returns

@@ -13,17 +13,17 @@ loop-at-preserved c =
     let a = l.args in (
       omega arith,
       threes-next three_at scalar ((l.args.s.now)) l.loop-at.at a.to (omega arith) l.loop-at.invariant.0
-          (sym c.if-scalar.true ∙ c.scalar.ensures ∙ ap scalar c.three_there.ensures.0)
+          (sym c.if-not-scalar.false ∙ c.scalar.ensures ∙ ap scalar c.three_there.ensures.0)
           ∙ l.loop-at.invariant.1,
     )
 
-pub returns-else-scalar : goal.returns-else-scalar
+pub returns-then-not-scalar : goal.returns-then-not-scalar
 unfolding three_at
-returns-else-scalar c =
+returns-then-not-scalar c =
     let l = c in
     let a = l.args in
     threes-other three_at scalar ((l.args.s.now)) l.loop-at.at a.to (omega arith) l.loop-at.invariant.0
-    (sym c.if-scalar.false ∙ c.scalar.ensures ∙ ap scalar c.three_there.ensures.0)
+    (sym c.if-not-scalar.true ∙ c.scalar.ensures ∙ ap scalar c.three_there.ensures.0)
     ∙ l.loop-at.invariant.1
 
 pub returns : goal.returns

@@ -35,10 +35,11 @@ returns-then-all_codes c =
     codes-told a.s.now a.row a.codes a.end q.0 q.1 _ t.at_there-count.ensures.0
     _ refl _ refl _ y.all_codes.ensures (omega arith) c.if-all_codes.true _ c.texts_right.ensures
 
-pub returns : goal.returns
-returns c =
+pub returns-else-all_codes : goal.returns-else-all_codes
+returns-else-all_codes c =
     let y = c in
     let t = y in
     let a = t.args in
     let q = t.requires in
-    wrong-codes a.s.now a.row a.codes a.end q.0 q.1 _ t.at_there-count.ensures.0 _ refl _ refl _ y.all_codes.ensures c.if-all_codes.false
+    rw c.if-all_codes.false
+    (wrong-codes a.s.now a.row a.codes a.end q.0 q.1 _ t.at_there-count.ensures.0 _ refl _ refl _ y.all_codes.ensures c.if-all_codes.false)

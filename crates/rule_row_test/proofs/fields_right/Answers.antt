@@ -64,9 +64,10 @@ returns-then-all_scalar c =
     row_told q.args.s.now q.args.row _ k.at_there-count.ensures.0 (omega arith) _ refl _ y.asked_from.ensures _ y.all_scalar.ensures c.if-all_scalar.true
     (omega arith) (omega (arith, z.size_there-size.ensures.0, length-drop q.args.row q.args.s.now)) (omega (arith, h.at_there.ensures.0)) _ c.codes_right.ensures
 
-pub returns : goal.returns
-returns c =
+pub returns-else-all_scalar : goal.returns-else-all_scalar
+returns-else-all_scalar c =
     let y = c in
     let k = y in
     let q = k in
-    wrong-source q.args.s.now q.args.row _ k.at_there-count.ensures.0 (omega arith) _ refl _ y.asked_from.ensures _ y.all_scalar.ensures c.if-all_scalar.false
+    rw c.if-all_scalar.false
+    (wrong-source q.args.s.now q.args.row _ k.at_there-count.ensures.0 (omega arith) _ refl _ y.asked_from.ensures _ y.all_scalar.ensures c.if-all_scalar.false)
