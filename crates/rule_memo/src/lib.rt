@@ -57,29 +57,21 @@ pub fn look_up(rules: &[u8], index: &[u32], w: &[u32]) -> Found
 }
 
 // Is there room for all that is to be kept of a character?
+#[tactic(auto, unfolding(crate::specs::Kept::fits))]
 fn fits(c: u32, found: Found) -> bool
     ensures { result ≡ fits c found }
 {
-    if MORE * CHARACTERS <= c {
-        return false;
-    }
-    if COUNTS <= found.count {
-        return false;
-    }
-    found.first < OFFSETS
+    c < MORE * CHARACTERS && found.count < COUNTS && found.first < OFFSETS
 }
 
 // The note of a character.
-#[tactic(auto, using(crate::proofs::Notes::note_longer, crate::proofs::Notes::note_last))]
+#[tactic(auto, unfolding(crate::specs::Kept::note_of, base::specs::Pick::pick))]
 fn note_of(c: u32, found: Found) -> u32
     requires { (c < character_limit) × (found.count < count_limit) }
     ensures { result ≡ note_of c found }
 {
     let note = c / CHARACTERS + found.count as u32 * ROWS;
-    if found.more {
-        return note + MORE;
-    }
-    note
+    if found.more { note + MORE } else { note }
 }
 
 // Puts what was found of a character into its place.
@@ -109,10 +101,8 @@ pub fn fill(rules: &[u8], all: &mut [u32], count: usize)
     ensures { Kept rules.now (take all_places all.new) × (drop all_places all.new ≡ drop all_places all.old) }
 {
     rule_table::fill_index(rules, &mut all[..rule_table::INDEX_ENTRIES]);
-    let mut i: usize = 0;
-    while i < count {
+    for i in 0..count {
         let c = all[PLACES + i];
         learn(rules, &mut all[..PLACES], c);
-        i += 1;
     }
 }

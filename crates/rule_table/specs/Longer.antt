@@ -18,7 +18,7 @@ use Rattle.rule_table.specs.Order.{compared, compared_self, equal_same, equal_st
 use Rattle.rule_table.specs.Sorted.{rules_from, Sorted, rules-over, rules-next, sorted-next}
 use Rattle.rule_table.specs.Doors.{is_start, all_above, start_above}
 use Rattle.rule_table.specs.Seek.{is_below, is_equal, order_at, run, first_at, equal_rows, run-over, run_on, run_ends, equal_is, above_is, first_stops, next_not_below, start-over, start-there}
-use Rattle.rule_table.specs.declared.Order.TheVariants.{Below, Equal, Above}
+use Rattle.std.specs.declared.cmp.Ordering.TheVariants.{Less, Equal, Greater}
 
 -- a source that goes on behind a text
 abbrev pub goes_past : Text → Rule → Bool
@@ -29,7 +29,7 @@ has_longer w rs = any (goes_past w) rs
 
 -- One that is below or equal does not; one that is above does where it starts with the text
 module _ (w : Text) (r : Rule) where
-  below_past : compared r.source w ≡ Below → goes_past w r ≡ false
+  below_past : compared r.source w ≡ Less → goes_past w r ≡ false
   below_past e = ap (λ (b : Bool). b && ltb (length w) (length r.source)) (below_starts r.source w e)
 
   equal_past : compared r.source w ≡ Equal → goes_past w r ≡ false
@@ -38,14 +38,14 @@ module _ (w : Text) (r : Rule) where
       ap (λ (b : Bool). starts w r.source && b) (le-ltb (length w) (length r.source) (omega (arith, z)))
       ∙ and-false (starts w r.source)
 
-above_longer : (a w : Text) → compared a w ≡ Above → starts w a ≡ true → length w < length a
+above_longer : (a w : Text) → compared a w ≡ Greater → starts w a ≡ true → length w < length a
 above_longer a w e h = go (drop (length w) a) (starts_split w a h)
   where
     go : (u : Text) → a ≡ w ++ u → length w < length a
     go [] q = absurd (let k = sym e ∙ ap (λ x. compared x w) (q ∙ append-nil w) ∙ compared_self w in let z : ◌≡◌ {A = ℕ} 0 1 = cc in omega arith)
     go (c ∷ u) q = omega (arith, ap length q, length-append w (c ∷ u))
 
-above_past : (w : Text) (r : Rule) → compared r.source w ≡ Above → goes_past w r ≡ starts w r.source
+above_past : (w : Text) (r : Rule) → compared r.source w ≡ Greater → goes_past w r ≡ starts w r.source
 above_past w r e = go (starts w r.source) refl
   where
     go : (b : Bool) → starts w r.source ≡ b → (b && ltb (length w) (length r.source)) ≡ b
@@ -68,7 +68,7 @@ passed_first b w e at h =
       rest = sym (ap (any (goes_past w)) q.sought.is
           ∙ any_append (goes_past w) q.sought.skipped (rules_from b (first_at b w))
           ∙ ap (λ (c : Bool). c || any (goes_past w) (rules_from b (first_at b w)))
-          (any_none (λ r. compared r.source w ≡ Below) (goes_past w) q.sought.skipped q.sought.lower (below_past w)));
+          (any_none (λ r. compared r.source w ≡ Less) (goes_past w) q.sought.skipped q.sought.lower (below_past w)));
     })
 
 module _ (b w : List ℕ) (at : ℕ) (p : Passed b w at) where

@@ -1,5 +1,5 @@
 -- The order of sources: what of it a search in sorted rows needs.
-use Rattle.std.specs.Prelude.{Bool, true, false, ◌&&◌, ◌≡◌, refl, List, [], ◌∷◌, ℕ, suc, ◌+◌, ◌-◌, ◌%◌, ◌≤◌, ◌<◌, eqb, ltb, length, get_or, drop}
+use Rattle.std.specs.Prelude.{Bool, true, false, ◌&&◌, ◌≡◌, refl, List, [], ◌∷◌, ℕ, suc, ◌+◌, ◌-◌, ◌%◌, ◌≤◌, ◌<◌, eqb, ltb, length, get_or, drop, Option, Some, None}
 use Rattle.std.proofs.Common.{true≢false, ap, ◌∙◌, subst, append-nil, arith, add-one, get_or-drop}
 use Rattle.std.proofs.Math.Path.{sym}
 use Rattle.std.proofs.Math.Decide.{dec_lt}
@@ -15,26 +15,26 @@ use Rattle.definition.specs.Texts.{Text}
 use Rattle.base.specs.Rows.{counted, counted_none, counted_some}
 use Rattle.definition.specs.RuleRows.{rises, three_at, source_count, rule_source}
 use Rattle.definition.specs.There.{three-there}
-use Rattle.rule_table.specs.declared.Order.{Order}
-use Rattle.rule_table.specs.declared.Order.TheVariants.{Below, Equal, Above}
+use Rattle.std.specs.declared.cmp.Ordering.{Ordering}
+use Rattle.std.specs.declared.cmp.Ordering.TheVariants.{Less, Equal, Greater}
 
 -- the first text beside the second, character by character, a prefix first
-unfoldable pub beside : ℕ → ℕ → Order → Order
-beside x y o = pick (ltb x y) Below (pick (ltb y x) Above o)
+unfoldable pub beside : ℕ → ℕ → Ordering → Ordering
+beside x y o = pick (ltb x y) Less (pick (ltb y x) Greater o)
 
-unfoldable pub compared : Text → Text → Order
+unfoldable pub compared : Text → Text → Ordering
 compared [] [] = Equal
-compared [] (y ∷ b) = Below
-compared (x ∷ a) [] = Above
+compared [] (y ∷ b) = Less
+compared (x ∷ a) [] = Greater
 compared (x ∷ a) (y ∷ b) = beside x y (compared a b)
 
 -- Two first characters
-module _ (x y : ℕ) (o : Order) where
-  beside-lower : x < y → beside x y o ≡ Below
+module _ (x y : ℕ) (o : Ordering) where
+  beside-lower : x < y → beside x y o ≡ Less
   unfolding beside pick
   beside-lower l = rw (lt-ltb x y l)
 
-  beside-higher : y < x → beside x y o ≡ Above
+  beside-higher : y < x → beside x y o ≡ Greater
   unfolding beside pick
   beside-higher l = rw (le-ltb x y (omega arith), lt-ltb y x l)
 
@@ -79,7 +79,7 @@ unlike a w f = go (same a w) refl
     go true e = absurd (f (same_equal a w e))
 
 -- What comes after one that is above is above too
-pub above_later : (a y w : Text) → compared a w ≡ Above → rises a y ≡ true → compared y w ≡ Above
+pub above_later : (a y w : Text) → compared a w ≡ Greater → rises a y ≡ true → compared y w ≡ Greater
 unfolding compared rises
 above_later [] y [] e r = absurd (let z : ◌≡◌ {A = ℕ} 0 1 = cc in omega arith)
 above_later [] y (v ∷ w) e r = absurd (let z : ◌≡◌ {A = ℕ} 0 1 = cc in omega arith)
@@ -97,7 +97,7 @@ above_later (x ∷ a) (y ∷ b) (v ∷ w) e r = ways x v
     (λ k. let j = eqb-true x y (and_left _ _ k) in beside-higher y v (compared b w) (omega arith)) r)
 
 -- What comes after one that is equal is not below
-pub risen_not_below : (y w : Text) → compared y w ≡ Below → rises w y ≡ true → ⊥
+pub risen_not_below : (y w : Text) → compared y w ≡ Less → rises w y ≡ true → ⊥
 unfolding compared rises
 risen_not_below [] [] e r = absurd (let z : ◌≡◌ {A = ℕ} 0 1 = cc in omega arith)
 risen_not_below [] (v ∷ w) e r = absurd (true≢false (sym r))
@@ -112,13 +112,13 @@ risen_not_below (x ∷ y) (v ∷ w) e r = ways x v
     (λ l. let q = sym (beside-higher x v (compared y w) l) ∙ e in absurd (let z : ◌≡◌ {A = ℕ} 0 1 = cc in omega arith))
 
 -- What comes before one that is below is below too
-pub below_earlier : (a y w : Text) → compared y w ≡ Below → rises a y ≡ true → compared a w ≡ Below
+pub below_earlier : (a y w : Text) → compared y w ≡ Less → rises a y ≡ true → compared a w ≡ Less
 below_earlier a y w e r = go (compared a w) refl
   where
-    go : (o : Order) → compared a w ≡ o → o ≡ Below
-    go Below q = refl
+    go : (o : Ordering) → compared a w ≡ o → o ≡ Less
+    go Less q = refl
     go Equal q = absurd (risen_not_below y w e (subst (λ x. rises x y ≡ true) (same_true a w (equal_same a w q)) r))
-    go Above q = let k = sym e ∙ above_later a y w q r in absurd (let z : ◌≡◌ {A = ℕ} 0 1 = cc in omega arith)
+    go Greater q = let k = sym e ∙ above_later a y w q r in absurd (let z : ◌≡◌ {A = ℕ} 0 1 = cc in omega arith)
 
 -- Prefixes: one that is equal starts with it, one below does not
 pub equal_starts : (a w : Text) → compared a w ≡ Equal → starts w a ≡ true
@@ -127,7 +127,7 @@ equal_starts a w e = ap (starts w) (same_true a w (equal_same a w e)) ∙ starts
     starts_self : (w : Text) → starts w w ≡ true
     starts_self w = rw append-nil at (starts-append w [])
 
-pub below_starts : (a w : Text) → compared a w ≡ Below → starts w a ≡ false
+pub below_starts : (a w : Text) → compared a w ≡ Less → starts w a ≡ false
 unfolding compared starts
 below_starts [] [] e = absurd (let z : ◌≡◌ {A = ℕ} 0 1 = cc in omega arith)
 below_starts [] (v ∷ w) e = refl
@@ -138,7 +138,7 @@ below_starts (x ∷ a) (v ∷ w) e = ways x v
     (λ l. let q = sym (beside-higher x v (compared a w) l) ∙ e in absurd (let z : ◌≡◌ {A = ℕ} 0 1 = cc in omega arith))
 
 -- and where one that is above does not, none after it does
-pub above_starts : (a y w : Text) → compared a w ≡ Above → starts w a ≡ false → rises a y ≡ true → starts w y ≡ false
+pub above_starts : (a y w : Text) → compared a w ≡ Greater → starts w a ≡ false → rises a y ≡ true → starts w y ≡ false
 unfolding compared starts rises
 above_starts [] y [] e h r = absurd (let z : ◌≡◌ {A = ℕ} 0 1 = cc in omega arith)
 above_starts [] y (v ∷ w) e h r = absurd (let z : ◌≡◌ {A = ℕ} 0 1 = cc in omega arith)
@@ -157,14 +157,14 @@ above_starts (x ∷ a) (y ∷ b) (v ∷ w) e h r = ways x v
 
 -- A source of `n` characters from `o` of a row on, beside the text from `i` on: one law for each way that a turn can go
 module _ (s w : List ℕ) (n o i : ℕ) where
-  abbrev pub here : Order
+  abbrev pub here : Ordering
   here = compared (counted three_at 3 n (drop o s)) (drop i w)
 
-  pub source-longer : 0 < n → length w ≤ i → Above ≡ here
+  pub source-longer : 0 < n → length w ≤ i → Greater ≡ here
   unfolding compared
   source-longer h l = sym (rw (counted_some three_at 3 n o s h, drop_of_length-le w {i = i} l))
 
-  pub text-longer : n ≡ 0 → i < length w → Below ≡ here
+  pub text-longer : n ≡ 0 → i < length w → Less ≡ here
   unfolding compared
   text-longer h l = sym (rw (counted_none three_at 3 n (drop o s) h, drop-cons w i 0 l))
 
@@ -177,24 +177,25 @@ module _ (s w : List ℕ) (n o i : ℕ) where
     unfolding compared
     one = rw (counted_some three_at 3 n o s h, drop-cons w i 0 l, p, q)
 
-    pub lower : c < d → Below ≡ here
+    pub lower : c < d → Less ≡ here
     lower k = sym (one ∙ beside-lower c d _ k)
 
-    pub higher : d < c → Above ≡ here
+    pub higher : d < c → Greater ≡ here
     higher k = sym (one ∙ beside-higher c d _ k)
 
     pub same_character : (d ≤ c) × (c ≤ d) → compared (counted three_at 3 (n - 1) (drop (o + 3) s)) (drop (i + 1) w) ≡ here
     same_character k = rw add-one (sym (one ∙ beside_same c d _ (omega arith)))
 
--- One more than the first character of a row's source, where it is told
-abbrev pub First : List ℕ → ℕ → Type 0
-First s k = (0 < k → (0 < source_count s) × (k ≡ three_at (drop 6 s) + 1)) × (k ≤ 16777216)
+-- The first character of a row's source, where it is told
+abbrev pub First : List ℕ → Option ℕ → Type 0
+First s (Some c) = (0 < source_count s) × (c ≡ three_at (drop 6 s))
+First s None = Unit {0}
 
 -- the count and the first character, read as one number
 pub first-told : (R : List ℕ) (row key : ℕ) → key ≡ be4 (drop row R) 5 → ((i : ℕ) → get_or R i 0 < 256) → 16777215 < key
-    → First (drop row R) (key % 16777216 + 1)
+    → First (drop row R) (Some (key % 16777216))
 unfolding source_count
-first-told R row key p b h = (λ _. (omega (arith, small 6, small 7, small 8), ap (λ n. n + 1) begins), omega arith)
+first-told R row key p b h = (omega (arith, small 6, small 7, small 8), begins)
   where
     s : List ℕ
     s = drop row R
@@ -206,14 +207,11 @@ first-told R row key p b h = (λ _. (omega (arith, small 6, small 7, small 8), a
     begins = (let e : key % 16777216 ≡ be3 s 6 = omega (arith, small 6, small 7, small 8) in e) ∙ three-there s 6
 
 -- where it differs from the text's first, it settles the order
-module _ (s w : List ℕ) (k d : ℕ) (f : First s k) (z : 0 < k) (l : 0 < length w) (q : d ≡ get_or w 0 0) where
-  begins : k - 1 ≡ three_at (drop 6 s)
-  begins = let e = (f.0 z).1 in omega (arith, e)
-
-  pub first-lower : k ≤ d → Below ≡ compared (rule_source s) w
+module _ (s w : List ℕ) (c d : ℕ) (f : First s (Some c)) (l : 0 < length w) (q : d ≡ get_or w 0 0) where
+  pub first-lower : c < d → Less ≡ compared (rule_source s) w
   unfolding rule_source
-  first-lower h = lower s w (source_count s) 6 0 (f.0 z).0 l (k - 1) d begins q (omega arith)
+  first-lower h = lower s w (source_count s) 6 0 f.0 l c d f.1 q h
 
-  pub first-higher : d < k - 1 → Above ≡ compared (rule_source s) w
+  pub first-higher : d < c → Greater ≡ compared (rule_source s) w
   unfolding rule_source
-  first-higher h = higher s w (source_count s) 6 0 (f.0 z).0 l (k - 1) d begins q h
+  first-higher h = higher s w (source_count s) 6 0 f.0 l c d f.1 q h

@@ -21,21 +21,35 @@ use Rattle.rule_table.specs.Order.{compared, equal_same, risen_not_below, equal_
 use Rattle.rule_table.specs.Sorted.{rules_from, Sorted, sorted-next, sorted_risen, rules-over, rules-next}
 use Rattle.rule_table.specs.Doors.{with_source, is_start, Sought, sought_start, sought_next, sought_source, sought_start_of, none_over, no_start-over, none_above, start_equal, start_above, one_equal}
 use Rattle.rule_table.specs.Index.{offsets_from, row_offsets, offsets-over, offsets-next}
-use Rattle.rule_table.specs.declared.Order.{Order}
-use Rattle.rule_table.specs.declared.Order.TheVariants.{Below, Equal, Above}
+use Rattle.std.specs.Ordering.{is_lt, is_eq}
+use Rattle.std.specs.declared.cmp.Ordering.{Ordering}
+use Rattle.std.specs.declared.cmp.Ordering.TheVariants.{Less, Equal, Greater}
 
-unfoldable pub is_below : Order → Bool
-is_below Below = true
+unfoldable pub is_below : Ordering → Bool
+is_below Less = true
 is_below Equal = false
-is_below Above = false
+is_below Greater = false
 
-unfoldable pub is_equal : Order → Bool
-is_equal Below = false
+unfoldable pub is_equal : Ordering → Bool
+is_equal Less = false
 is_equal Equal = true
-is_equal Above = false
+is_equal Greater = false
+
+-- as the library asks it
+pub lt_is : (o : Ordering) → is_lt o ≡ is_below o
+unfolding is_below
+lt_is Less = refl
+lt_is Equal = refl
+lt_is Greater = refl
+
+pub eq_is : (o : Ordering) → is_eq o ≡ is_equal o
+unfolding is_equal
+eq_is Less = refl
+eq_is Equal = refl
+eq_is Greater = refl
 
 -- how the row at an offset stands to a text
-unfoldable pub order_at : List ℕ → Text → ℕ → Order
+unfoldable pub order_at : List ℕ → Text → ℕ → Ordering
 order_at b w at = compared (rule_source (drop at b)) w
 
 -- the offset of the first row of these that is not below, or the end of the table
@@ -83,23 +97,23 @@ module _ (b : List ℕ) (w : Text) (at : ℕ) where
     run_ends e = rw (offsets-next b at h, e)
 
 -- The three ways a row can stand
-pub below_is : (o : Order) → is_below o ≡ true → o ≡ Below
+pub below_is : (o : Ordering) → is_below o ≡ true → o ≡ Less
 unfolding is_below
-below_is Below e = refl
+below_is Less e = refl
 below_is Equal e = absurd (true≢false (sym e))
-below_is Above e = absurd (true≢false (sym e))
+below_is Greater e = absurd (true≢false (sym e))
 
-pub equal_is : (o : Order) → is_equal o ≡ true → o ≡ Equal
+pub equal_is : (o : Ordering) → is_equal o ≡ true → o ≡ Equal
 unfolding is_equal
-equal_is Below e = absurd (true≢false (sym e))
+equal_is Less e = absurd (true≢false (sym e))
 equal_is Equal e = refl
-equal_is Above e = absurd (true≢false (sym e))
+equal_is Greater e = absurd (true≢false (sym e))
 
-pub above_is : (o : Order) → is_below o ≡ false → is_equal o ≡ false → o ≡ Above
+pub above_is : (o : Ordering) → is_below o ≡ false → is_equal o ≡ false → o ≡ Greater
 unfolding is_below is_equal
-above_is Below e f = absurd (true≢false e)
+above_is Less e f = absurd (true≢false e)
 above_is Equal e f = absurd (true≢false f)
-above_is Above e f = refl
+above_is Greater e f = refl
 
 -- a search may stop at the end of the table, even where a row's size reaches past it
 sorted-over : (b : List ℕ) (at : ℕ) → length b ≤ at → Sorted b at → Sorted b (length b)

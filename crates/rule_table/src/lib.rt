@@ -10,18 +10,12 @@ ghost use Rattle.rule_table.specs.Entries.{entry_below};
 ghost use Rattle.rule_table.specs.Longer.{has_longer};
 ghost use Rattle.base.specs.Lists.{starts};
 
+use std::cmp::Ordering;
+
 // How many rows lie from one entry of the index to the next, and how many entries it has.
 const INDEX_STEP: usize = 16;
 
 pub const INDEX_ENTRIES: usize = 512;
-
-// How a source stands to what is looked for.
-#[derive(Clone, Copy)]
-pub enum Order {
-    Below,
-    Equal,
-    Above,
-}
 
 // What the table has of a text: the rows with this source, where the first is and how many; and whether a longer source
 // starts with it.
@@ -33,32 +27,28 @@ pub struct Found {
 }
 
 // How the source of a row stands to a text, character by character.
-pub fn compare_source(rules: &[u8], row: usize, w: &[u32]) -> Order
+pub fn compare_source(rules: &[u8], row: usize, w: &[u32]) -> Ordering
     ensures { result ≡ compared (rule_source (drop row rules.now)) w.now }
 {
-    let mut left = base::at(rules, row, 5);
-    let mut o: usize = 6;
-    let mut i: usize = 0;
-    while 0 < left {
+    let count = rule_row::source_len(rules, row);
+    for i in 0..count {
         if w.len() <= i {
-            return Order::Above;
+            return Ordering::Greater;
         }
-        let c = base::three(rules, row, o);
+        let c = base::three(rules, row, 6 + 3 * i);
         let d = w[i];
         if c < d {
-            return Order::Below;
+            return Ordering::Less;
         }
         if d < c {
-            return Order::Above;
+            return Ordering::Greater;
         }
-        left -= 1;
-        o += 3;
-        i += 1;
     }
-    if i < w.len() {
-        return Order::Below;
+    if count < w.len() {
+        Ordering::Less
+    } else {
+        Ordering::Equal
     }
-    Order::Equal
 }
 
 // The offset of row `n`, put into the index if it is one of those and there is room.
@@ -96,38 +86,28 @@ pub fn fill_index(rules: &[u8], index: &mut [u32])
 fn is_below(rules: &[u8], row: usize, w: &[u32]) -> bool
     ensures { result ≡ is_below (order_at rules.now w.now row) }
 {
-    match compare_source(rules, row, w) {
-        Order::Below => true,
-        Order::Equal => false,
-        Order::Above => false,
-    }
+    compare_source(rules, row, w).is_lt()
 }
 
 // Is the row's source equal to a text?
 fn is_equal(rules: &[u8], row: usize, w: &[u32]) -> bool
     ensures { result ≡ is_equal (order_at rules.now w.now row) }
 {
-    match compare_source(rules, row, w) {
-        Order::Below => false,
-        Order::Equal => true,
-        Order::Above => false,
-    }
+    compare_source(rules, row, w).is_eq()
 }
 
-// One more than the first character of a row's source; 0 where it has none. The count of characters lies before it: one
-// number has both.
-fn first_of(rules: &[u8], row: usize) -> u32
+// The first character of a row's source, where it has one and the table reaches past it. The count of characters lies before
+// it: one number has both.
+fn first_of(rules: &[u8], row: usize) -> Option<u32>
     ensures { First (drop row rules.now) result }
 {
-    if row < rules.len() {
-        if 8 < rules.len() - row {
-            let key = base::four_there(rules, row, 5);
-            if 0xFFFFFF < key {
-                return key % 0x1000000 + 1;
-            }
+    if row < rules.len() && 8 < rules.len() - row {
+        let key = base::four_there(rules, row, 5);
+        if 0xFFFFFF < key {
+            return Some(key % 0x1000000);
         }
     }
-    0
+    None
 }
 
 // Is there an entry, and is its row below a text? Past the table's last row the index is 0. Most rows differ from a text in
@@ -141,13 +121,12 @@ fn is_entry_below(rules: &[u8], index: &[u32], k: usize, w: &[u32]) -> bool
         return false;
     }
     if 0 < w.len() {
-        let first = first_of(rules, at as usize);
-        if 0 < first {
+        if let Some(first) = first_of(rules, at as usize) {
             let sought = w[0];
-            if first <= sought {
+            if first < sought {
                 return true;
             }
-            if sought < first - 1 {
+            if sought < first {
                 return false;
             }
         }
@@ -161,6 +140,7 @@ fn walk_start(rules: &[u8], index: &[u32], w: &[u32]) -> usize
     ensures { seek rules.now w.now (offsets_from rules.now result)
         ≡ first_at rules.now w.now }
 {
+    // `partition_point` of the library tells its answer only of a slice that is sorted by the test, which this proof need not show
     let mut low: usize = 0;
     let mut high = index.len();
     while low < high {
@@ -186,11 +166,10 @@ fn past_lower(rules: &[u8], from: usize, w: &[u32]) -> usize
     if 0 < w.len() {
         let sought = w[0];
         while at < rules.len() {
-            let first = first_of(rules, at);
-            if first == 0 {
+            let Some(first) = first_of(rules, at) else {
                 return at;
-            }
-            if sought < first {
+            };
+            if sought <= first {
                 return at;
             }
             at += rule_row::size(rules, at);
@@ -207,11 +186,10 @@ fn seek(rules: &[u8], index: &[u32], w: &[u32]) -> usize
     let start = walk_start(rules, index, w);
     let mut at = past_lower(rules, start, w);
     while at < rules.len() {
-        if is_below(rules, at, w) {
-            at += rule_row::size(rules, at);
-        } else {
+        if !is_below(rules, at, w) {
             return at;
         }
+        at += rule_row::size(rules, at);
     }
     rules.len()
 }
@@ -220,19 +198,14 @@ fn seek(rules: &[u8], index: &[u32], w: &[u32]) -> usize
 fn starts_with(rules: &[u8], row: usize, w: &[u32]) -> bool
     ensures { result ≡ starts w.now (rule_source (drop row rules.now)) }
 {
-    let mut left = base::at(rules, row, 5);
-    let mut o: usize = 6;
-    let mut i: usize = 0;
-    while i < w.len() {
-        if left == 0 {
+    let count = rule_row::source_len(rules, row);
+    for i in 0..w.len() {
+        if count <= i {
             return false;
         }
-        if base::three(rules, row, o) != w[i] {
+        if base::three(rules, row, 6 + 3 * i) != w[i] {
             return false;
         }
-        left -= 1;
-        o += 3;
-        i += 1;
     }
     true
 }
@@ -248,13 +221,12 @@ pub fn look_up(rules: &[u8], index: &[u32], w: &[u32]) -> Found
     let mut at = first;
     let mut count: usize = 0;
     while at < rules.len() {
-        if is_equal(rules, at, w) {
-            at += rule_row::size(rules, at);
-            count += 1;
-        } else {
+        if !is_equal(rules, at, w) {
             let more = starts_with(rules, at, w);
             return Found { first, count, more };
         }
+        at += rule_row::size(rules, at);
+        count += 1;
     }
     Found {
         first,

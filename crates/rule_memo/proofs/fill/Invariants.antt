@@ -1,5 +1,4 @@
 -- `rule_memo::fill`: behind the index each character is put in turn; the characters themselves stay.
-use Prim.Native.Nat.{◌-◌}
 use mathlib.Core.Path.{◌≡◌}
 use lib.ListN.{length, take, drop}
 use Rattle.rule_memo.specs.Kept.{all_places, Kept}
@@ -8,6 +7,3 @@ use Rattle.rule_memo.proofs.fill.Given as goal
 abbrev pub invariant-loop-i : goal.invariant-loop-i
 invariant-loop-i l =
     Kept l.rules (take all_places l.all) × (drop all_places l.all ≡ drop all_places l.initial.all) × (length l.all ≡ length l.initial.all)
-
-abbrev pub decreases-loop-i : goal.decreases-loop-i
-decreases-loop-i l = l.count - l.i

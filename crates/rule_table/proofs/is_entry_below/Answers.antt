@@ -17,7 +17,7 @@ unfolding is_below order_at
 returns-then-first-sought c =
     let a = c.args in
     let at = get_or a.index.now a.k 0 in
-    ap is_below (first-lower (drop at a.rules.now) a.w.now _ _ c.first_of-first.ensures (omega arith) (omega arith) refl (omega arith))
+    ap is_below (first-lower (drop at a.rules.now) a.w.now _ _ c.in-Some.ensures (omega arith) refl (omega arith))
     ∙ entry_some a.rules.now a.w.now at (λ e. omega arith)
 
 pub returns-then-sought-first : goal.returns-then-sought-first
@@ -25,7 +25,7 @@ unfolding is_below order_at
 returns-then-sought-first c =
     let a = c.args in
     let at = get_or a.index.now a.k 0 in
-    ap is_below (first-higher (drop at a.rules.now) a.w.now _ _ c.first_of-first.ensures (omega arith) (omega arith) refl (omega arith))
+    ap is_below (first-higher (drop at a.rules.now) a.w.now _ _ c.in-Some.ensures (omega arith) refl (omega arith))
     ∙ entry_some a.rules.now a.w.now at (λ e. omega arith)
 
 pub returns : goal.returns

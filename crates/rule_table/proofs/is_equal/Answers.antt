@@ -1,16 +1,8 @@
--- `rule_table::is_equal`
-use Rattle.std.proofs.Common.{ap}
-use Rattle.rule_table.specs.Seek.{is_equal, order_at}
+-- `rule_table::is_equal`: as the library asks it of the order.
+use Rattle.std.proofs.Common.{ap, ◌∙◌}
+use Rattle.rule_table.specs.Seek.{is_equal, order_at, eq_is}
 use Rattle.rule_table.proofs.is_equal.Goals as goal
 
-pub returns-in-Below : goal.returns-in-Below
-unfolding is_equal order_at
-returns-in-Below c = ap is_equal c.in-Below.ensures
-
-pub returns-in-Equal : goal.returns-in-Equal
-unfolding is_equal order_at
-returns-in-Equal c = ap is_equal c.in-Equal.ensures
-
-pub returns-in-Above : goal.returns-in-Above
-unfolding is_equal order_at
-returns-in-Above c = ap is_equal c.in-Above.ensures
+pub returns : goal.returns
+unfolding order_at
+returns c = c.is_eq.ensures ∙ eq_is _ ∙ ap is_equal c.compare_source.ensures

@@ -24,16 +24,16 @@ pub loop-at-preserved : goal.loop-at-preserved
 loop-at-preserved c =
     let l = c in
     let e = ap (λ z. run ((l.args.rules.now)) ((l.args.w.now)) (offsets_from ((l.args.rules.now)) (l.loop-at.at + z))) c.size-at.ensures.0 in
-    let r = run_on ((l.args.rules.now)) ((l.args.w.now)) l.loop-at.at (omega arith) (sym c.is_equal.ensures ∙ c.if-is_equal.true) in (
+    let r = run_on ((l.args.rules.now)) ((l.args.w.now)) l.loop-at.at (omega arith) (sym c.is_equal.ensures ∙ c.if-not-is_equal.false) in (
       omega (arith, e, r, l.loop-at.invariant.0),
       omega (arith, rule_moves (drop l.loop-at.at ((l.args.rules.now))), l.loop-at.invariant.1),
-      passed-next ((l.args.rules.now)) ((l.args.w.now)) l.loop-at.at l.loop-at.invariant.2 (omega arith) (sym c.is_equal.ensures ∙ c.if-is_equal.true) _ c.size-at.ensures.0,
+      passed-next ((l.args.rules.now)) ((l.args.w.now)) l.loop-at.at l.loop-at.invariant.2 (omega arith) (sym c.is_equal.ensures ∙ c.if-not-is_equal.false) _ c.size-at.ensures.0,
     )
 
-pub returns-else-is_equal : goal.returns-else-is_equal
-returns-else-is_equal c =
+pub returns-then-not-is_equal : goal.returns-then-not-is_equal
+returns-then-not-is_equal c =
     let l = c in
-    let i = sym c.is_equal.ensures ∙ c.if-is_equal.false in
+    let i = sym c.is_equal.ensures ∙ c.if-not-is_equal.true in
     let r = run_ends ((l.args.rules.now)) ((l.args.w.now)) l.loop-at.at (omega arith) i in (
       l.seek-first.ensures,
       omega (arith, r, l.loop-at.invariant.0),

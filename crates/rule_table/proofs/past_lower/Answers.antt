@@ -22,6 +22,6 @@ loop-at-preserved c =
     let a = c.args in
     let b = a.rules.now in
     let row = drop l.loop-at.at b in
-    let e = ap is_below (sym (first-lower row a.w.now _ _ c.first_of-first.ensures (omega arith) (omega arith) refl (omega arith))) in
+    let e = ap is_below (sym (first-lower row a.w.now _ _ c.in-Some.ensures (omega arith) refl (omega arith))) in
     ap (λ z. seek b a.w.now (offsets_from b (l.loop-at.at + z))) c.size-at.ensures.0
     ∙ seek-past b a.w.now l.loop-at.at (omega arith) e ∙ l.loop-at.invariant

@@ -14,11 +14,11 @@ loop-at-smaller c = let l = c in omega (arith, rule_moves (drop l.loop-at.at (((
 pub loop-at-preserved : goal.loop-at-preserved
 loop-at-preserved c = let l = c in
     ap (λ z. seek ((((l)).args.rules.now)) ((((l)).args.w.now)) (offsets_from ((((l)).args.rules.now)) (l.loop-at.at + z))) c.size-at.ensures.0
-    ∙ seek-past ((((l)).args.rules.now)) ((((l)).args.w.now)) l.loop-at.at (omega arith) (sym c.is_below.ensures ∙ c.if-is_below.true) ∙ l.loop-at.invariant
+    ∙ seek-past ((((l)).args.rules.now)) ((((l)).args.w.now)) l.loop-at.at (omega arith) (sym c.is_below.ensures ∙ c.if-not-is_below.false) ∙ l.loop-at.invariant
 
-pub returns-else-is_below : goal.returns-else-is_below
-returns-else-is_below c = let l = c in
-    seek-here ((((l)).args.rules.now)) ((((l)).args.w.now)) l.loop-at.at (omega arith) (sym c.is_below.ensures ∙ c.if-is_below.false) ∙ l.loop-at.invariant
+pub returns-then-not-is_below : goal.returns-then-not-is_below
+returns-then-not-is_below c = let l = c in
+    seek-here ((((l)).args.rules.now)) ((((l)).args.w.now)) l.loop-at.at (omega arith) (sym c.is_below.ensures ∙ c.if-not-is_below.true) ∙ l.loop-at.invariant
 
 pub returns : goal.returns
 returns c = let l = c in

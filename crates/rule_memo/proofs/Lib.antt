@@ -1,2 +1,0 @@
--- A note by whether a longer source starts with its character
-pub mod Notes
