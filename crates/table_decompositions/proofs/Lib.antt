@@ -1,3 +1,1 @@
-pub mod RowTests
 pub mod Holding
-pub mod Tags

@@ -17,7 +17,7 @@ ghost use Rattle.table_decompositions.specs.Told.{Found, EdgeFound};
 ghost use Rattle.table_decompositions.specs.Next.{next_form};
 ghost use Rattle.table_decompositions.specs.Gaps.{in_gap, GapAt};
 
-use table_blocks::TableRead;
+use table_blocks::TableFault;
 
 // How many rows lie from one entry of the index to the next, and how many entries it has.
 const INDEX_STEP: usize = 16;
@@ -59,27 +59,15 @@ pub fn into_at(table: &[u8], row: usize, i: usize) -> u32
 }
 
 // A row within the table, of a scalar value that rises and is no space, with a known tag.
-#[tactic(auto, using(crate::proofs::Tags::tag_past))]
+#[tactic(auto, using(table_blocks::specs::Held::held_from, table_blocks::specs::Held::short_from), unfolding(definition::specs::DecompositionRows::decomposition_fits, definition::specs::DecompositionRows::decomposition_size))]
 fn fits(table: &[u8], row: usize, low: u32) -> bool
     ensures { result ≡ decomposition_fits low (drop row table.now) }
 {
-    if table.len() < row {
-        return false;
-    }
-    if table.len() - row < size(table, row) {
+    if table.len() < row || table.len() - row < size(table, row) {
         return false;
     }
     let c = base::three(table, row, 0);
-    if c < low {
-        return false;
-    }
-    if c == SPACE {
-        return false;
-    }
-    if OTHER < base::at(table, row, 3) {
-        return false;
-    }
-    table_blocks::scalar(c)
+    low <= c && c != SPACE && base::at(table, row, 3) <= OTHER && table_blocks::scalar(c)
 }
 
 // One to 18 characters, none of them left out of every text.
@@ -87,21 +75,12 @@ fn holds_right(table: &[u8], row: usize) -> bool
     ensures { result ≡ into_right (drop row table.now) }
 {
     let n = count(table, row);
-    if n < 1 {
+    if n < 1 || n > MOST_INTO as usize {
         return false;
     }
-    if n > MOST_INTO as usize {
-        return false;
-    }
-    let mut i: usize = 0;
-    while i < n {
+    for i in 0..n {
         let c = into_at(table, row, i);
-        if table_blocks::scalar(c) {
-            if utf8::left_out(c) {
-                return false;
-            }
-            i += 1;
-        } else {
+        if !table_blocks::scalar(c) || utf8::left_out(c) {
             return false;
         }
     }
@@ -109,6 +88,7 @@ fn holds_right(table: &[u8], row: usize) -> bool
 }
 
 // A row that is right by itself after the characters below `low`.
+#[tactic(auto, unfolding(definition::specs::DecompositionRows::decomposition_right))]
 fn is_right(table: &[u8], row: usize, low: u32) -> bool
     ensures { result ≡ decomposition_right low (drop row table.now) }
 {
@@ -116,38 +96,35 @@ fn is_right(table: &[u8], row: usize, low: u32) -> bool
 }
 
 // The first row that is not right by itself, or is one too many.
-fn first_wrong(table: &[u8]) -> TableRead
+fn first_wrong(table: &[u8]) -> Result<(), TableFault>
     ensures { table_means result ≡ own_fault table.now }
 {
-    if table_blocks::headed(table) {
-        let mut at: usize = table_blocks::HEAD_BYTES;
-        let mut left: u32 = table_blocks::MOST_ROWS;
-        let mut low: u32 = 0;
-        while at < table.len() {
-            if left == 0 {
-                return TableRead::Fault(at);
-            }
-            if is_right(table, at, low) {
-                low = base::three(table, at, 0) + 1;
-                at += size(table, at);
-                left -= 1;
-            } else {
-                return TableRead::Fault(at);
-            }
-        }
-        return TableRead::Valid;
+    if !table_blocks::headed(table) {
+        return Err(TableFault { at: 0 });
     }
-    TableRead::Fault(0)
+    let mut at = table_blocks::HEAD_BYTES;
+    let mut left = table_blocks::MOST_ROWS;
+    let mut low = 0;
+    // a `while`, as in the walks below: each turn moves by the row's own size
+    while at < table.len() {
+        if left == 0 || !is_right(table, at, low) {
+            return Err(TableFault { at });
+        }
+        low = base::three(table, at, 0) + 1;
+        at += size(table, at);
+        left -= 1;
+    }
+    Ok(())
 }
 
 // Where the rows end that are right by themselves: at the first that is not, or at the table's end. 0 where the header is faulty.
-fn right_end(table: &[u8], own: TableRead) -> usize
+fn right_end(table: &[u8], own: Result<(), TableFault>) -> usize
     requires { table_means own ≡ own_fault table.now }
     ensures { (right_part table.now ≡ take result table.now) × (result ≤ length table.now) }
 {
     match own {
-        TableRead::Valid => table.len(),
-        TableRead::Fault(o) => o,
+        Ok(()) => table.len(),
+        Err(fault) => fault.at,
     }
 }
 
@@ -170,8 +147,8 @@ pub fn fill_index(table: &[u8], index: &mut [u32])
     requires { length index.old ≤ index_entries }
     ensures { index.new ≡ indexed 0 (row_offsets table.now) index.old }
 {
-    let mut at: usize = table_blocks::HEAD_BYTES;
-    let mut n: usize = 0;
+    let mut at = table_blocks::HEAD_BYTES;
+    let mut n = 0;
     while at < table.len() {
         if index.len() <= n / INDEX_STEP {
             return;
@@ -199,8 +176,9 @@ fn walk_start(table: &[u8], index: &[u32], c: u32) -> usize
     requires { Ready table.now index.now }
     ensures { Walks table.now c result }
 {
-    let mut low: usize = 0;
+    let mut low = 0;
     let mut high = index.len();
+    // a search by hand: an entry of 0, past the last row, is above all, so the entries do not rise
     while low < high {
         let mid = low + (high - low) / 2;
         if is_entry_low(table, index, mid, c) {
@@ -259,35 +237,32 @@ fn is_nested(table: &[u8], index: &[u32], row: usize) -> bool
     requires { Ready table.now index.now }
     ensures { result ≡ any (has_row (decompositions_of table.now)) (decomposition_into (drop row table.now)) }
 {
-    let held = count(table, row);
-    let mut i: usize = 0;
-    while i < held {
+    for i in 0..count(table, row) {
         let c = into_at(table, row, i);
         if row_of(table, index, c) != 0 {
             return true;
         }
-        i += 1;
     }
     false
 }
 
 // The first row that holds a character with a row.
-fn first_nested(table: &[u8], index: &[u32]) -> TableRead
+fn first_nested(table: &[u8], index: &[u32]) -> Result<(), TableFault>
     requires { Ready table.now index.now }
     ensures { table_means result ≡ nested_fault table.now }
 {
-    let mut at: usize = table_blocks::HEAD_BYTES;
+    let mut at = table_blocks::HEAD_BYTES;
     while at < table.len() {
         if is_nested(table, index, at) {
-            return TableRead::Fault(at);
+            return Err(TableFault { at });
         }
         at += size(table, at);
     }
-    TableRead::Valid
+    Ok(())
 }
 
 // Of rows that are right by themselves the first that holds a character with a row. The index is filled for that.
-fn check_part(part: &[u8], index: &mut [u32]) -> TableRead
+fn check_part(part: &[u8], index: &mut [u32]) -> Result<(), TableFault>
     requires { (index.old ≡ replicate index_entries 0) × RightRows most_rows 0 (drop head_bytes part.now) }
     ensures answer { table_means result ≡ nested_fault part.now }
     ensures index { index.new ≡ index_of part.now }
@@ -297,17 +272,15 @@ fn check_part(part: &[u8], index: &mut [u32]) -> TableRead
 }
 
 // The first fault of a decomposition table. The index is left filled with every 16th row of the part that is right by itself.
-pub fn check_decompositions(table: &[u8], index: &mut [u32]) -> TableRead
+pub fn check_decompositions(table: &[u8], index: &mut [u32]) -> Result<(), TableFault>
     requires { index.old ≡ replicate index_entries 0 }
     ensures answer { table_means result ≡ decomposition_fault table.now }
     ensures index { index.new ≡ index_of (right_part table.now) }
 {
     let own = first_wrong(table);
     let end = right_end(table, own);
-    match check_part(&table[..end], index) {
-        TableRead::Fault(o) => TableRead::Fault(o),
-        TableRead::Valid => own,
-    }
+    check_part(&table[..end], index)?;
+    own
 }
 
 // Characters side by side, the first and the last of them, none of which gives an edge. Where the last is below the first there
@@ -318,13 +291,11 @@ struct Gap {
     last: u32,
 }
 
+#[tactic(auto, unfolding(crate::specs::Gaps::in_gap))]
 fn is_in(gap: Gap, c: u32) -> bool
     ensures { result ≡ in_gap gap c }
 {
-    if c < gap.first {
-        return false;
-    }
-    c <= gap.last
+    gap.first <= c && c <= gap.last
 }
 
 // The least character that a walk from an offset on can find: from the first row on any, else that of the row there.
@@ -372,22 +343,14 @@ pub fn next_form(table: &[u8], index: &[u32], line: &[u32], n: usize, p: usize) 
 {
     let lowest = base::three(table, table_blocks::HEAD_BYTES, 0);
     let mut gap = Gap { first: 1, last: 0 };
-    let mut q = p;
-    while q < n {
+    for q in p..n {
         let c = line[q + 1];
-        if c < lowest {
-            q += 1;
-        } else {
-            if is_in(gap, c) {
-                q += 1;
-            } else {
-                gap = gap_of(table, index, c);
-                if is_in(gap, c) {
-                    q += 1;
-                } else {
-                    return q;
-                }
-            }
+        if c < lowest || is_in(gap, c) {
+            continue;
+        }
+        gap = gap_of(table, index, c);
+        if !is_in(gap, c) {
+            return q;
         }
     }
     n

@@ -1,5 +1,4 @@
 -- `table_decompositions::holds_right`: the rest of the characters decides as the whole does.
-use Prim.Native.Nat.{◌-◌}
 use lib.ListN.{drop}
 use mathlib.Core.Path.{◌≡◌}
 use Rattle.base.specs.Lists.{all}
@@ -9,6 +8,3 @@ use Rattle.table_decompositions.proofs.holds_right.Given as goal
 
 abbrev pub invariant-loop-i : goal.invariant-loop-i
 invariant-loop-i l = all held_right (drop l.i (decomposition_into (drop l.row l.table))) ≡ into_right (drop l.row l.table)
-
-abbrev pub decreases-loop-i : goal.decreases-loop-i
-decreases-loop-i l = l.n - l.i

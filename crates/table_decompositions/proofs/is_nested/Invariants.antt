@@ -1,5 +1,4 @@
 -- `table_decompositions::is_nested`: the rest of the characters decides as the whole does.
-use Prim.Native.Nat.{◌-◌}
 use mathlib.Core.Path.{◌≡◌}
 use lib.ListN.{drop}
 use Rattle.base.specs.Lists.{any}
@@ -10,6 +9,3 @@ abbrev pub invariant-loop-i : goal.invariant-loop-i
 invariant-loop-i l =
     any (has_row (decompositions_of l.table)) (drop l.i (decomposition_into (drop l.row l.table)))
     ≡ any (has_row (decompositions_of l.table)) (decomposition_into (drop l.row l.table))
-
-abbrev pub decreases-loop-i : goal.decreases-loop-i
-decreases-loop-i l = l.held - l.i

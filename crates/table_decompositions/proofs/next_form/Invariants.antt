@@ -9,6 +9,3 @@ use Rattle.table_decompositions.proofs.next_form.Given as goal
 abbrev pub invariant-loop-q : goal.invariant-loop-q
 invariant-loop-q l =
     Empty l.table l.gap × (next_form (decompositions_of l.table) l.line (l.n - l.q) l.q ≡ next_form (decompositions_of l.table) l.line (l.n - l.p) l.p) × (l.q ≤ l.n)
-
-abbrev pub decreases-loop-q : goal.decreases-loop-q
-decreases-loop-q l = l.n - l.q

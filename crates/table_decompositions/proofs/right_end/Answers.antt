@@ -7,15 +7,15 @@ use Rattle.table_decompositions.specs.Part.{part_up_to, own-part}
 use Rattle.table_blocks.specs.Faults.{valid, faulty}
 use Rattle.table_decompositions.proofs.right_end.Goals as goal
 
-pub returns-in-Valid : goal.returns-in-Valid
-returns-in-Valid c =
+pub returns-in-Ok : goal.returns-in-Ok
+returns-in-Ok c =
     let s = c in
     let b = s.args.table.now in
-    (part-whole b (valid s.args.own s.requires c.in-Valid.is) ∙ sym (take-length b), omega arith)
+    (part-whole b (valid s.args.own s.requires _ c.in-Ok.is) ∙ sym (take-length b), omega arith)
 
-pub returns-in-Fault : goal.returns-in-Fault
-returns-in-Fault c =
+pub returns-in-Err : goal.returns-in-Err
+returns-in-Err c =
     let s = c in
     let b = s.args.table.now in
-    let e = faulty s.args.own s.requires _ c.in-Fault.is in
+    let e = faulty s.args.own s.requires _ c.in-Err.is in
     (part_up_to b _ e, (own-part b _ e).within)
