@@ -12,7 +12,6 @@ ghost use Rattle.words.specs.Given.{World, kinds, size_in, Lined};
 ghost use Rattle.words.specs.Choosing.{choices_of};
 ghost use Rattle.plain.specs.Plain.{Unasked, Unspaced, Alone, Untouched, Voiceless};
 
-use table_vowels::VowelOf;
 use words::characters::{
     ADDAK, GRAVE, HIRAGANA_TSU, HIRAGANA_YA, HIRAGANA_YO, HIRAGANA_YU, KATAKANA_TSU, KATAKANA_YA,
     KATAKANA_YO, KATAKANA_YU, LONG_MARK, SPACE,
@@ -57,10 +56,7 @@ fn has_vowel(vowels: &[u8], script: u32) -> bool
     requires { FineVowels vowels.now }
     ensures { result ≡ false → vowel_row (vowels_of vowels.now) script ≡ none }
 {
-    match table_vowels::vowel_row(vowels, script) {
-        VowelOf::Row(_) => true,
-        VowelOf::Absent => false,
-    }
+    table_vowels::vowel_row(vowels, script).is_some()
 }
 
 // Does something stand before or behind a span that the expansion asks for?

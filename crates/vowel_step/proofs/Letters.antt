@@ -19,9 +19,8 @@ use Rattle.definition.specs.Building.{grown}
 use Rattle.definition.specs.Checked.{vowel-checked}
 use Rattle.definition.specs.Accepted.{vowels-all}
 use Rattle.table_vowels.specs.Told.{FineVowels, vowel_means, Lettered}
-use Rattle.table_vowels.specs.declared.VowelOf.{VowelOf}
 use Rattle.table_vowels.specs.declared.VowelRow.{VowelRow}
-use Rattle.table_vowels.specs.declared.VowelOf.TheVariants.{Row, Absent}
+use Rattle.std.specs.Prelude as rust
 use Rattle.ends.specs.Shown.{unmatched, shown, form_means}
 use Rattle.ends.specs.Grew.{grew, grown_as}
 use Rattle.ends.specs.declared.Which.{Which}
@@ -34,13 +33,13 @@ a_letter low s e =
     omega (arith, c.least, length-take-le (vowel_length s) (drop 3 s) (omega (arith, c.inside, length-drop 3 s)))
 
 -- what was answered, of the script `k`
-module _ (b : List ℕ) (k : ℕ) (o : VowelOf) (e : vowel_means b k o ≡ vowel_row (vowels_of b) k) where
-  pub none_told : (j : ℕ) → k ≡ j → o ≡ Absent → vowel_row (vowels_of b) j ≡ none
+module _ (b : List ℕ) (k : ℕ) (o : rust.Option VowelRow) (e : vowel_means b k o ≡ vowel_row (vowels_of b) k) where
+  pub none_told : (j : ℕ) → k ≡ j → o ≡ rust.None → vowel_row (vowels_of b) j ≡ none
   unfolding vowel_means
   none_told j i d = ap (vowel_row (vowels_of b)) (sym i) ∙ sym e ∙ ap (vowel_means b k) d
 
   -- a row, and its letters `w`
-  module _ (r : VowelRow) (d : o ≡ Row r) where
+  module _ (r : VowelRow) (d : o ≡ rust.Some r) where
     pub placed : Lettered b o → (r.from ≤ r.to) × (r.to ≤ r.from + 4) × (r.to ≤ length b)
     unfolding Lettered
     placed l = subst (Lettered b) d l

@@ -20,7 +20,6 @@ ghost use Rattle.vowel_step.specs.Steps.{Voices, voiced};
 
 use ends::{Forms, Which};
 use rom::Rom;
-use table_vowels::VowelOf;
 use words::Span;
 
 // U+1799, the Khmer yo.
@@ -248,7 +247,7 @@ fn put_vowel(
         (λ L t e. vowel_step L t e (vowels_of vowels.now) tail (take n bytes.old) span.from span.to)
         (held bytes.old n) most_vowel (voiced bytes.new result) }
 {
-    let VowelOf::Row(row) = table_vowels::vowel_row(vowels, script_at(line, span.from + 1)) else {
+    let Some(row) = table_vowels::vowel_row(vowels, script_at(line, span.from + 1)) else {
         return Grown {
             len: n,
             grown: false,

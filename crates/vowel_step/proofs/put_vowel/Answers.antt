@@ -34,7 +34,7 @@ returns-in_default c =
 
 pub vowel_letters-letters-requires : goal.vowel_letters-letters-requires
 vowel_letters-letters-requires c =
-    let q = placed c.args.vowels.now c.script_at.result c.vowel_row.result c.vowel_row.ensures.0 _ c.in-Row.is c.vowel_row.ensures.1 in
+    let q = placed c.args.vowels.now c.script_at.result c.vowel_row.result c.vowel_row.ensures.0 _ c.in-Some.is c.vowel_row.ensures.1 in
     (q.0, q.2)
 
 pub slice_bounds-shape_of-end : goal.slice_bounds-shape_of-end
@@ -48,7 +48,7 @@ slice_bounds-shape_of-end-2 c =
 
 pub shape-len-requires : goal.shape-len-requires
 shape-len-requires c =
-    let l = few_letters c.args.vowels.now c.script_at.result c.vowel_row.result c.vowel_row.ensures.0 _ c.in-Row.is c.vowel_letters-letters.result.now c.vowel_letters-letters.ensures c.vowel_row.ensures.1 in
+    let l = few_letters c.args.vowels.now c.script_at.result c.vowel_row.result c.vowel_row.ensures.0 _ c.in-Some.is c.vowel_letters-letters.result.now c.vowel_letters-letters.ensures c.vowel_row.ensures.1 in
     (c.requires.2, subst (λ (n : ℕ). Within n c.shape_of-shape.result.forms) (text-length c.requires.2) c.shape_of-shape.ensures.0, omega (arith, l, c.requires.3))
 
 pub returns : goal.returns
@@ -61,15 +61,15 @@ returns c =
     let h = c.shape_of-shape.result.which in
     let u = form_means h (shown t x f) in
     let m = c.shape-len.ensures in
-    let few = few_letters b c.script_at.result c.vowel_row.result c.vowel_row.ensures.0 _ c.in-Row.is x z c.vowel_row.ensures.1 in
-    let some = some_letter b c.script_at.result c.vowel_row.result c.vowel_row.ensures.0 _ c.in-Row.is x z c.requires.1 in
+    let few = few_letters b c.script_at.result c.vowel_row.result c.vowel_row.ensures.0 _ c.in-Some.is x z c.vowel_row.ensures.1 in
+    let some = some_letter b c.script_at.result c.vowel_row.result c.vowel_row.ensures.0 _ c.in-Some.is x z c.requires.1 in
     let l = chosen-length t x f c.shape_of-shape.ensures.0 h in
     let fits : length u ≤ most_bytes = omega (arith, l, few, text-length c.requires.2, c.requires.3) in
     let q = text-by u m fits in (
       λ w e g. let A = c.shape_of-shape.ensures.1 x w e g in record {
         did = did_by q (by_row (lexicon_of c.args.rules.now w c.args.code.now) w.text (seen w) (vowels_of b) c.args.tail t
             c.args.span.from c.args.span.to (memory (size w) c.args.places.now) _
-            (row_told b c.script_at.result c.vowel_row.result c.vowel_row.ensures.0 _ c.in-Row.is x z (script (kinds w) (at w.text c.args.span.from))
+            (row_told b c.script_at.result c.vowel_row.result c.vowel_row.ensures.0 _ c.in-Some.is x z (script (kinds w) (at w.text c.args.span.from))
             (script-here g.text c.args.span.from (omega (arith, c.requires.4, c.requires.5, line-size g.text)) refl c.script_at.ensures)) A.did);
         kept = A.kept;
       },
