@@ -24,23 +24,10 @@ use rom::Rom;
 use rule_choice::Target;
 use std::ops::ControlFlow;
 use steps::{Growing, Work};
+use words::characters::{
+    GRAVE, HIRAGANA_YA, HIRAGANA_YO, HIRAGANA_YU, KATAKANA_YA, KATAKANA_YO, KATAKANA_YU,
+};
 use words::{Choices, Span};
-
-// U+0300, the grave over a Coptic letter.
-const GRAVE: u32 = 0x0300;
-
-// U+3083, U+3085 and U+3087, small ya, yu and yo of hiragana, and those of katakana.
-const HIRAGANA_YA: u32 = 0x3083;
-
-const HIRAGANA_YU: u32 = 0x3085;
-
-const HIRAGANA_YO: u32 = 0x3087;
-
-const KATAKANA_YA: u32 = 0x30E3;
-
-const KATAKANA_YU: u32 = 0x30E5;
-
-const KATAKANA_YO: u32 = 0x30E7;
 
 // Does a grave stand over a Coptic character, the last before `to`? None does past the text.
 fn has_grave(line: &[u32], to: usize) -> bool
@@ -185,6 +172,7 @@ fn put_small(
 }
 
 // Small ya, unless a rule has it too, from the first start or from where the span starts now.
+#[tactic(auto, using(steps::proofs::Letters::held_within, steps::proofs::Letters::held_long))]
 fn small_y(
     rules: &[u8],
     ready: &[u32],
@@ -286,6 +274,7 @@ fn by_script(
 }
 
 // The first steps: capitals, or else doubling. A romanization in upper case begins with no letter that is doubled.
+#[tactic(auto, using(steps::proofs::Letters::held_within, steps::proofs::Letters::held_long))]
 fn first_steps(line: &[u32], choices: Choices, bytes: &mut [u8], n: usize, span: Span) -> Growing
     requires { Clean (held bytes.old n) × (n < most_bytes) × (span.from < span.to) × (span.to ≤ size_in line.now) }
     ensures { ((x : World) → Lined x line.now → work_in bytes.new result

@@ -15,9 +15,18 @@ use Rattle.base.specs.ListLaws.{tail-length}
 use Rattle.definition.specs.Texts.{Text, chars, among, addak, long_mark, vowels, consonants, the_space, last_is, without_last}
 use Rattle.definition.specs.Expansion.{doubling, doubled}
 use Rattle.rom.proofs.Backwards.{back_cons, front_less}
+use Rattle.rom.specs.Rom.{held, Clean, text-length, bytes-length}
 use Rattle.rom.specs.Sets.{member, vowels_set, in_vowels, last_as}
 use Rattle.std.specs.Prelude.{Some, None, slice_get}
 use Rattle.steps.specs.Works.{first_of, last_of, letter_of, kana, long_by, front_of, back_of}
+
+-- the first bytes of an array that holds a romanization, as a slice
+module _ (b : List ℕ) (n : ℕ) (h : Clean (held b n)) where
+  pub held_within : n ≤ length b
+  held_within = let f = h.fits in omega (arith, f, bytes-length h)
+
+  pub held_long : n ≡ length (take n b)
+  held_long = sym (text-length h)
 
 -- the last of the first `n` bytes
 pub last-at : (b : List ℕ) (n : ℕ) → 0 < n → n ≤ length b → get_or b (n - 1) 0 ≡ last_of (take n b)

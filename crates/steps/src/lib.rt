@@ -16,22 +16,10 @@ ghost use Rattle.steps.specs.Works.{work_in, Held, outcome, Left, letter_of, fra
 
 use rom::Rom;
 use rule_choice::Target;
-
-// U+3063 and U+30C3, small tsu of the two, and U+0A71, addak, which double a consonant.
-const HIRAGANA_TSU: u32 = 0x3063;
-
-const KATAKANA_TSU: u32 = 0x30C3;
-
-const ADDAK: u32 = 0x0A71;
+use words::characters::{ADDAK, HIRAGANA_TSU, KATAKANA_TSU, LONG_MARK, SPACE};
 
 // U+2013, which stands in a source between a vowel written before its consonant and what follows the consonant.
 const EN_DASH: u32 = 0x2013;
-
-// A space, which stands outside of the text too.
-const SPACE: u32 = 0x20;
-
-// U+30FC, the mark that lengthens a kana's vowel.
-const LONG_MARK: u32 = 0x30FC;
 
 // What the expansion makes: a romanization, its span, and its annotation, 0 while nothing was expanded. It stays beside
 // `Growing`: the step at the public door gives its romanization by value (docs/DECISIONS.md, ticket 4), those inside don't.
@@ -90,6 +78,7 @@ fn put_front(bytes: &mut [u8], letter: u8, g: Growing) -> Growing
 }
 
 // Doubling by the character before `o`, where the span starts, if it is of the script of the one at `o`.
+#[tactic(auto, using(crate::proofs::Letters::held_within, crate::proofs::Letters::held_long))]
 pub fn doubling(line: &[u32], o: usize, bytes: &mut [u8], g: Growing) -> Growing
     requires { Held bytes.old g × (g.len < most_bytes) × (g.from ≡ o) × (o ≤ size_in line.now) }
     ensures { ((x : World) → Lined x line.now → work_in bytes.new result ≡ double (kinds x) x.text o (work_in bytes.old g))
@@ -178,6 +167,7 @@ fn around_by(
 
 // Thai pattern: a vowel written around its consonant, the longest first. Written out, the three tries are the definition's;
 // a loop over 3, 2 and 1 is no plainer.
+#[tactic(auto, using(crate::proofs::Letters::held_within, crate::proofs::Letters::held_long))]
 pub fn vowel_around(
     rules: &[u8],
     ready: &[u32],
@@ -215,6 +205,7 @@ fn is_before(kind: u32, text: &[u8]) -> bool
 }
 
 // Thai vowel that is written before its consonant and spoken behind it: what its first rule says is put behind.
+#[tactic(auto, using(crate::proofs::Letters::held_within, crate::proofs::Letters::held_long))]
 pub fn vowel_before(
     rules: &[u8],
     ready: &[u32],
@@ -311,6 +302,7 @@ fn lengthen(bytes: &mut [u8], g: Growing, to: usize) -> Growing
 }
 
 // What ends the expansion: a long mark that lengthens, or a virama, which is absorbed, or else spaces trimmed.
+#[tactic(auto, using(crate::proofs::Letters::held_within, crate::proofs::Letters::held_long))]
 pub fn ending(line: &[u32], bytes: &mut [u8], g: Growing) -> Growing
     requires { Held bytes.old g × (g.len < most_bytes) × (g.from < g.to) × (g.to ≤ size_in line.now) }
     ensures { ((x : World) → Lined x line.now → work_in bytes.new result ≡ finish (kinds x) x.text (work_in bytes.old g))

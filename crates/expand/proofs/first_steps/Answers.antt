@@ -9,20 +9,12 @@ use Rattle.definition.specs.Notes.{note_none}
 use Rattle.definition.specs.Expansion.{work, capitalized, double}
 use Rattle.definition.specs.Capitals.{capitalized-length}
 use Rattle.definition.proofs.Capitals.{capitals_undoubled}
-use Rattle.rom.specs.Rom.{text-length, bytes-length, text-by, clean_by}
+use Rattle.rom.specs.Rom.{text-length, text-by, clean_by}
 use Rattle.words.specs.Given.{kinds}
 use Rattle.words.specs.Choosing.{choices_of}
 use Rattle.capitals.specs.Spans.{over}
 use Rattle.capitals.specs.Ways.{acts, stays}
 use Rattle.expand.proofs.first_steps.Goals as goal
-
-pub slice_bounds-makes_small-end : goal.slice_bounds-makes_small-end
-slice_bounds-makes_small-end c =
-    let p = c.requires.0 in
-    omega (arith, bytes-length p, p.fits)
-
-pub slice_bounds-makes_small-end-2 : goal.slice_bounds-makes_small-end-2
-slice_bounds-makes_small-end-2 c = sym (text-length c.requires.0)
 
 pub returns-then-makes_small : goal.returns-then-makes_small
 returns-then-makes_small c =

@@ -3,7 +3,6 @@ use mathlib.Core.Bool.{not}
 use mathlib.Core.Path.{refl, sym, ap, ◌∙◌}
 use Prim.Native.Nat.{◌+◌}
 use native.Mathlib.Omega.{arith}
-use Rattle.rom.specs.Rom.{text-length, bytes-length}
 use Rattle.edge_places.specs.Shows.{memory}
 use Rattle.words.specs.Did.{did_by, asked-none}
 use Rattle.words.specs.Given.{seen, size, lent-after}
@@ -13,14 +12,6 @@ use Rattle.steps.specs.Works.{work_in}
 use Rattle.expand.specs.Tests.{ruled-by, ruled-has, no_small, small-ruled, small-ruled-here, small_put}
 use Rattle.expand.proofs.Ways.{told, absent}
 use Rattle.expand.proofs.small_y.Goals as goal
-
-pub slice_bounds-small_target-end : goal.slice_bounds-small_target-end
-slice_bounds-small_target-end c =
-    let p = c.requires.1 in
-    omega (arith, bytes-length p, p.fits)
-
-pub slice_bounds-small_target-end-2 : goal.slice_bounds-small_target-end-2
-slice_bounds-small_target-end-2 c = sym (text-length c.requires.1)
 
 pub returns-then-is_none : goal.returns-then-is_none
 returns-then-is_none c =

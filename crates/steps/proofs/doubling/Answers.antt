@@ -5,7 +5,6 @@ use native.Mathlib.Omega.{arith}
 use lib.ListN.{take}
 use Rattle.definition.specs.Expansion.{small_tsu, doubled}
 use Rattle.definition.specs.Expansion as expansion
-use Rattle.rom.specs.Rom.{text-length, bytes-length}
 use Rattle.steps.specs.Works.{work_in}
 use Rattle.words.specs.Characters.{script-prev, script-here}
 use Rattle.steps.proofs.Outcomes.{at_front, no_tsu, other-script, no_letter, a_letter}
@@ -16,15 +15,6 @@ use Rattle.steps.proofs.doubling.Goals.{else-is_small_tsu-via-then-is_small_tsu+
 pub returns-then-o-eq0 : goal.returns-then-o-eq0
 returns-then-o-eq0 c =
     ((λ u h. at_front (kinds u) u.text c.args.o (work_in c.args.bytes.now c.args.g) (omega arith)), c.requires.0, omega arith, omega arith, refl)
-
-pub slice_bounds-doubling_letter-end : goal.slice_bounds-doubling_letter-end
-slice_bounds-doubling_letter-end c =
-    let p = c.requires.0 in
-    omega (arith, bytes-length p, p.fits)
-
-pub slice_bounds-doubling_letter-end-then-script : goal.slice_bounds-doubling_letter-end-then-script
-slice_bounds-doubling_letter-end-then-script c =
-    sym (text-length c.requires.0)
 
 pub returns-in-Some : goal.returns-in-Some
 returns-in-Some c =

@@ -3,21 +3,12 @@ use mathlib.Core.Path.{sym, ◌∙◌}
 use Prim.Native.Nat.{◌+◌, ◌≤◌}
 use native.Mathlib.Omega.{arith}
 use lib.ListN.{take}
-use Rattle.rom.specs.Rom.{text-length, bytes-length}
 use Rattle.steps.specs.Works.{work_in}
 use Rattle.steps.proofs.Letters.{long-vowel}
 use Rattle.words.specs.Characters.{script-prev, flag_here}
 use Rattle.steps.proofs.Outcomes.{long-told, lengthened, absorbed, neither}
 use Rattle.words.specs.Given.{kinds, size, line-size, char_at}
 use Rattle.steps.proofs.ending.Goals as goal
-
-pub slice_bounds-lengthens-end : goal.slice_bounds-lengthens-end
-slice_bounds-lengthens-end c =
-    let p = c.requires.0 in
-    omega (arith, bytes-length p, p.fits)
-
-pub slice_bounds-lengthens-end-2 : goal.slice_bounds-lengthens-end-2
-slice_bounds-lengthens-end-2 c = sym (text-length c.requires.0)
 
 pub lengthen-requires : goal.lengthen-requires
 lengthen-requires c =

@@ -7,21 +7,12 @@ use Rattle.definition.specs.RuleRows.{rules_of}
 use Rattle.base.specs.Lists.{has}
 use Rattle.definition.specs.Limits.{most_target}
 use Rattle.definition.specs.Expansion.{around_by}
-use Rattle.rom.specs.Rom.{text-length, bytes-length}
 use Rattle.steps.specs.Works.{work_in, Left}
 use Rattle.words.specs.Characters.{flag_prev}
 use Rattle.steps.proofs.Tries.{on, blank_pre, not_framed, unflagged_frame, by_three, by_two, by_one}
 use Rattle.words.specs.Given.{kinds, line-size}
 use Rattle.steps.proofs.vowel_around.Goals as goal
 use Rattle.steps.proofs.vowel_around.Goals.{then-from-eq0-via-then-from-eq0, then-from-eq0-via-else-from-eq0+then-not-is_framed}
-
-pub slice_bounds-is_framed-end : goal.slice_bounds-is_framed-end
-slice_bounds-is_framed-end c =
-    let p = c.requires.1 in
-    omega (arith, bytes-length p, p.fits)
-
-pub slice_bounds-is_framed-end-else-from-eq0 : goal.slice_bounds-is_framed-end-else-from-eq0
-slice_bounds-is_framed-end-else-from-eq0 c = sym (text-length c.requires.1)
 
 pub returns-then-from-eq0 : goal.returns-then-from-eq0
 returns-then-from-eq0 c =

@@ -8,7 +8,6 @@ use Rattle.definition.specs.Limits.{most_target}
 use Rattle.definition.specs.RuleRows.{rules_of}
 use Rattle.definition.specs.Rules.{first_rule}
 use Rattle.definition.specs.Expansion as expansion
-use Rattle.rom.specs.Rom.{text-length, bytes-length}
 use Rattle.rule_choice.specs.Chosen.{chosen_means}
 use Rattle.steps.specs.declared.Growing.{Growing}
 use Rattle.steps.specs.Works.{work_in, Held}
@@ -17,14 +16,6 @@ use Rattle.steps.proofs.Tries.{behind-there, blank_pre, not_before, by_rule, unf
 use Rattle.words.specs.Given.{kinds, size, line-size, char_before}
 use Rattle.steps.proofs.vowel_before.Goals as goal
 use Rattle.steps.proofs.vowel_before.Goals.{then-from-eq0-via-then-from-eq0, then-from-eq0-via-else-from-eq0+then-not-is_before}
-
-pub slice_bounds-is_before-end : goal.slice_bounds-is_before-end
-slice_bounds-is_before-end c =
-    let p = c.requires.1 in
-    omega (arith, bytes-length p, p.fits)
-
-pub slice_bounds-is_before-end-else-from-eq0 : goal.slice_bounds-is_before-end-else-from-eq0
-slice_bounds-is_before-end-else-from-eq0 c = sym (text-length c.requires.1)
 
 pub returns-then-from-eq0 : goal.returns-then-from-eq0
 returns-then-from-eq0 c =
