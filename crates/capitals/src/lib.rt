@@ -21,13 +21,12 @@ const FIRST_SMALL: u32 = 97;
 const LAST_SMALL: u32 = 122;
 
 // Is a romanization in upper case? It has a capital, and no small letter; other bytes are not asked.
+#[tactic(auto, unfolding(definition::specs::Expansion::upper_case, definition::specs::Blocks::small, definition::specs::Texts::capital, rom::specs::Sets::between))]
 fn is_upper_case(text: &[u8]) -> bool
     ensures { result ≡ upper_case text.now }
 {
-    if rom::any_between(text, FIRST_SMALL, LAST_SMALL) {
-        return false;
-    }
     rom::any_between(text, FIRST_CAPITAL, LAST_CAPITAL)
+        && !rom::any_between(text, FIRST_SMALL, LAST_SMALL)
 }
 
 // Is the character at a place of the line lower case?
@@ -43,14 +42,8 @@ pub fn makes_small(line: &[u32], choices: Choices, text: &[u8], span: Span) -> b
     requires { (span.to ≤ size_in line.now) × (span.from < span.to) }
     ensures { (x : World) → Lined x line.now → result ≡ capitalizes (choices_of choices) (kinds x) x.text (over span text.now) }
 {
-    if choices.capitals != 1 {
+    if choices.capitals != 1 || span.from + 1 != span.to {
         return false;
     }
-    if span.from + 1 != span.to {
-        return false;
-    }
-    if is_lower_at(line, span.to + 1) {
-        return is_upper_case(text);
-    }
-    false
+    is_lower_at(line, span.to + 1) && is_upper_case(text)
 }
