@@ -9,7 +9,7 @@ use lib.ListN.{length, get_or, take, drop, drop_of_length-le}
 use lib.Seq.{take_all, drop-cons, drop-drop}
 use Rattle.base.specs.Pick.{pick}
 use Rattle.base.specs.Lists.{put, keep, any, same}
-use Rattle.base.specs.ListLaws.{any_append, keep_append}
+use Rattle.base.specs.ListLaws.{keep_append}
 use Rattle.base.specs.Alls.{All}
 use Rattle.definition.specs.Limits.{most_alternative}
 use Rattle.definition.specs.Texts.{Text}
@@ -34,17 +34,6 @@ use Rattle.offers.specs.declared.Offers.{Offers}
 use Rattle.offers.specs.Texts.{texts, Spoken, Tells, count_of, holding, count-is, texts-count, text_at, note_at, noted}
 use Rattle.offers.proofs.Telling.{same_bytes}
 use Rattle.alternatives.specs.News.{offered, earlier, holding_offers, offer_bytes}
-
--- A text was offered by some rows, or is among the first of another
-module _ (w : Text) (T K : List Text) (f : Bool) (r : f ≡ any (same w) T) where
-  asked : (f || any (same w) K) ≡ any (same w) (T ++ K)
-  asked = ap (λ (y : Bool). y || any (same w) K) r ∙ sym (any_append (same w) T K)
-
-  pub by_rows : f ≡ true → true ≡ any (same w) (T ++ K)
-  by_rows z = sym (ap (λ (y : Bool). y || any (same w) K) z) ∙ asked
-
-  pub by_row : f ≡ false → (t : Bool) → t ≡ any (same w) K → t ≡ any (same w) (T ++ K)
-  by_row z t p = p ∙ sym (ap (λ (y : Bool). y || any (same w) K) z) ∙ asked
 
 -- It is new where it is not the edge's own, and was not offered
 module _ (e : Numbers) (b w : List ℕ) (h : Spoken e b) (l : All Low w) (ws : List Text) where

@@ -41,6 +41,7 @@ pub struct Listed {
 }
 
 // Was a text offered that is number `k` of what a row offers: by the rows before, or by this one?
+#[tactic(auto, using(base::specs::ListLaws::any_append))]
 fn is_offered(
     rules: &[u8],
     code: &[u8],
@@ -61,6 +62,7 @@ fn is_offered(
 }
 
 // Is a text that a row offers new: not the edge's own, and not offered before? What the filter surely doesn't hold was not offered.
+#[tactic(auto, using(lent_bytes::specs::Library::same_texts, crate::proofs::Turns::own_again))]
 fn is_new(
     rules: &[u8],
     code: &[u8],
@@ -85,6 +87,7 @@ fn is_new(
 }
 
 // The row of an alternative, which has its edge's span, where it is new.
+#[tactic(auto, using(utf8::specs::Encodings::low_bytes, crate::proofs::Turns::put_not))]
 fn put_new(out: &mut [u8], at: usize, new: bool, e: Numbers, note: u8, w: &[u8]) -> usize
     requires { Countable at offer_bytes × Short most_alternative w.now }
     ensures { Puts true (put new (other (edge_by e []) note w.now) []) offer_bytes (at, out.old) (result, out.new) }

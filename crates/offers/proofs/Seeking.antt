@@ -62,11 +62,11 @@ module _ (w : Text) (b : Bool) (x : Edge) where
         ∙ put_turn (holds_at code start end r) r (holding code start end R (row + rule_size (drop row R)) (left - 1)))
 
 -- To compare with two texts, one behind the other, is to compare with each
-pub joined-short : (w u v : List ℕ) → length w < length u → false ≡ same w (u ++ v)
+pub joined_short : (w u v : List ℕ) → length w < length u → false ≡ same w (u ++ v)
 unfolding same
-joined-short w [] v h = absurd (omega arith)
-joined-short [] (y ∷ u) v h = refl
-joined-short (x ∷ w) (y ∷ u) v h = sym (and_false (eqb x y)) ∙ ap (λ (b : Bool). eqb x y && b) (joined-short w u v (omega arith))
+joined_short w [] v h = absurd (omega arith)
+joined_short [] (y ∷ u) v h = refl
+joined_short (x ∷ w) (y ∷ u) v h = sym (and_false (eqb x y)) ∙ ap (λ (b : Bool). eqb x y && b) (joined_short w u v (omega arith))
   where
     and_false : (b : Bool) → (b && false) ≡ false
     and_false true = refl

@@ -43,13 +43,13 @@ module _ (e : Numbers) (b w : List ℕ) where
   abbrev X : Edge
   X = edge_by e b
 
-  pub core-none : (e.note ≡ note_core → ⊥) → false ≡ cored X w
+  pub core_none : (e.note ≡ note_core → ⊥) → false ≡ cored X w
   unfolding cored edge_by
-  core-none h = sym (ap (λ (y : Bool). y && same w (take e.core (decoded b))) (ne_eqb e.note note_core h))
+  core_none h = sym (ap (λ (y : Bool). y && same w (take e.core (decoded b))) (ne_eqb e.note note_core h))
 
-  pub core-same : Spoken e b → e.note ≡ note_core → same w (take e.core b) ≡ cored X w
+  pub core_same : Spoken e b → e.note ≡ note_core → same w (take e.core b) ≡ cored X w
   unfolding cored edge_by
-  core-same h n = sym
+  core_same h n = sym
       (ap (λ (y : Bool). y && same w (take e.core (decoded b))) (eq-eqb e.note note_core n)
       ∙ ap (λ l. same w (take e.core l)) (core-own h n))
 
@@ -117,9 +117,9 @@ module _ (s : List ℕ) where
   unfolding text_where pick
   end_not b e = sym (ap (is (λ u. same u (decoded b))) (end_flag false e))
 
-  pub end-has : has R.end_target ≡ rule_flag s end_target_bit
+  pub end_has : has R.end_target ≡ rule_flag s end_target_bit
   unfolding text_where pick
-  end-has = go (rule_flag s end_target_bit) refl
+  end_has = go (rule_flag s end_target_bit) refl
     where
       go : (f : Bool) → rule_flag s end_target_bit ≡ f → has R.end_target ≡ f
       go true e = ap has (end_flag true e)
@@ -132,13 +132,6 @@ module _ (s : List ℕ) where
   pub other-short : Worded R → (k : ℕ) → Short most_target (get_or (others s) k [])
   unfolding rule_of
   other-short h k = All_getD (Short most_target) (others s) k [] h.others (short_none most_target)
-
-  -- Is there one, where readings are chosen?
-  pub read_so : (y : Bool) → y ≡ true → rule_flag s end_target_bit ≡ (y && has R.end_target)
-  read_so y e = sym (ap (λ (c : Bool). c && has R.end_target) e ∙ end-has)
-
-  pub read_not : (y : Bool) → y ≡ false → false ≡ (y && has R.end_target)
-  read_not y e = sym (ap (λ (c : Bool). c && has R.end_target) e)
 
   -- What it offers
   module _ (b : Bool) (x : Edge) where
@@ -178,11 +171,11 @@ module _ (s : List ℕ) where
     }
 
 -- An edge adds nothing to what is no alternative, or where the target is not its core
-pub nothing-behind : (o : Offers) (f : Offer) (core : ℕ) (b : List ℕ) → ((k : ℕ) → f ≡ Alternative k → o.cored ≡ false) → [] ≡ vowel_behind o f core b
+pub nothing_behind : (o : Offers) (f : Offer) (core : ℕ) (b : List ℕ) → ((k : ℕ) → f ≡ Alternative k → o.cored ≡ false) → [] ≡ vowel_behind o f core b
 unfolding pick
-nothing-behind o (Alternative k) core b h = sym (ap (λ (z : Bool). pick z (drop core b) []) (h k refl))
-nothing-behind o EndTarget core b h = refl
-nothing-behind o Target core b h = refl
+nothing_behind o (Alternative k) core b h = sym (ap (λ (z : Bool). pick z (drop core b) []) (h k refl))
+nothing_behind o EndTarget core b h = refl
+nothing_behind o Target core b h = refl
 
 -- The text of number `k`
 module _ (s : List ℕ) (y : Bool) (e : Numbers) (b : List ℕ) (o : Offers) (k : ℕ) (h : Tells y (edge_by e b) (rule_of s) o) (l : k < count_of o) where
@@ -229,7 +222,7 @@ module _ (s : List ℕ) (y : Bool) (e : Numbers) (b : List ℕ) (o : Offers) (k 
 
   -- behind the alternatives the end target, where it is offered
   pub end_flag_there : o.reading ≡ true → rule_flag s end_target_bit ≡ true
-  end_flag_there z = sym (end-has s) ∙ and_right (is (λ w. y && same w x.text) r.target) _ (sym h.reading ∙ z)
+  end_flag_there z = sym (end_has s) ∙ and_right (is (λ w. y && same w x.text) r.target) _ (sym h.reading ∙ z)
 
   pub text-reading : k ≡ o.others → o.reading ≡ true → U s ≡ offer_at y x r k
   unfolding other
@@ -247,24 +240,24 @@ module _ (s : List ℕ) (y : Bool) (e : Numbers) (b : List ℕ) (o : Offers) (k 
   text-target q n = sym (text_at h k d l ∙ ap (λ (c : Edge). c.text) (by_target h there k d (at_target o k q n l) l))
 
   -- So the row has it, the edge's core lies in its text, and the text and what is behind it are what is offered
-  pub has-it : Placed s → (f : Offer) → Numbered o k f → Has s f
-  has-it p (Alternative j) q = record { placed = p; there = subst (λ n. n < length (others s)) (sym q.0) (other-there q.1) }
-  has-it p EndTarget q = (p, end_flag_there (at-reading o k q.1).1)
-  has-it p Target q = (p, flag_there)
+  pub has_it : Placed s → (f : Offer) → Numbered o k f → Has s f
+  has_it p (Alternative j) q = record { placed = p; there = subst (λ n. n < length (others s)) (sym q.0) (other-there q.1) }
+  has_it p EndTarget q = (p, end_flag_there (at-reading o k q.1).1)
+  has_it p Target q = (p, flag_there)
 
-  pub core-inside : Spoken e b → o.cored ≡ true → e.core ≤ length b
-  core-inside p z = (p.core (note-there p z)).1
+  pub core_inside : Spoken e b → o.cored ≡ true → e.core ≤ length b
+  core_inside p z = (p.core (note-there p z)).1
 
-  pub parts-are : Spoken e b → (f : Offer) → Numbered o k f → text_in s f ++ vowel_behind o f e.core b ≡ offer_at y x r k
-  parts-are p (Alternative j) q =
+  pub parts_are : Spoken e b → (f : Offer) → Numbered o k f → text_in s f ++ vowel_behind o f e.core b ≡ offer_at y x r k
+  parts_are p (Alternative j) q =
       ap (λ n. get_or (others s) n [] ++ pick o.cored (drop e.core b) []) q.0
       ∙ sym (text-other q.1 ∙ ap (λ l. get_or (others s) k [] ++ l) (vowel-own p))
-  parts-are p EndTarget q = let z = at-reading o k q.1 in append-nil (U s) ∙ text-reading z.0 z.1
-  parts-are p Target q = append-nil (W s) ∙ text-target q.0 q.1
+  parts_are p EndTarget q = let z = at-reading o k q.1 in append-nil (U s) ∙ text-reading z.0 z.1
+  parts_are p Target q = append-nil (W s) ∙ text-target q.0 q.1
 
-  pub parts-fit : Spoken e b → Worded r → (f : Offer) → Numbered o k f
+  pub parts_fit : Spoken e b → Worded r → (f : Offer) → Numbered o k f
       → length (text_in s f) + length (vowel_behind o f e.core b) ≤ most_alternative
-  parts-fit p w f q =
-      let z = ap length (parts-are p f q) in
+  parts_fit p w f q =
+      let z = ap length (parts_are p f q) in
       let n = (text-short p w y k).long in
       omega (arith, z, n, length-append (text_in s f) (vowel_behind o f e.core b))

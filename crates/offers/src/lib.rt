@@ -91,6 +91,7 @@ impl Offer {
 }
 
 // May a row offer anything: has it an end-of-syllable target, or alternatives? Most have neither, and are not looked into.
+#[tactic(auto, using(crate::proofs::Telling::end_has, crate::proofs::Telling::others_are), unfolding(crate::specs::Texts::offering))]
 pub fn may_offer(rules: &[u8], row: usize) -> bool
     ensures { result ≡ offering (rule_of (drop row rules.now)) }
 {
@@ -98,6 +99,7 @@ pub fn may_offer(rules: &[u8], row: usize) -> bool
 }
 
 // Is a target the core of an edge?
+#[tactic(auto, using(lent_bytes::specs::Library::same_texts, crate::proofs::Telling::core_none, crate::proofs::Telling::core_same))]
 fn is_core(e: Numbers, text: &[u8], w: &[u8]) -> bool
     requires { Spoken e text.now }
     ensures { result ≡ cored (edge_by e text.now) w.now }
@@ -106,6 +108,7 @@ fn is_core(e: Numbers, text: &[u8], w: &[u8]) -> bool
 }
 
 // Is the row's end-of-syllable target the edge's text?
+#[tactic(auto, using(lent_bytes::specs::Library::same_texts, crate::proofs::Telling::end_is))]
 fn is_at_end(rules: &[u8], row: usize, text: &[u8]) -> bool
     requires { Row (drop row rules.now) × TextBytes text.now }
     ensures { result ≡ is (λ u. same u (decoded text.now)) (rule_of (drop row rules.now)).end_target }
@@ -115,6 +118,7 @@ fn is_at_end(rules: &[u8], row: usize, text: &[u8]) -> bool
 }
 
 // Are readings chosen, and has the row an end-of-syllable target?
+#[tactic(auto, using(crate::proofs::Telling::end_has))]
 fn is_read(rules: &[u8], row: usize, readings: bool) -> bool
     ensures { result ≡ (readings && has (rule_of (drop row rules.now)).end_target) }
 {
@@ -167,6 +171,7 @@ fn text_in<'a>(rules: &'a [u8], row: usize, offer: Offer) -> &'a [u8]
 }
 
 // What the edge adds behind it: its vowel behind an alternative, where the row's target is its core.
+#[tactic(auto, using(crate::proofs::Telling::nothing_behind), unfolding(base::specs::Pick::pick))]
 fn vowel_behind<'a>(o: Offers, offer: Offer, e: Numbers, text: &'a [u8]) -> &'a [u8]
     requires { o.cored ≡ true → e.core ≤ length text.now }
     ensures { result.now ≡ vowel_behind o offer e.core text.now }
@@ -178,6 +183,7 @@ fn vowel_behind<'a>(o: Offers, offer: Offer, e: Numbers, text: &'a [u8]) -> &'a 
 }
 
 // Puts text number `k` of what a row offers to the front, and tells its length.
+#[tactic(auto, using(crate::proofs::Telling::has_it, crate::proofs::Telling::core_inside, crate::proofs::Telling::parts_fit))]
 pub fn put_offer(
     bytes: &mut [u8],
     rules: &[u8],
@@ -214,6 +220,7 @@ fn is_joined(w: &[u8], u: &[u8], v: &[u8]) -> bool
 }
 
 // Is a text number `k` of what a row offers? It is compared where it stands.
+#[tactic(auto, using(crate::proofs::Telling::has_it, crate::proofs::Telling::core_inside, crate::proofs::Telling::parts_are))]
 fn is_offer(
     rules: &[u8],
     row: usize,

@@ -9,15 +9,9 @@ use Rattle.edge.specs.Slots.{edge_by}
 use Rattle.lent_bytes.specs.Library.{same_texts}
 use Rattle.offers.specs.Texts.{texts}
 use Rattle.alternatives.specs.News.{offered}
-use Rattle.alternatives.proofs.Turns.{own_again, other_again}
+use Rattle.alternatives.proofs.Turns.{other_again}
 use Rattle.alternatives.proofs.is_new.Goals as goal
 use Rattle.alternatives.proofs.is_new.Goals.{then-may_hold, else-may_hold}
-
-pub returns-then-eq : goal.returns-then-eq
-returns-then-eq c =
-    let x = edge_by c.args.e c.args.text.now in
-    let ws = offered x c.args.code.now c.args.asked c.args.rules.now c.args.before ++ take c.args.k (texts (offers c.args.asked.readings x (rule_of (drop c.args.row c.args.rules.now)))) in
-    own_again c.args.e c.args.text.now c.args.w.now c.requires.2 c.requires.3 ws (sym (c.eq.ensures ∙ same_texts _ _) ∙ c.if-eq.true)
 
 pub returns : goal.returns
 returns c =

@@ -3,11 +3,11 @@ use mathlib.Core.Bool.{true, false}
 use mathlib.Core.Path.{refl, sym, ◌∙◌}
 use native.Mathlib.Omega.{arith}
 use Rattle.lent_bytes.specs.Library.{same_texts}
-use Rattle.offers.proofs.Seeking.{joined-short, joined_parts}
+use Rattle.offers.proofs.Seeking.{joined_short, joined_parts}
 use Rattle.offers.proofs.is_joined.Goals as goal
 
 pub returns-then-w-n : goal.returns-then-w-n
-returns-then-w-n c = let a = c.args in joined-short a.w.now a.u.now a.v.now (omega arith)
+returns-then-w-n c = let a = c.args in joined_short a.w.now a.u.now a.v.now (omega arith)
 
 pub returns-then-eq : goal.returns-then-eq
 returns-then-eq c =
