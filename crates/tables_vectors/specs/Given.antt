@@ -1,5 +1,5 @@
 -- What a vector gives, and whether it is what the check of its table answered.
-use Rattle.std.specs.Prelude.{Bool, ◌&&◌, List, ℕ, ◌+◌, eqb, leb, get_or, take, drop}
+use Rattle.std.specs.Prelude.{Bool, ◌&&◌, List, ℕ, ◌+◌, eqb, leb, get_or, take, drop, Result, Ok, Err}
 use Rattle.std.proofs.Math.Option.{Option, none, some}
 use Rattle.base.specs.Pick.{pick}
 use Rattle.base.specs.Big.{be3}
@@ -8,13 +8,12 @@ use Rattle.definition.specs.RuleFaults.{rule_fault}
 use Rattle.definition.specs.ClassRows.{class_fault}
 use Rattle.definition.specs.VowelRows.{vowel_fault}
 use Rattle.definition.specs.DecompositionRows.{decomposition_fault}
-use Rattle.tables_vectors.specs.declared.Judged.{Judged}
-use Rattle.tables_vectors.specs.declared.Judged.TheVariants.{Valid, Wrong}
+use Rattle.tables_vectors.specs.declared.Refused.{Refused}
 
 -- a refusal, or none
-abbrev pub judged_means : Judged → Option Refusal
-judged_means Valid = none
-judged_means (Wrong n p) = some (refuse n p)
+abbrev pub judged_means : Result (Unit {0}) Refused → Option Refusal
+judged_means (Ok u) = none
+judged_means (Err r) = some (refuse r.number r.at)
 
 -- what refuses a table: kind 0 rules, 1 classes, 2 vowels, else decompositions
 unfoldable pub fault_of : ℕ → List ℕ → Option Refusal

@@ -11,9 +11,9 @@ ghost use Rattle.rule_table_check.specs.Told.{rules_means};
 ghost use Rattle.rule_table.specs.Index.{index_entries};
 ghost use Rattle.tables_vectors.specs.Given.{judged_means, fault_of, is_given, is_right};
 
-use rule_table_check::RulesRead;
+use rule_row_faults::RuleFault;
 use std::io;
-use table_blocks::TableRead;
+use table_blocks::TableFault;
 
 // The numbers that refuse a class table, a vowel table and a decomposition table.
 const REFUSED_CLASSES: u64 = 3;
@@ -22,11 +22,11 @@ const REFUSED_VOWELS: u64 = 4;
 
 const REFUSED_DECOMPOSITIONS: u64 = 13;
 
-// What a check says of a table: nothing, or the number that refuses it and the place.
-#[derive(Drop)]
-enum Judged {
-    Valid,
-    Wrong(u64, usize),
+// A table that is refused: the number that refuses it, and the place of its fault.
+#[derive(Clone, Copy)]
+struct Refused {
+    number: u64,
+    at: usize,
 }
 
 // A vector that was run: how many bytes it takes, and whether all was as given.
@@ -58,21 +58,28 @@ fn three(input: &[u8], at: usize) -> usize
 }
 
 // A rule table has its faults' own numbers, another table one.
-fn of_rules(read: RulesRead) -> Judged
+fn of_rules(read: Result<(), RuleFault>) -> Result<(), Refused>
     ensures { judged_means result ≡ rules_means read }
 {
     match read {
-        RulesRead::Valid => Judged::Valid,
-        RulesRead::Wrong(fault, at) => Judged::Wrong(rule_row_faults::fault_number(fault), at),
+        Ok(()) => Ok(()),
+        Err(fault) => Err(Refused {
+            number: fault.kind.number(),
+            at: fault.at,
+        }),
     }
 }
 
-fn of_table(number: u64, read: TableRead) -> Judged
+#[tactic(auto, unfolding(definition::specs::Refusals::placed, table_blocks::specs::Faults::table_means))]
+fn of_table(number: u64, read: Result<(), TableFault>) -> Result<(), Refused>
     ensures { judged_means result ≡ placed number (table_means read) }
 {
     match read {
-        TableRead::Valid => Judged::Valid,
-        TableRead::Fault(at) => Judged::Wrong(number, at),
+        Ok(()) => Ok(()),
+        Err(fault) => Err(Refused {
+            number,
+            at: fault.at,
+        }),
     }
 }
 
@@ -83,7 +90,7 @@ fn no_index() -> [u32; table_decompositions::INDEX_ENTRIES]
     [0u32; table_decompositions::INDEX_ENTRIES]
 }
 
-fn checked_decompositions(table: &[u8]) -> Judged
+fn checked_decompositions(table: &[u8]) -> Result<(), Refused>
     ensures { judged_means result ≡ placed refused_decompositions (decomposition_fault table.now) }
 {
     let mut index = no_index();
@@ -92,38 +99,26 @@ fn checked_decompositions(table: &[u8]) -> Judged
 }
 
 // What the check says of a table: 0 rules, 1 classes, 2 vowels, 3 decompositions.
-fn checked(kind: usize, table: &[u8]) -> Judged
+#[tactic(auto, unfolding(crate::specs::Given::fault_of, base::specs::Pick::pick))]
+fn checked(kind: usize, table: &[u8]) -> Result<(), Refused>
     ensures { judged_means result ≡ fault_of kind table.now }
 {
-    if kind == 0 {
-        return of_rules(rule_table_check::check_rules(table));
+    match kind {
+        0 => of_rules(rule_table_check::check_rules(table)),
+        1 => of_table(REFUSED_CLASSES, table_classes::check_classes(table)),
+        2 => of_table(REFUSED_VOWELS, table_vowels::check_vowels(table)),
+        _ => checked_decompositions(table),
     }
-    if kind == 1 {
-        return of_table(REFUSED_CLASSES, table_classes::check_classes(table));
-    }
-    if kind == 2 {
-        return of_table(REFUSED_VOWELS, table_vowels::check_vowels(table));
-    }
-    checked_decompositions(table)
 }
 
 // Is the answer the one given: 0 and no place, or the number that refuses and its place?
-fn is_answer(judged: Judged, number: usize, place: usize) -> bool
+#[tactic(auto, unfolding(crate::specs::Given::is_given))]
+fn is_answer(judged: Result<(), Refused>, number: usize, place: usize) -> bool
     ensures { result ≡ is_given (judged_means judged) number place }
 {
     match judged {
-        Judged::Valid => {
-            if number == 0 {
-                return place == 0;
-            }
-            return false;
-        }
-        Judged::Wrong(refused, at) => {
-            if refused == number as u64 {
-                return at == place;
-            }
-            return false;
-        }
+        Ok(()) => number == 0 && place == 0,
+        Err(refused) => refused.number == number as u64 && refused.at == place,
     }
 }
 
@@ -163,6 +158,7 @@ fn run_all(input: &[u8]) -> Tally
     let mut at = 0;
     let mut vectors = 0;
     let mut differ = 0;
+    // a `while`: each turn moves by the bytes of the vector that was run
     while at < input.len() {
         let ran = run_one(input, at);
         if !ran.right {

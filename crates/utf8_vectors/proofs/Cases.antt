@@ -2,49 +2,18 @@
 use mathlib.Core.Bool.{Bool, true, false, ◌&&◌}
 use mathlib.Core.Path.{◌≡◌, refl, sym, ap, ◌∙◌}
 use mathlib.Core.List.{List}
-use Prim.Native.Nat.{ℕ, suc, ◌+◌, ◌*◌, ◌≤◌, ◌<◌}
+use Prim.Native.Nat.{ℕ, suc, ◌+◌, ◌≤◌, ◌<◌}
 use native.Mathlib.Numerals.{add-one}
-use lib.Dec.{eqb}
 use lib.ListN.{length, get_or, take, drop, replicate, drop_of_length-le}
 use lib.Seq.{drop-cons}
-use borrow.Author.Tests.{eq-eqb, ne_eqb, lt-ltb, le-ltb}
-use Rattle.base.specs.Pick.{pick}
-use Rattle.base.specs.Big.{be3}
+use Rattle.std.specs.Prelude.{Result}
 use Rattle.definition.specs.Utf8.{decoded}
 use Rattle.utf8.specs.Read.{answered}
 use Rattle.utf8.specs.Puts.{puts}
-use Rattle.utf8.specs.declared.Decoded.{Decoded}
-use Rattle.utf8.specs.declared.Decoded.TheVariants.{Characters, Bad}
+use Rattle.utf8.specs.declared.NotUtf8.{NotUtf8}
 use Rattle.utf8_vectors.specs.Given.{empty, is_given, is_place, are_places, is_right}
 
--- An answer that is given as such, and one that is not
-module _ (d : Decoded) (n kind number : ℕ) where
-  pub characters : d ≡ Characters n → kind ≡ 0 → eqb n number ≡ is_given d kind number
-  unfolding is_given
-  characters e k = sym (ap (λ (x : Decoded). is_given x kind number) e ∙ ap (λ (t : Bool). t && eqb n number) (eq-eqb kind 0 k))
-
-  pub no_characters : d ≡ Characters n → (kind ≡ 0 → ⊥) → false ≡ is_given d kind number
-  unfolding is_given
-  no_characters e k = sym (ap (λ (x : Decoded). is_given x kind number) e ∙ ap (λ (t : Bool). t && eqb n number) (ne_eqb kind 0 k))
-
-  pub bad : d ≡ Bad n → kind ≡ 1 → eqb n number ≡ is_given d kind number
-  unfolding is_given
-  bad e k = sym (ap (λ (x : Decoded). is_given x kind number) e ∙ ap (λ (t : Bool). t && eqb n number) (eq-eqb kind 1 k))
-
-  pub not_bad : d ≡ Bad n → (kind ≡ 1 → ⊥) → false ≡ is_given d kind number
-  unfolding is_given
-  not_bad e k = sym (ap (λ (x : Decoded). is_given x kind number) e ∙ ap (λ (t : Bool). t && eqb n number) (ne_eqb kind 1 k))
-
 module _ (s : List ℕ) (at count i : ℕ) where
-  -- A place for which a character is given, and one for which none is
-  pub given-place : (c x : ℕ) → i < count → x ≡ be3 (drop (at + 3 * i) s) 0 → eqb c x ≡ is_place s at count i c
-  unfolding is_place pick
-  given-place c x h e = sym (rw (lt-ltb i count h) (ap (eqb c) (sym e)))
-
-  pub empty-place : (c : ℕ) → count ≤ i → eqb c empty ≡ is_place s at count i c
-  unfolding is_place pick
-  empty-place c h = sym (rw (le-ltb i count h) refl)
-
   module _ (l : List ℕ) where
     -- no place is left; the first one is right; it is not
     pub over : length l ≤ i → true ≡ are_places s at count i (drop i l)
@@ -67,11 +36,11 @@ module _ (s : List ℕ) (at len : ℕ) where
   abbrev text : List ℕ
   text = take len (drop at s)
 
-  pub told : (t : List ℕ) (d : Decoded) (k n : ℕ) (b : Bool) → b ≡ is_given d k n → t ≡ text → d ≡ answered t
+  pub told : (t : List ℕ) (d : Result ℕ NotUtf8) (k n : ℕ) (b : Bool) → b ≡ is_given d k n → t ≡ text → d ≡ answered t
       → k ≡ get_or s (at + len) 0 → n ≡ get_or s (at + len + 1) 0
       → b ≡ is_given (answered text) (get_or s (at + len) 0) (get_or s (at + len + 1) 0)
   told t d k n b e h a f g =
-      e ∙ ap (λ (x : Decoded). is_given x k n) (a ∙ ap answered h) ∙ ap (λ (x : ℕ). is_given (answered text) x n) f
+      e ∙ ap (λ (x : Result ℕ NotUtf8). is_given x k n) (a ∙ ap answered h) ∙ ap (λ (x : ℕ). is_given (answered text) x n) f
       ∙ ap (is_given (answered text) (get_or s (at + len) 0)) g
 
   pub wrong_answer : false ≡ is_given (answered text) (get_or s (at + len) 0) (get_or s (at + len + 1) 0) → false ≡ is_right s at len

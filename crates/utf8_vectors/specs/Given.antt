@@ -1,10 +1,9 @@
 -- What a vector gives, and whether it is what the decoder answered.
-use Rattle.std.specs.Prelude.{Bool, true, ◌&&◌, List, [], ◌∷◌, ℕ, ◌+◌, ◌*◌, eqb, ltb, get_or, take, drop, replicate}
+use Rattle.std.specs.Prelude.{Bool, true, ◌&&◌, List, [], ◌∷◌, ℕ, ◌+◌, ◌*◌, eqb, ltb, get_or, take, drop, replicate, Result, Ok, Err}
 use Rattle.base.specs.Pick.{pick}
 use Rattle.base.specs.Big.{be3}
 use Rattle.definition.specs.Utf8.{decoded}
-use Rattle.utf8.specs.declared.Decoded.{Decoded}
-use Rattle.utf8.specs.declared.Decoded.TheVariants.{Characters, Bad}
+use Rattle.utf8.specs.declared.NotUtf8.{NotUtf8}
 use Rattle.utf8.specs.Read.{answered}
 use Rattle.utf8.specs.Puts.{puts}
 
@@ -13,9 +12,9 @@ abbrev pub empty : ℕ
 empty = 7
 
 -- an answer: 0 and the number of characters, or 1 and the offset of the bad sequence
-unfoldable pub is_given : Decoded → ℕ → ℕ → Bool
-is_given (Characters n) kind number = eqb kind 0 && eqb n number
-is_given (Bad at) kind number = eqb kind 1 && eqb at number
+unfoldable pub is_given : Result ℕ NotUtf8 → ℕ → ℕ → Bool
+is_given (Ok n) kind number = eqb kind 0 && eqb n number
+is_given (Err bad) kind number = eqb kind 1 && eqb bad.at number
 
 -- Place `i` of the room, of which `count` are given at `at`, three bytes each
 unfoldable pub is_place : List ℕ → ℕ → ℕ → ℕ → ℕ → Bool

@@ -7,11 +7,13 @@ ghost use Rattle.base.specs.Big.{be3};
 ghost use Rattle.utf8_vectors.specs.Given.{is_given, is_place, are_places, is_right};
 
 use std::io;
-use utf8::Decoded;
+use utf8::NotUtf8;
 
 // What stands in `chars` where no character was put.
 const EMPTY: u32 = 7;
 
+// The vectors of tables_vectors are run alike; each program stands alone, without a crate for the two.
+//
 // A vector that was run: how many bytes it takes, and whether all was as given.
 #[derive(Drop)]
 struct Ran {
@@ -41,26 +43,18 @@ fn character(input: &[u8], at: usize) -> usize
 }
 
 // Is the answer the one given: 0 and the number of characters, or 1 and the offset of the bad sequence?
-fn is_answer(d: Decoded, kind: usize, number: usize) -> bool
-    ensures { result ≡ is_given d kind number }
+#[tactic(auto, unfolding(crate::specs::Given::is_given))]
+fn is_answer(answer: Result<usize, NotUtf8>, kind: usize, number: usize) -> bool
+    ensures { result ≡ is_given answer kind number }
 {
-    match d {
-        Decoded::Characters(n) => {
-            if kind == 0 {
-                return n == number;
-            }
-            return false;
-        }
-        Decoded::Bad(at) => {
-            if kind == 1 {
-                return at == number;
-            }
-            return false;
-        }
+    match answer {
+        Ok(n) => kind == 0 && n == number,
+        Err(bad) => kind == 1 && bad.at == number,
     }
 }
 
 // Does a place hold the character given for it, or nothing where none is given?
+#[tactic(auto, unfolding(crate::specs::Given::is_place, base::specs::Pick::pick))]
 fn is_place(input: &[u8], at: usize, count: usize, i: usize, c: u32) -> bool
     requires { (at < 0x80000000) × (i < 0x10000000) }
     ensures { result ≡ is_place input.now at count i c }
@@ -76,11 +70,8 @@ fn are_chars(input: &[u8], at: usize, count: usize, chars: &[u32]) -> bool
     requires { (at < 0x80000000) × (length chars.now < 0x10000000) }
     ensures { result ≡ are_places input.now at count 0 chars.now }
 {
-    let mut i = 0;
-    while i < chars.len() {
-        if is_place(input, at, count, i, chars[i]) {
-            i += 1;
-        } else {
+    for (i, c) in chars.iter().enumerate() {
+        if !is_place(input, at, count, i, *c) {
             return false;
         }
     }
@@ -93,12 +84,10 @@ fn is_right(input: &[u8], at: usize, len: usize) -> bool
     ensures { result ≡ is_right input.now at len }
 {
     let mut chars = [EMPTY; 16];
-    let d = utf8::decode(lent_bytes::part(input, at, len), &mut chars);
+    let answer = utf8::decode(lent_bytes::part(input, at, len), &mut chars);
     let end = at + len;
-    if is_answer(d, byte(input, end), byte(input, end + 1)) {
-        return are_chars(input, end + 3, byte(input, end + 2), &chars);
-    }
-    false
+    is_answer(answer, byte(input, end), byte(input, end + 1))
+        && are_chars(input, end + 3, byte(input, end + 2), &chars)
 }
 
 // One vector. Where it runs past the end it is not right.
@@ -128,6 +117,7 @@ fn run_all(input: &[u8]) -> Tally
     let mut at = 0;
     let mut vectors = 0;
     let mut differ = 0;
+    // a `while`: each turn moves by the bytes of the vector that was run
     while at < input.len() {
         let ran = run_one(input, at);
         if !ran.right {

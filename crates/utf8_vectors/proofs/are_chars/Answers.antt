@@ -7,12 +7,12 @@ use Rattle.utf8_vectors.proofs.are_chars.Goals as goal
 pub loop-i-preserved : goal.loop-i-preserved
 loop-i-preserved c =
     right-place c.args.input.now c.args.at c.args.count c.loop-i.i c.args.chars.now (omega arith)
-    (sym c.if-is_place.true ∙ c.is_place.ensures) ∙ c.loop-i.invariant
+    (sym c.if-not-is_place.false ∙ c.is_place.ensures) ∙ c.loop-i.invariant
 
-pub returns-else-is_place : goal.returns-else-is_place
-returns-else-is_place c =
+pub returns-then-not-is_place : goal.returns-then-not-is_place
+returns-then-not-is_place c =
     wrong-place c.args.input.now c.args.at c.args.count c.loop-i.i c.args.chars.now (omega arith)
-    (sym c.if-is_place.false ∙ c.is_place.ensures) ∙ c.loop-i.invariant
+    (sym c.if-not-is_place.true ∙ c.is_place.ensures) ∙ c.loop-i.invariant
 
 pub returns : goal.returns
 returns c =

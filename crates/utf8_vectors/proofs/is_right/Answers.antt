@@ -7,11 +7,11 @@ pub returns-then-is_answer : goal.returns-then-is_answer
 returns-then-is_answer c =
     c.are_chars.ensures ∙ right_answer c.args.input.now c.args.at c.args.len
     (told c.args.input.now c.args.at c.args.len _ _ _ _ _ (sym c.if-is_answer.true ∙ c.is_answer.ensures)
-    c.part.ensures c.decode-d.ensures.answer c.byte.ensures.0 c.byte-2.ensures.0)
-    c.byte-then-is_answer.result _ _ c.byte-then-is_answer.ensures.0 c.part.ensures c.decode-d.ensures.room
+    c.part.ensures c.decode-answer.ensures.answer c.byte.ensures.0 c.byte-2.ensures.0)
+    c.byte-then-is_answer.result _ _ c.byte-then-is_answer.ensures.0 c.part.ensures c.decode-answer.ensures.room
 
-pub returns : goal.returns
-returns c =
-    wrong_answer c.args.input.now c.args.at c.args.len
+pub returns-else-is_answer : goal.returns-else-is_answer
+returns-else-is_answer c =
+    c.if-is_answer.false ∙ wrong_answer c.args.input.now c.args.at c.args.len
     (told c.args.input.now c.args.at c.args.len _ _ _ _ _ (sym c.if-is_answer.false ∙ c.is_answer.ensures)
-    c.part.ensures c.decode-d.ensures.answer c.byte.ensures.0 c.byte-2.ensures.0)
+    c.part.ensures c.decode-answer.ensures.answer c.byte.ensures.0 c.byte-2.ensures.0)
