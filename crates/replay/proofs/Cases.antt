@@ -1,4 +1,4 @@
--- Zeros byte by byte, and the tests of an answer one by one.
+-- The tests of an answer one by one.
 use mathlib.Core.Bool.{Bool, true, false, ◌&&◌, true≢false}
 use mathlib.Core.Path.{◌≡◌, refl, sym, ap, ◌∙◌}
 use mathlib.Core.List.{List}
@@ -12,21 +12,6 @@ use Rattle.base.specs.Lists.{all, same}
 use Rattle.lent_bytes.specs.Parts.{part_or_none}
 use Rattle.jettyfig.specs.declared.Answer.{Answer}
 use Rattle.replay.specs.Given.{number_at, zeros, are_numbers, is_right_by, is_right}
-
-module _ (s : List ℕ) (i : ℕ) where
-  pub over : length s ≤ i → true ≡ zeros (drop i s)
-  unfolding zeros all
-  over h = sym (rw (drop_of_length-le s {i = i} h) refl)
-
-  pub zero_byte : i < length s → get_or s i 0 ≡ 0 → zeros (drop (i + 1) s) ≡ zeros (drop i s)
-  unfolding zeros all
-  zero_byte h e = sym (rw (drop-cons s i 0 h, add-one)
-      (ap (λ (t : Bool). t && all (eqb 0) (drop (suc i) s)) (eq-eqb 0 (get_or s i 0) (sym e))))
-
-  pub other_byte : i < length s → (get_or s i 0 ≡ 0 → ⊥) → false ≡ zeros (drop i s)
-  unfolding zeros all
-  other_byte h k = sym (rw (drop-cons s i 0 h)
-      (ap (λ (t : Bool). t && all (eqb 0) (drop (suc i) s)) (ne_eqb 0 (get_or s i 0) (λ e. k (sym e)))))
 
 -- The numbers of an answer up to one that differs
 module _ (s : List ℕ) (at : ℕ) (a : Answer) where

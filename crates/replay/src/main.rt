@@ -2,7 +2,7 @@
 // output or rooms are other than given. Slots, text room and output are full of rubbish before each call.
 #![tactic(auto)]
 
-ghost use Rattle.std.specs.Prelude.{◌≡◌, ◌+◌, ◌<◌, length, drop};
+ghost use Rattle.std.specs.Prelude.{◌≡◌, ◌+◌, ◌<◌, length};
 ghost use Rattle.replay.specs.Given.{number_at, zeros, are_numbers, is_right};
 
 use jettyfig::Answer;
@@ -11,7 +11,8 @@ use std::io;
 // What stands in the rooms before a call.
 const RUBBISH: u8 = 165;
 
-// A call that was run: where the next one begins, and whether all was as given.
+// A call that was run: where the next one begins, and whether all was as given. The next begins there either way, so that this is no
+// Option.
 #[derive(Drop)]
 struct Ran {
     next: usize,
@@ -32,6 +33,11 @@ fn number(input: &[u8], at: usize) -> usize
     base::four(input, at, 0) as usize
 }
 
+// A byte; past the end it is 0.
+fn byte(input: &[u8], at: usize) -> u8 {
+    input.get(at).copied().unwrap_or(0)
+}
+
 // A length and so many bytes behind it.
 fn field<'a>(input: &'a [u8], at: usize) -> &'a [u8]
     requires { at < 1000000000000 }
@@ -39,27 +45,11 @@ fn field<'a>(input: &'a [u8], at: usize) -> &'a [u8]
     lent_bytes::part_or_none(input, at + 4, number(input, at))
 }
 
-// All of some bytes set to one value.
-fn fill(s: &mut [u8], value: u8) {
-    let mut i: usize = 0;
-    while i < s.len() {
-        s[i] = value;
-        i += 1;
-    }
-}
-
-// Are all bytes from a place on zero?
-fn are_zero(s: &[u8], from: usize) -> bool
-    ensures { result ≡ zeros (drop from s.now) }
+// Are all bytes zero?
+fn are_zero(s: &[u8]) -> bool
+    ensures { result ≡ zeros s.now }
 {
-    let mut i = from;
-    while i < s.len() {
-        if s[i] != 0 {
-            return false;
-        }
-        i += 1;
-    }
-    true
+    s.iter().all(|b| *b == 0)
 }
 
 // Are the numbers of an answer as given at `at`: number, place, length and edges?
@@ -83,10 +73,8 @@ fn is_right(input: &[u8], at: usize, answer: Answer, slots: &[u8], room: &[u8], 
         return false;
     }
     are_numbers(input, at, answer)
-        && (lent_bytes::same(
-            lent_bytes::part_or_none(input, at + 13, len),
-            lent_bytes::part(out, 0, len),
-        ) && (are_zero(out, len) && (are_zero(slots, 0) && are_zero(room, 0))))
+        && (lent_bytes::part_or_none(input, at + 13, len) == &out[..len]
+            && (are_zero(&out[len..]) && (are_zero(slots) && are_zero(room))))
 }
 
 // Where a field ends.
@@ -97,61 +85,39 @@ fn skip(input: &[u8], at: usize) -> usize
     at + 4 + number(input, at)
 }
 
-// The call at `at` over rubbish, in rooms as large as it says: its fields stand at `at + 16`, `a`, `b`, `c`, `d` and `e`.
-fn run_fields(
-    input: &[u8],
-    at: usize,
-    a: usize,
-    b: usize,
-    c: usize,
-    d: usize,
-    e: usize,
-    slots: &mut [u8],
-    room: &mut [u8],
-    out: &mut [u8],
-) -> Answer
-    requires { (at < 16777216) × (a < 100000000000) × (b < 100000000000) × (c < 100000000000) × (d < 100000000000) × (e < 100000000000) }
-{
-    let mode = (base::byte(input, at) % 256) as u8;
-    let capitals = (base::byte(input, at + 1) % 256) as u8;
-    let o_ang = (base::byte(input, at + 2) % 256) as u8;
-    let readings = (base::byte(input, at + 3) % 256) as u8;
-    fill(slots, RUBBISH);
-    fill(room, RUBBISH);
-    fill(out, RUBBISH);
-    jettyfig::jettyfig_romanize(
-        mode,
-        capitals,
-        o_ang,
-        readings,
-        field(input, at + 16),
-        field(input, a),
-        field(input, b),
-        field(input, c),
-        field(input, d),
-        field(input, e),
-        slots,
-        room,
-        out,
-    )
-}
-
-// The call at `at`, and whether its answer, which stands behind its fields, is right.
+// The call at `at` over rubbish, in rooms as large as it says, and whether its answer, which stands behind its fields, is right.
 fn run_in(input: &[u8], at: usize, slots: &mut [u8], room: &mut [u8], out: &mut [u8]) -> Ran
     requires { at < 16777216 }
     ensures { at < result.next }
 {
-    let a = skip(input, at + 16);
-    let b = skip(input, a);
-    let c = skip(input, b);
-    let d = skip(input, c);
-    let e = skip(input, d);
-    let f = skip(input, e);
-    let next = f + 13 + number(input, f + 5);
-    let answer = run_fields(input, at, a, b, c, d, e, slots, room, out);
+    let rules = at + 16;
+    let classes = skip(input, rules);
+    let vowels = skip(input, classes);
+    let decompositions = skip(input, vowels);
+    let code = skip(input, decompositions);
+    let text = skip(input, code);
+    let answered = skip(input, text);
+    slots.fill(RUBBISH);
+    room.fill(RUBBISH);
+    out.fill(RUBBISH);
+    let answer = jettyfig::jettyfig_romanize(
+        byte(input, at),
+        byte(input, at + 1),
+        byte(input, at + 2),
+        byte(input, at + 3),
+        field(input, rules),
+        field(input, classes),
+        field(input, vowels),
+        field(input, decompositions),
+        field(input, code),
+        field(input, text),
+        slots,
+        room,
+        out,
+    );
     Ran {
-        next,
-        right: is_right(input, f, answer, slots, room, out),
+        next: answered + 13 + number(input, answered + 5),
+        right: is_right(input, answered, answer, slots, room, out),
     }
 }
 
@@ -163,18 +129,11 @@ fn run_one(input: &[u8], at: usize, slots: &mut [u8], room: &mut [u8], out: &mut
     let s = number(input, at + 4);
     let r = number(input, at + 8);
     let o = number(input, at + 12);
-    let wrong = Ran {
-        next: at + 1,
-        right: false,
-    };
-    if slots.len() < s {
-        return wrong;
-    }
-    if room.len() < r {
-        return wrong;
-    }
-    if out.len() < o {
-        return wrong;
+    if slots.len() < s || room.len() < r || out.len() < o {
+        return Ran {
+            next: at + 1,
+            right: false,
+        };
     }
     run_in(input, at, &mut slots[..s], &mut room[..r], &mut out[..o])
 }

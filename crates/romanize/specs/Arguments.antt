@@ -1,37 +1,30 @@
 -- What the arguments and the text on standard input say.
-use Rattle.std.specs.Prelude.{Bool, false, ◌&&◌, List, [], ◌∷◌, ℕ, ◌-◌, eqb, leb}
+use Rattle.std.specs.Prelude.{Bool, true, ◌&&◌, List, [], ◌∷◌, ℕ, ◌-◌, eqb, leb, Option, None, Some}
 use Rattle.base.specs.Pick.{pick}
 use Rattle.base.specs.Lists.{same}
 use Rattle.definition.specs.Texts.{chars, last_is, without_last}
 use Rattle.romanize.specs.declared.Chosen.{Chosen}
 
--- no mode, which the call refuses
-abbrev pub no_mode : ℕ
-no_mode = 255
-
--- one digit 0 to 9 is its value
-unfoldable pub mode_of : List ℕ → ℕ
-mode_of [] = no_mode
-mode_of (d ∷ []) = pick (leb 48 d && leb d 57) (d - 48) no_mode
-mode_of (d ∷ e ∷ w) = no_mode
+-- one digit 0 to 9 is its value, and anything else is no mode
+unfoldable pub mode_of : List ℕ → Option ℕ
+mode_of [] = None
+mode_of (d ∷ []) = pick (leb 48 d && leb d 57) (Some (d - 48)) None
+mode_of (d ∷ e ∷ w) = None
 
 -- what words behind the mode choose: one more names a choice, and no word may name one twice or name none
-abbrev chosen_as : ℕ → ℕ → ℕ → Bool → Chosen
-chosen_as capitals o_ang readings right = record { capitals = capitals; o_ang = o_ang; readings = readings; right = right }
+abbrev chosen_as : Bool → Bool → Bool → Chosen
+chosen_as capitals o_ang readings = record { capitals = capitals; o_ang = o_ang; readings = readings }
 
-unfoldable pub with_choice : List ℕ → Chosen → Chosen
+unfoldable pub with_choice : List ℕ → Chosen → Option Chosen
 with_choice w c =
-    pick (same w (chars "capitals")) (chosen_as 1 c.o_ang c.readings (c.right && eqb c.capitals 0))
-    (pick (same w (chars "o_ang")) (chosen_as c.capitals 1 c.readings (c.right && eqb c.o_ang 0))
-    (pick (same w (chars "readings")) (chosen_as c.capitals c.o_ang 1 (c.right && eqb c.readings 0))
-    (chosen_as c.capitals c.o_ang c.readings false)))
+    pick (same w (chars "capitals")) (pick c.capitals None (Some (chosen_as true c.o_ang c.readings)))
+    (pick (same w (chars "o_ang")) (pick c.o_ang None (Some (chosen_as c.capitals true c.readings)))
+    (pick (same w (chars "readings")) (pick c.readings None (Some (chosen_as c.capitals c.o_ang true)))
+    None))
 
 -- a dash is no language code
-unfoldable pub is_dash : List ℕ → Bool
-is_dash w = same w (chars "-")
-
 unfoldable pub code_of : List ℕ → List ℕ
-code_of w = pick (is_dash w) [] w
+code_of w = pick (same w (chars "-")) [] w
 
 -- one line end at the end is no part of the text
 unfoldable pub without_line_end : List ℕ → List ℕ

@@ -10,40 +10,34 @@
 // reads. What was written before the failure stays, and nothing is written after it.
 #![tactic(auto)]
 
-ghost use Rattle.std.specs.Prelude.{◌&&◌, ◌≡◌, ◌+◌, ◌<◌, ◌≤◌, eqb, length};
-ghost use Rattle.std.specs.Io.{ReadsAtMost};
+ghost use Rattle.std.specs.Prelude.{◌≡◌, ◌+◌, ◌<◌, ◌≤◌, length, IfOk, IfSome};
 ghost use Rattle.definition.specs.Limits.{most_rows};
-ghost use Rattle.romanize.specs.Arguments.{mode_of, with_choice, is_dash, code_of, without_line_end};
+ghost use Rattle.romanize.specs.Arguments.{mode_of, with_choice, code_of, without_line_end};
 
 use jettyfig::Answer;
-use rule_row_faults::Fault;
-use rule_table_check::RulesRead;
+use rule_row_faults::{Fault, RuleFault};
 use std::env::FillError;
 use std::fs::File;
 use std::io;
 use std::io::{Cursor, Read, Write};
 use std::rt::{Env, Files};
 
-// What an annotation is called, eight letters each: its number is its place.
-const NAMES: [u8; 128] =
-    *b"none    rom     core    tail    expandeddeleted single  Mn      Cf      Co      Zs      orig    alt     alt2    alt3    decomp  ";
+// What an annotation is called: its number is its place.
+const NAMES: [&str; 16] = [
+    "none", "rom", "core", "tail", "expanded", "deleted", "single", "Mn", "Cf", "Co", "Zs", "orig",
+    "alt", "alt2", "alt3", "decomp",
+];
 
-// No mode.
-const NO_MODE: u8 = 255;
-
-// A choice.
-const OFF: u8 = 0;
-
-const ON: u8 = 1;
-
-// What the words behind the mode choose, and whether they are right: each names a choice, and none one that another has named.
+// What the words behind the mode choose.
 #[derive(Clone, Copy)]
 pub struct Chosen {
-    pub capitals: u8,
-    pub o_ang: u8,
-    pub readings: u8,
-    pub right: bool,
+    pub capitals: bool,
+    pub o_ang: bool,
+    pub readings: bool,
 }
+
+// What the call is asked for a mode that is not one digit: it refuses this number, as any above 3.
+const NO_MODE: u8 = 255;
 
 // What this program holds, on its stack alone: as many slots as any text can need, which are 17 of 12 bytes for each of 4,096
 // characters and of the 18 that a decomposition may have; but not as much text room, which would be 42 million bytes, nor the
@@ -112,7 +106,7 @@ fn usage<W: Write>(err: &mut W) -> io::Result<()> {
     )
 }
 
-// All that a reader has. A buffer that is full afterwards was too short for it, and a line says so.
+// All that a reader has; none where `buf` is full afterwards, too short for it, and a line says so.
 //
 // An error is that of a read or, where there is a line to say, of a write, and no other. It leaves in `buf` no bytes that count,
 // and may have cut the line.
@@ -121,25 +115,23 @@ fn read_all<R: Read, W: Write>(
     err: &mut W,
     name: &[u8],
     buf: &mut [u8],
-) -> io::Result<usize>
-    ensures { ReadsAtMost result buf.new }
+) -> io::Result<Option<usize>>
+    ensures { IfOk result (λ read. IfSome read (λ n. n ≤ length buf.new)) }
 {
     let n = lent_input::read_full(reader, buf)?;
     if n == buf.len() {
         err.write_all(name)?;
         err.write_all(b": longer than this program takes\n")?;
+        return Ok(None);
     }
-    Ok(n)
+    Ok(Some(n))
 }
 
 // The argument `i`, at the start of `buf`; none where it is missing or longer.
 fn read_argument<R: Env>(rt: &R, i: usize, buf: &mut [u8]) -> usize
     ensures { result ≤ length buf.new }
 {
-    match rt.arg(i, buf) {
-        Ok(n) => n,
-        Err(_) => 0,
-    }
+    rt.arg(i, buf).unwrap_or(0)
 }
 
 // What an error says before its number.
@@ -166,7 +158,7 @@ fn say_failure<W: Write>(err: &mut W, name: &[u8], error: io::Error) -> io::Resu
     err.write_all(b"\n")
 }
 
-// All of the file that an argument names; a full buffer's length where there is none, or too much of it, and a line says so.
+// All of the file that an argument names; none where there is no such file, or too much of it, and a line says so.
 //
 // An error is that of a read or, where there is a line to say, of a write, and no other: a file that can't be opened is none. It
 // leaves in `buf` no bytes that count, may have cut the line, and the file is closed.
@@ -175,94 +167,68 @@ fn read_table<R: Env + Files, W: Write>(
     err: &mut W,
     i: usize,
     buf: &mut [u8],
-) -> io::Result<usize>
-    ensures { ReadsAtMost result buf.new }
+) -> io::Result<Option<usize>>
+    ensures { IfOk result (λ read. IfSome read (λ n. n ≤ length buf.new)) }
 {
     let mut room = argument_room();
     let n = read_argument(rt, i, &mut room);
     let name = &room[..n];
-    let path = match str::from_utf8(name) {
-        Ok(path) => path,
-        Err(_) => {
-            err.write_all(name)?;
-            err.write_all(b": not UTF-8\n")?;
-            return Ok(buf.len());
-        }
+    let Ok(path) = str::from_utf8(name) else {
+        err.write_all(name)?;
+        err.write_all(b": not UTF-8\n")?;
+        return Ok(None);
     };
     match File::open(rt, path) {
         Ok(mut file) => read_all(&mut file, err, name, buf),
         Err(e) => {
             say_failure(err, name, e)?;
-            Ok(buf.len())
+            Ok(None)
         }
     }
 }
 
-// The mode: one digit. Anything else is no mode, which the call refuses.
-fn mode_of(arg: &[u8]) -> u8
+// The mode, if it is one digit.
+#[tactic(auto, unfolding(crate::specs::Arguments::mode_of, base::specs::Pick::pick))]
+fn mode_of(arg: &[u8]) -> Option<u8>
     ensures { result ≡ mode_of arg.now }
 {
     if arg.len() != 1 {
-        return NO_MODE;
+        return None;
     }
-    let digit = arg[0];
-    if digit < b'0' {
-        return NO_MODE;
+    match arg[0] {
+        digit @ b'0'..=b'9' => Some(digit - b'0'),
+        _ => None,
     }
-    if b'9' < digit {
-        return NO_MODE;
-    }
-    digit - b'0'
 }
 
-// Is a choice still off, and were the words before right?
-fn is_new(choice: u8, right: bool) -> bool
-    ensures { result ≡ (right && eqb choice 0) }
-{
-    if right {
-        return choice == OFF;
-    }
-    false
-}
-
-// A word more, which names a choice.
-fn with_choice(word: &[u8], chosen: Chosen) -> Chosen
+// A word more, which names a choice that no word before it has named; else none.
+#[tactic(auto, using(lent_bytes::specs::Library::same_texts), unfolding(crate::specs::Arguments::with_choice, base::specs::Pick::pick))]
+fn with_choice(word: &[u8], chosen: Chosen) -> Option<Chosen>
     ensures { result ≡ with_choice word.now chosen }
 {
-    if lent_bytes::same(word, b"capitals") {
-        return Chosen {
-            capitals: ON,
-            o_ang: chosen.o_ang,
-            readings: chosen.readings,
-            right: is_new(chosen.capitals, chosen.right),
-        };
+    if word == b"capitals".as_slice() {
+        return (!chosen.capitals).then_some(Chosen {
+            capitals: true,
+            ..chosen
+        });
     }
-    if lent_bytes::same(word, b"o_ang") {
-        return Chosen {
-            capitals: chosen.capitals,
-            o_ang: ON,
-            readings: chosen.readings,
-            right: is_new(chosen.o_ang, chosen.right),
-        };
+    if word == b"o_ang".as_slice() {
+        return (!chosen.o_ang).then_some(Chosen {
+            o_ang: true,
+            ..chosen
+        });
     }
-    if lent_bytes::same(word, b"readings") {
-        return Chosen {
-            capitals: chosen.capitals,
-            o_ang: chosen.o_ang,
-            readings: ON,
-            right: is_new(chosen.readings, chosen.right),
-        };
+    if word == b"readings".as_slice() {
+        return (!chosen.readings).then_some(Chosen {
+            readings: true,
+            ..chosen
+        });
     }
-    Chosen {
-        capitals: chosen.capitals,
-        o_ang: chosen.o_ang,
-        readings: chosen.readings,
-        right: false,
-    }
+    None
 }
 
 // The argument `i` behind those before it; one that is too long for a choice is a word that names none.
-fn with_argument<R: Env>(rt: &R, i: usize, chosen: Chosen) -> Chosen {
+fn with_argument<R: Env>(rt: &R, i: usize, chosen: Chosen) -> Option<Chosen> {
     let mut word = [0u8; 16];
     let n = read_argument(rt, i, &mut word);
     with_choice(&word[..n], chosen)
@@ -270,43 +236,34 @@ fn with_argument<R: Env>(rt: &R, i: usize, chosen: Chosen) -> Chosen {
 
 // Is there an argument `i`?
 fn has_argument<R: Env>(rt: &R, i: usize) -> bool {
-    match rt.arg(i, &mut []) {
-        Err(FillError::NotPresent) => false,
-        _ => true,
-    }
+    !matches!(rt.arg(i, &mut []), Err(FillError::NotPresent))
 }
 
-// The choices by the arguments behind the mode.
-fn choices<R: Env>(rt: &R) -> Chosen {
+// The choices by the arguments behind the mode; none where there is no mode, or a word that is not one of them.
+fn choices<R: Env>(rt: &R) -> Option<Chosen> {
+    if !has_argument(rt, 6) {
+        return None;
+    }
     let mut chosen = Chosen {
-        capitals: OFF,
-        o_ang: OFF,
-        readings: OFF,
-        right: has_argument(rt, 6),
+        capitals: false,
+        o_ang: false,
+        readings: false,
     };
     for i in 7..usize::MAX {
         if !has_argument(rt, i) {
             break;
         }
-        chosen = with_argument(rt, i, chosen);
+        chosen = with_argument(rt, i, chosen)?;
     }
-    chosen
-}
-
-fn is_dash(arg: &[u8]) -> bool
-    ensures { result ≡ is_dash arg.now }
-{
-    if arg.len() != 1 {
-        return false;
-    }
-    arg[0] == b'-'
+    Some(chosen)
 }
 
 // The language code: none for a dash.
+#[tactic(auto, using(lent_bytes::specs::Library::same_texts), unfolding(crate::specs::Arguments::code_of, base::specs::Pick::pick))]
 fn code_of<'a>(arg: &'a [u8]) -> &'a [u8]
     ensures { result.now ≡ code_of arg.now }
 {
-    if is_dash(arg) {
+    if arg == b"-".as_slice() {
         return &arg[..0];
     }
     arg
@@ -326,20 +283,18 @@ fn without_line_end<'a>(text: &'a [u8]) -> &'a [u8]
     text
 }
 
-// What stands at a place of a listing, as a number and a space.
-fn print_number<W: Write>(out: &mut W, n: u32) -> io::Result<()> {
-    write!(out, "{n} ")
-}
-
 // One row of a listing, `len` bytes behind its two bytes of length: start, end, annotation, core length, text.
 fn print_edge<W: Write>(out: &mut W, rows: &[u8], at: usize, len: usize) -> io::Result<()>
     requires { (at < 16777216) × (len < 65536) }
 {
-    print_number(out, base::two(rows, at, 2))?;
-    print_number(out, base::two(rows, at, 4))?;
-    out.write_all(lent_bytes::part_or_none(&NAMES, base::at(rows, at, 6) as usize * 8, 8))?;
-    out.write_all(b" ")?;
-    print_number(out, base::at(rows, at, 7))?;
+    let start = base::two(rows, at, 2);
+    let end = base::two(rows, at, 4);
+    let name = NAMES
+        .get(base::at(rows, at, 6) as usize)
+        .copied()
+        .unwrap_or("");
+    let core = base::at(rows, at, 7);
+    write!(out, "{start} {end} {name:8} {core} ")?;
     if 6 < len {
         out.write_all(lent_bytes::part_or_none(rows, at + 8, len - 6))?;
     }
@@ -371,148 +326,101 @@ fn print_output<W: Write>(out: &mut W, mode: u8, written: &[u8]) -> io::Result<(
     Ok(())
 }
 
-// What a refusal of mode, class table, vowel table or code means, and what its place is.
-fn say_given<W: Write>(err: &mut W, number: u64) -> io::Result<()> {
-    if number == 1 {
-        return err.write_all(b"the mode is none of 0 to 3; place ");
-    }
-    if number == 3 {
-        return err.write_all(
-            b"the class table is faulty; offset of the first faulty row, 0 for the header: ",
-        );
-    }
-    if number == 4 {
-        return err.write_all(
-            b"the vowel table is faulty; offset of the first faulty row, 0 for the header: ",
-        );
-    }
-    err.write_all(b"the language code is neither empty nor three letters a to z; place ")
-}
-
-// What a refusal of the text means, and what its place is.
-fn say_text<W: Write>(err: &mut W, number: u64) -> io::Result<()> {
-    if number == 6 {
-        return err.write_all(b"the text is not UTF-8; offset of the first bad sequence: ");
-    }
-    if number == 7 {
-        return err.write_all(b"the text is longer than 4,096 characters; so many are taken: ");
-    }
-    err.write_all(b"a Tibetan, Braille or Hangul character; its position in characters: ")
-}
-
-// How much of something this program has.
-fn say_held<W: Write>(err: &mut W, bytes: usize) -> io::Result<()> {
-    write!(err, " (this program has {bytes} bytes); ")
-}
-
-// What a refusal for want of room means, and what its place is.
-fn say_room<W: Write>(err: &mut W, number: u64) -> io::Result<()> {
-    if number == 9 {
-        err.write_all(b"an edge finds no slot")?;
-        say_held(err, SLOTS)?;
-        return err.write_all(b"its start: ");
-    }
-    if number == 10 {
-        err.write_all(b"an edge finds too little text room")?;
-        say_held(err, TEXT_ROOM)?;
-        return err.write_all(b"its start: ");
-    }
-    err.write_all(b"the output is too short")?;
-    say_held(err, OUTPUT)?;
-    err.write_all(b"bytes needed: ")
-}
-
-// What a refusal of a choice means, and what its place is.
-fn say_choice<W: Write>(err: &mut W, number: u64) -> io::Result<()> {
-    if number == 12 {
-        return err.write_all(b"the choice of capitals is neither 0 nor 1; place ");
-    }
-    if number == 15 {
-        return err.write_all(b"the choice of O ang is neither 0 nor 1; place ");
-    }
-    err.write_all(b"the choice of readings is neither 0 nor 1; place ")
-}
-
-// What a refusal of the decomposition table or of a decomposition's text means, and what its place is.
-fn say_decomposition<W: Write>(err: &mut W, number: u64) -> io::Result<()> {
-    if number == 13 {
-        return err.write_all(
-            b"the decomposition table is faulty; offset of the first faulty row, 0 for the header: ",
-        );
-    }
-    err.write_all(b"a decomposition's text is longer than 606 bytes; its position in characters: ")
-}
-
 // What a refusal of anything but the rule table means, and its place.
 fn say_meaning<W: Write>(err: &mut W, number: u64, place: u64) -> io::Result<()> {
-    if number < 6 {
-        say_given(err, number)?;
-    } else if number < 9 {
-        say_text(err, number)?;
-    } else if number < 12 {
-        say_room(err, number)?;
-    } else if number == 13 {
-        say_decomposition(err, number)?;
-    } else if number == 14 {
-        say_decomposition(err, number)?;
-    } else if number == 19 {
-        err.write_all(b"the listing's rows are more than 4,294,967,295 bytes; place ")?;
-    } else {
-        say_choice(err, number)?;
+    match number {
+        1 => write!(err, "the mode is none of 0 to 3; place {place}"),
+        3 => write!(
+            err,
+            "the class table is faulty; offset of the first faulty row, 0 for the header: {place}"
+        ),
+        4 => write!(
+            err,
+            "the vowel table is faulty; offset of the first faulty row, 0 for the header: {place}"
+        ),
+        5 => write!(
+            err,
+            "the language code is neither empty nor three letters a to z; place {place}"
+        ),
+        6 => write!(
+            err,
+            "the text is not UTF-8; offset of the first bad sequence: {place}"
+        ),
+        7 => write!(
+            err,
+            "the text is longer than 4,096 characters; so many are taken: {place}"
+        ),
+        8 => write!(
+            err,
+            "a Tibetan, Braille or Hangul character; its position in characters: {place}"
+        ),
+        9 => write!(
+            err,
+            "an edge finds no slot (this program has {SLOTS} bytes); its start: {place}"
+        ),
+        10 => write!(
+            err,
+            "an edge finds too little text room (this program has {TEXT_ROOM} bytes); its start: {place}"
+        ),
+        11 => write!(
+            err,
+            "the output is too short (this program has {OUTPUT} bytes); bytes needed: {place}"
+        ),
+        12 => write!(
+            err,
+            "the choice of capitals is neither 0 nor 1; place {place}"
+        ),
+        13 => write!(
+            err,
+            "the decomposition table is faulty; offset of the first faulty row, 0 for the header: {place}"
+        ),
+        14 => write!(
+            err,
+            "a decomposition's text is longer than 606 bytes; its position in characters: {place}"
+        ),
+        15 => write!(err, "the choice of O ang is neither 0 nor 1; place {place}"),
+        19 => write!(
+            err,
+            "the listing's rows are more than 4,294,967,295 bytes; place {place}"
+        ),
+        _ => write!(
+            err,
+            "the choice of readings is neither 0 nor 1; place {place}"
+        ),
     }
-    write!(err, "{place}")
-}
-
-// An offset in the rule table, as those who make one count it.
-fn say_byte<W: Write>(err: &mut W, at: usize) -> io::Result<()> {
-    write!(err, " byte {at}")
-}
-
-// What a fault of the rule table is called.
-fn say_kind<W: Write>(err: &mut W, fault: Fault) -> io::Result<()> {
-    let words = rule_fault_words::fault_words(fault);
-    let bytes = words.bytes;
-    err.write_all(lent_bytes::part_or_none(&bytes, 0, words.len))
 }
 
 // A fault of the rule table: its kind and place, and the row in which it lies, behind `rows` right ones. No row stands before
 // `HEAD_BYTES`: a fault there is the header's.
-fn say_fault<W: Write>(
-    err: &mut W,
-    rows: usize,
-    at: usize,
-    fault: Fault,
-    place: usize,
-) -> io::Result<()>
+fn say_fault<W: Write>(err: &mut W, rows: usize, at: usize, fault: RuleFault) -> io::Result<()>
     requires { rows ≤ most_rows }
 {
+    let place = fault.at;
     if place < table_blocks::HEAD_BYTES {
         return err.write_all(b"the rule table's header is faulty, or its length is not the file's");
     }
-    err.write_all(b"the rule table has ")?;
-    say_kind(err, fault)?;
-    err.write_all(b" at")?;
-    say_byte(err, place)?;
-    let row = rows as u64 + 1;
-    write!(err, ", in row {row}, which begins at")?;
-    say_byte(err, at)
+    let words = rule_fault_words::fault_words(fault.kind);
+    let row = rows + 1;
+    write!(
+        err,
+        "the rule table has {words} at byte {place}, in row {row}, which begins at byte {at}"
+    )
 }
 
 // What is wrong with the rule table. The call has said its number and place; the walk finds the row too.
 fn say_rules<W: Write>(err: &mut W, rules: &[u8]) -> io::Result<()> {
     let walked = rule_reader::walk_rules(rules);
-    let read = walked.read;
-    match read {
-        RulesRead::Valid => Ok(()),
-        RulesRead::Wrong(fault, place) => say_fault(err, walked.rows, walked.at, fault, place),
+    match walked.read {
+        Ok(()) => Ok(()),
+        Err(fault) => say_fault(err, walked.rows, walked.at, fault),
     }
 }
 
-// The line of a refusal: number, meaning and place. From `REFUSED_LENGTH` on it is the rule table's.
+// The line of a refusal: number, meaning and place. From that of a length on it is the rule table's.
 fn print_refusal<W: Write>(err: &mut W, answer: Answer, rules: &[u8]) -> io::Result<()> {
     let number = answer.number;
     write!(err, "romanize: refusal {number}: ")?;
-    if number < rule_row_faults::REFUSED_LENGTH {
+    if number < Fault::Length.number() {
         say_meaning(err, number, answer.place)?;
     } else {
         say_rules(err, rules)?;
@@ -538,9 +446,9 @@ fn romanize<'a, O: Write, W: Write>(
     let mut out = out_room();
     let answer = jettyfig::jettyfig_romanize(
         mode,
-        chosen.capitals,
-        chosen.o_ang,
-        chosen.readings,
+        chosen.capitals as u8,
+        chosen.o_ang as u8,
+        chosen.readings as u8,
         rules,
         classes,
         vowels,
@@ -572,21 +480,19 @@ fn with_tables(
 ) -> io::Result<()> {
     let mut err = rt.stderr();
     let mut code = argument_room();
-    let c = match rt.arg(5, &mut code) {
-        Ok(c) => c,
-        Err(_) => return err.write_all(b"CODE: File name too long\n"),
+    let Ok(c) = rt.arg(5, &mut code) else {
+        return err.write_all(b"CODE: File name too long\n");
     };
     let mut mode = [0u8; 2];
     let m = read_argument(rt, 6, &mut mode);
     let mut text = text_room();
-    let t = read_all(&mut rt.reader(), &mut err, b"standard input", &mut text)?;
-    if t == text.len() {
+    let Some(t) = read_all(&mut rt.reader(), &mut err, b"standard input", &mut text)? else {
         return Ok(());
-    }
+    };
     romanize(
         &mut rt.stdout(),
         &mut err,
-        mode_of(&mode[..m]),
+        mode_of(&mode[..m]).unwrap_or(NO_MODE),
         chosen,
         rules,
         classes,
@@ -599,30 +505,25 @@ fn with_tables(
 
 fn main(rt: HostRuntime) -> io::Result<()> {
     let mut err = rt.stderr();
-    let chosen = choices(&rt);
-    if !chosen.right {
+    let Some(chosen) = choices(&rt) else {
         return usage(&mut err);
-    }
+    };
     let mut rules = rules_room();
-    let r = read_table(&rt, &mut err, 1, &mut rules)?;
-    if r == rules.len() {
+    let Some(r) = read_table(&rt, &mut err, 1, &mut rules)? else {
         return Ok(());
-    }
+    };
     let mut classes = classes_room();
-    let c = read_table(&rt, &mut err, 2, &mut classes)?;
-    if c == classes.len() {
+    let Some(c) = read_table(&rt, &mut err, 2, &mut classes)? else {
         return Ok(());
-    }
+    };
     let mut vowels = vowels_room();
-    let v = read_table(&rt, &mut err, 3, &mut vowels)?;
-    if v == vowels.len() {
+    let Some(v) = read_table(&rt, &mut err, 3, &mut vowels)? else {
         return Ok(());
-    }
+    };
     let mut decompositions = decompositions_room();
-    let d = read_table(&rt, &mut err, 4, &mut decompositions)?;
-    if d == decompositions.len() {
+    let Some(d) = read_table(&rt, &mut err, 4, &mut decompositions)? else {
         return Ok(());
-    }
+    };
     with_tables(
         &rt,
         chosen,

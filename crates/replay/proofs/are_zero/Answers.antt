@@ -1,17 +1,14 @@
--- `replay::are_zero`: what is left of the bytes answers as they all do.
-use mathlib.Core.Path.{◌∙◌}
-use native.Mathlib.Omega.{arith}
-use Rattle.replay.proofs.Cases.{over, zero_byte, other_byte}
+-- `replay::are_zero`: each byte is compared with zero.
+use lib.Dec.{eqb}
+use Rattle.std.proofs.Common.{rules, tests, ◌∙◌}
+use Rattle.std.proofs.lemmas.Iterator.{YieldsList-from_slice}
+use Rattle.std.proofs.lemmas.Iterator.Search.{all_from_yields_List}
+use Rattle.lent_bytes.specs.Library.{all_is}
+use Rattle.replay.specs.Given.{zeros}
 use Rattle.replay.proofs.are_zero.Goals as goal
 
-pub returns-then-s-i-ne0 : goal.returns-then-s-i-ne0
-returns-then-s-i-ne0 c =
-    other_byte c.args.s.now c.loop-i.i (omega arith) (λ e. omega arith) ∙ c.loop-i.invariant
-
-pub loop-i-preserved : goal.loop-i-preserved
-loop-i-preserved c =
-    zero_byte c.args.s.now c.loop-i.i (omega arith) (omega arith) ∙ c.loop-i.invariant
-
 pub returns : goal.returns
+unfolding zeros
 returns c =
-    over c.args.s.now c.loop-i.i (omega arith) ∙ c.loop-i.invariant
+    all_from_yields_List (eqb 0) _ _ _ c.all.ensures.ran (YieldsList-from_slice c.args.s.now cc) (λ x b q k. search (rules, tests))
+    ∙ all_is (eqb 0) c.args.s.now
