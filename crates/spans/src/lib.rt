@@ -50,6 +50,7 @@ fn without_first(w: &[u8]) -> &[u8]
 }
 
 // A tail loses its plus.
+#[tactic(auto, using(crate::proofs::Tails::tail_not_empty, crate::proofs::Tails::behind_first), unfolding(definition::specs::Building::without_plus, base::specs::Pick::pick))]
 fn without_plus(w: &[u8]) -> &[u8]
     ensures { result.now ≡ without_plus w.now }
 {
@@ -61,6 +62,7 @@ fn without_plus(w: &[u8]) -> &[u8]
 
 // An edge's numbers: annotated by the expansion where that acted, else with a core where only vowels were added, as a
 // tail, or as plain.
+#[tactic(auto, unfolding(definition::specs::Building::as_edge, base::specs::Pick::pick))]
 fn as_edge(tail: bool, core: usize, grows: bool, from: usize, to: usize, note: u8) -> Numbers
     requires { core < 256 }
     ensures { (rom new text : Text) → grows ≡ grown rom new → core ≡ length rom
@@ -298,16 +300,15 @@ pub fn put_span_edge(
     ))
 }
 
-// A plus sign.
-const PLUS: u32 = 43;
-
 // A fallback's plus is dropped before m, n, g or r.
+#[tactic(auto, unfolding(definition::specs::Building::fallback_plus, base::specs::Lists::head, definition::specs::Texts::among))]
 fn fallback_plus(w: &[u8]) -> bool
     ensures { result ≡ fallback_plus w.now }
 {
-    base::byte(w, 0) == PLUS && rom::is_in(rom::PLUS_BEFORE, base::byte(w, 1))
+    matches!(w, [b'+', b'm' | b'n' | b'g' | b'r', ..])
 }
 
+#[tactic(auto, using(crate::proofs::Tails::fallback_not_empty, crate::proofs::Tails::behind_first), unfolding(crate::specs::Spans::plus_dropped, base::specs::Pick::pick))]
 fn plus_dropped(w: &[u8]) -> &[u8]
     ensures { result.now ≡ plus_dropped w.now }
 {
