@@ -10,7 +10,7 @@ use Rattle.base.specs.Rows.{counted_some}
 use Rattle.definition.specs.Limits.{slot_bytes}
 use Rattle.definition.specs.Edges.{Edge}
 use Rattle.definition.specs.Paths.{longer, sorted}
-use Rattle.edge.specs.declared.BestEdge.{BestEdge}
+use Rattle.edge.specs.Best.{BestEdge}
 use Rattle.edge.specs.Slots.{edge_of, edges_of}
 use Rattle.listing.specs.Items.{Written, put_items, put_items-append}
 use Rattle.standing.specs.declared.Stretch.{Stretch}

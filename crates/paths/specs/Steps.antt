@@ -4,8 +4,7 @@ use Rattle.std.proofs.Math.Option.{Option, none, some}
 use Rattle.std.proofs.Common.{sym, ap, ◌∙◌}
 use Rattle.definition.specs.Edges.{Edge, right_best}
 use Rattle.definition.specs.Paths.{join, next, path_from}
-use Rattle.edge.specs.declared.BestEdge.{BestEdge}
-use Rattle.edge.specs.Best.{best_means}
+use Rattle.edge.specs.Best.{BestEdge, best_means}
 use Rattle.listing.specs.Items.{Written, put_items, put_items-append}
 
 -- the edge that was answered, if any, as a list

@@ -16,8 +16,6 @@ ghost use Rattle.paths.specs.Laid.{Laid};
 ghost use Rattle.paths.specs.Steps.{best_list};
 ghost use Rattle.paths.specs.Orders.{farther, last_end, over};
 
-use edge::BestEdge;
-
 // The row or the text of the edge that was found, if any.
 fn put_best(
     out: &mut [u8],
@@ -25,26 +23,26 @@ fn put_best(
     slots: &[u8],
     room: &[u8],
     count: usize,
-    best: BestEdge,
+    best: Option<usize>,
     rows: bool,
 ) -> usize
     requires { Readable slots.now room.now count × Found count best × Countable at row_most }
     ensures { Puts rows (best_list room.now slots.now best) row_most (at, out.old) (result, out.new) }
 {
     match best {
-        BestEdge::At(slot) => listing::put_item(out, at, slots, room, slot, rows),
-        BestEdge::Nothing => at,
+        Some(slot) => listing::put_item(out, at, slots, room, slot, rows),
+        None => at,
     }
 }
 
 // Where the path goes on: at the edge's end, a number of two bytes, or one character on where there is none.
-pub fn next_from(slots: &[u8], best: BestEdge, p: usize) -> usize
+pub fn next_from(slots: &[u8], best: Option<usize>, p: usize) -> usize
     requires { p < countable }
     ensures { ((room : List ℕ) → result ≡ next (best_means room slots.now best) p) × (result ≤ p + two_bytes) }
 {
     match best {
-        BestEdge::At(slot) => base::two(slots, slot, edge::TO) as usize,
-        BestEdge::Nothing => p + 1,
+        Some(slot) => base::two(slots, slot, edge::TO) as usize,
+        None => p + 1,
     }
 }
 
@@ -65,6 +63,7 @@ pub fn put_path(
     let n = starts.len() - 1;
     let mut end = at;
     let mut p: usize = 0;
+    // the path moves on by each edge's own length
     while p < n {
         let best = standing::best_right_neighbor_edge(slots, starts, p);
         end = put_best(out, end, slots, room, count, best, rows);
@@ -90,14 +89,11 @@ fn last_end(slots: &[u8], count: usize, p: usize, bound: usize) -> usize
     ensures { (room : List ℕ) → result ≡ last_end p bound p (edges_of room count slots.now) }
 {
     let mut best = p;
-    let mut left = count;
-    let mut slot: usize = 0;
-    while 0 < left {
+    for number in 0..count {
+        let slot = number * edge::SLOT_BYTES;
         if is_farther(slots, slot, p, bound, best) {
             best = base::two(slots, slot, edge::TO) as usize;
         }
-        left -= 1;
-        slot += edge::SLOT_BYTES;
     }
     best
 }
@@ -140,12 +136,8 @@ fn put_span(
         (at, out.old) (result, out.new) }
 {
     let mut end = at;
-    let mut left = count;
-    let mut slot: usize = 0;
-    while 0 < left {
-        end = put_over(out, end, slots, room, slot, p, e);
-        left -= 1;
-        slot += edge::SLOT_BYTES;
+    for number in 0..count {
+        end = put_over(out, end, slots, room, number * edge::SLOT_BYTES, p, e);
     }
     end
 }
@@ -167,6 +159,7 @@ fn put_longer(
 {
     let mut end = at;
     let mut e = last_end(slots, count, p, n + 1);
+    // the ends move on by what edges have, from the farthest
     while p < e {
         end = put_span(out, end, slots, room, count, p, e);
         e = last_end(slots, count, p, e);
@@ -223,10 +216,8 @@ pub fn put_all_edges(
 {
     let n = starts.len() - 1;
     let mut end = at;
-    let mut p = 0;
-    while p < n {
+    for p in 0..n {
         end = put_start(out, end, slots, room, starts, count, p);
-        p += 1;
     }
     end
 }

@@ -6,7 +6,7 @@ use Rattle.edge.specs.Slots.{edge_by, numbers_of}
 use Rattle.edge.specs.Best.{best_means}
 use Rattle.paths.proofs.next_from.Goals as goal
 
-pub returns-in-At : goal.returns-in-At
+pub returns-in-Some : goal.returns-in-Some
 unfolding edge_by numbers_of
-returns-in-At c =
-    (λ room. c.two.ensures.0 ∙ ap (λ b. next (best_means room c.args.slots.now b) c.args.p) (sym c.in-At.is), omega (arith, c.two.ensures.1))
+returns-in-Some c =
+    (λ room. c.two.ensures.0 ∙ ap (λ b. next (best_means room c.args.slots.now b) c.args.p) (sym c.in-Some.is), omega (arith, c.two.ensures.1))

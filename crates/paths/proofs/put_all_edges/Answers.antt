@@ -18,8 +18,7 @@ pub loop-p-preserved : goal.loop-p-preserved
 loop-p-preserved c =
     let es = edges_of c.args.room.now c.args.count c.args.slots.now in (
       sorted_on es c.loop-p.p (c.put_start-end.result, c.put_start-end.new.out) (c.loop-p.end, c.loop-p.out) (end_of c.args.starts.now) (omega arith) c.put_start-end.ensures.0 ∙ c.loop-p.invariant.0,
-      omega arith,
-      omega (arith, c.loop-p.invariant.2, c.put_start-end.ensures.1),
+      omega (arith, c.loop-p.invariant.1, c.put_start-end.ensures.1),
       omega arith,
     )
 
@@ -27,5 +26,5 @@ pub returns : goal.returns
 unfolding put_items sorted
 returns c =
     let es = edges_of c.args.room.now c.args.count c.args.slots.now in
-    let k : end_of c.args.starts.now - c.loop-p.p ≡ 0 = omega (arith, c.loop-p.invariant.1) in
+    let k : end_of c.args.starts.now - c.loop-p.p ≡ 0 = omega arith in
     sym (ap (λ m. put_items true (sorted es m c.loop-p.p) (c.loop-p.end, c.loop-p.out)) k) ∙ c.loop-p.invariant.0

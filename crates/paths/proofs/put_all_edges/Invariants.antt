@@ -12,7 +12,4 @@ use Rattle.paths.proofs.put_all_edges.Given as goal
 abbrev pub invariant-loop-p : goal.invariant-loop-p
 invariant-loop-p l =
     (put_items true (sorted (edges_of l.room l.count l.slots) (l.n - l.p) l.p) (l.end, l.out) ≡ put_items true (sorted (edges_of l.room l.count l.slots) l.n 0) (l.at, l.initial.out))
-    × (l.p ≤ l.n) × (l.end ≤ l.at + l.p * start_most) × (length l.out ≡ length l.initial.out)
-
-abbrev pub decreases-loop-p : goal.decreases-loop-p
-decreases-loop-p l = l.n - l.p
+    × (l.end ≤ l.at + l.p * start_most) × (length l.out ≡ length l.initial.out)
