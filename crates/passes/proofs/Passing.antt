@@ -10,8 +10,7 @@ use Rattle.definition.specs.Edges.{State}
 use Rattle.definition.specs.Building.{each}
 use Rattle.definition.specs.Growth.{Added, Grown, each-grown}
 use Rattle.edge.specs.declared.Filled.{Filled}
-use Rattle.edge.specs.declared.Added.{Added as Answer}
-use Rattle.edge.specs.declared.Added.TheVariants.{Fits}
+use Rattle.edge.specs.Answers.{Answer, fits}
 use Rattle.edge.specs.Slots.{edges_of}
 use Rattle.edge.specs.Stored.{edge_count}
 use Rattle.edge_places.specs.Shows.{memory}
@@ -59,9 +58,9 @@ module _ {rest : State → State} {ks : List Class} {n : ℕ} {S₀ R₀ : List 
   st = kept n S R P c
 
   -- it ends where nothing is left
-  pub going_over : (most : ℕ) → u ≤ most → rest st ≡ st → Reached ks n S₀ R₀ S R P most whole (Fits c u)
+  pub going_over : (most : ℕ) → u ≤ most → rest st ≡ st → Reached ks n S₀ R₀ S R P most whole (fits c u)
   going_over most l h =
-      reached_as whole (sym h ∙ r.on) (Fits c u) (record { slots = r.slots; room = r.room; came = (r.keeps, l) })
+      reached_as whole (sym h ∙ r.on) (fits c u) (record { slots = r.slots; room = r.room; came = (r.keeps, l) })
 
   -- a turn: `f`, with `next` left behind it
   module _ (f next : State → State) (turn : rest st ≡ next (f st)) {S' R' P' : List ℕ} {most : ℕ} (a : Answer)
@@ -72,8 +71,8 @@ module _ {rest : State → State} {ks : List Class} {n : ℕ} {S₀ R₀ : List 
         reached_as whole (sym turn ∙ r.on) a
         (reached-refused more (next (f st)) g a q (reached_since S₀ R₀ r.slots r.room a b))
 
-    module _ (k v : ℕ) (q : a ≡ Fits k v) where
-      came : Reached ks n S R S' R' P' most (f st) (Fits k v)
+    module _ (k v : ℕ) (q : a ≡ fits k v) where
+      came : Reached ks n S R S' R' P' most (f st) (fits k v)
       came = subst (Reached ks n S R S' R' P' most (f st)) q b
 
       -- or goes on
@@ -102,7 +101,7 @@ passing_first {S = S} {R = R} {P = P} {w = w} {filled = filled} o f left e =
 -- and `left` are left from `p` on
 module _ (f : ℕ → State → State) (m : ℕ) (grows : (p : ℕ) (st : State) → Grown m st.0 (f p st).0) {ks : List Class} {n : ℕ} {S₀ R₀ : List ℕ}
     {whole : State} {S R P : List ℕ} {c u : ℕ} (p left : ℕ) (r : Going (each f left p) ks n S₀ R₀ whole S R P c u) where
-  pub passing_over : (most : ℕ) → u ≤ most → left ≡ 0 → Reached ks n S₀ R₀ S R P most whole (Fits c u)
+  pub passing_over : (most : ℕ) → u ≤ most → left ≡ 0 → Reached ks n S₀ R₀ S R P most whole (fits c u)
   passing_over most l h = going_over r most l (each_over f left p (kept n S R P c) h)
 
   -- one start, behind which `j` are left
@@ -114,7 +113,7 @@ module _ (f : ℕ → State → State) (m : ℕ) (grows : (p : ℕ) (st : State)
     pub passing_refused : (more : ℕ) → Refused a → Reached ks n S₀ R₀ S' R' P' more whole a
     passing_refused = going_refused r (f p) (each f j (p + 1)) turn a b (each-grown f m grows j (p + 1) (f p (kept n S R P c))).added
 
-    module _ (k v : ℕ) (q : a ≡ Fits k v) where
+    module _ (k v : ℕ) (q : a ≡ fits k v) where
       pub passing_next : Going (each f j (p + 1)) ks n S₀ R₀ whole S' R' P' k v
       passing_next = going_next r (f p) (each f j (p + 1)) turn a b k v q
 

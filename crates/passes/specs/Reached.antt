@@ -1,6 +1,6 @@
 -- How far building has come: slots, room and places keep a state of the definition, or there is the refusal that the scan
 -- of its edges gives.
-use Rattle.std.specs.Prelude.{ℕ, ◌+◌, ◌/◌, ◌≤◌, ◌<◌, List, [], ◌≡◌, refl, length}
+use Rattle.std.specs.Prelude.{Ok, Err, ℕ, ◌+◌, ◌/◌, ◌≤◌, ◌<◌, List, [], ◌≡◌, refl, length}
 use Rattle.std.proofs.Math.Option.{some}
 use Rattle.std.proofs.Common.{sym, ap, ◌∙◌, subst, arith}
 use Rattle.definition.specs.Limits.{slot_bytes}
@@ -13,8 +13,8 @@ use Rattle.definition.specs.Growth.{Added, misfit-grown}
 use Rattle.definition.specs.Call.{tables_of}
 use Rattle.edge.specs.declared.Numbers.{Numbers}
 use Rattle.edge.specs.declared.Filled.{Filled}
-use Rattle.edge.specs.declared.Added.{Added as Answer}
-use Rattle.edge.specs.declared.Added.TheVariants.{Fits, NoSlot, NoRoom}
+use Rattle.edge.specs.declared.Full.TheVariants.{Slots, Room}
+use Rattle.edge.specs.Answers.{Answer, fits}
 use Rattle.edge.specs.Slots.{four_bytes, edge_by, edges_of}
 use Rattle.edge.specs.Stored.{Stored}
 use Rattle.edge.specs.Adding.{added, slots_after, room_after, Writable, slots_after-length, room_after-length, added_used}
@@ -22,6 +22,7 @@ use Rattle.edge.specs.Fitting.{Told as Fitted, stopped}
 use Rattle.edge_places.specs.declared.Ending.{Ending}
 use Rattle.edge_places.specs.Shows.{Ends, memory}
 use Rattle.noting.specs.Noting.{places_after}
+pub use Rattle.noting.specs.Noting.{Refused}
 use Rattle.noting.specs.Keeps.{Keeps, keeps_added}
 use Rattle.words.specs.Given.{World, kinds, size, Told, Lined, Lent}
 
@@ -79,9 +80,9 @@ over_now t g slots room places filled st k = record {
 -- From slots `S` and room `R` to `S'`, `R'` and places `P'`, with `most` bytes used at most
 module _ (ks : List Class) (n : ℕ) (S R S' R' P' : List ℕ) (most : ℕ) (st : State) where
   abbrev Came : Answer → Type 0
-  Came (Fits c u) = Keeps ks n S' R' P' c u st × (u ≤ most)
-  Came (NoSlot p) = misfit (length S / slot_bytes) (length R) st.0 ≡ some (refuse refused_slots p)
-  Came (NoRoom p) = misfit (length S / slot_bytes) (length R) st.0 ≡ some (refuse refused_room p)
+  Came (Ok t) = Keeps ks n S' R' P' t.count t.used st × (t.used ≤ most)
+  Came (Err (Slots p)) = misfit (length S / slot_bytes) (length R) st.0 ≡ some (refuse refused_slots p)
+  Came (Err (Room p)) = misfit (length S / slot_bytes) (length R) st.0 ≡ some (refuse refused_room p)
 
   pub record Reached (r : Answer) : Type 0 where
     pub slots : length S' ≡ length S
@@ -99,17 +100,12 @@ Reaches rules ready vowels code line before after filled most f r =
     → Reached (kinds w) (size w) before.0 before.1 after.0 after.1 after.2 most
     (f (tables_of w.choices rules w.classes vowels code) w.text (state_of w before.2)) r
 
-abbrev pub Refused : Answer → Type 0
-Refused (Fits n u) = ⊥
-Refused (NoSlot p) = Unit {0}
-Refused (NoRoom p) = Unit {0}
-
 module _ {ks : List Class} {n : ℕ} {S R S' R' P' : List ℕ} {most : ℕ} {st : State} where
   pub reached-wide : (more : ℕ) → most ≤ more → (r : Answer) → Reached ks n S R S' R' P' most st r → Reached ks n S R S' R' P' more st r
-  reached-wide more l (Fits c u) a =
+  reached-wide more l (Ok t) a =
       record { slots = a.slots; room = a.room; came = (a.came.0, (let k = a.came.1 in omega arith)) }
-  reached-wide more l (NoSlot p) a = record { slots = a.slots; room = a.room; came = a.came }
-  reached-wide more l (NoRoom p) a = record { slots = a.slots; room = a.room; came = a.came }
+  reached-wide more l (Err (Slots p)) a = record { slots = a.slots; room = a.room; came = a.came }
+  reached-wide more l (Err (Room p)) a = record { slots = a.slots; room = a.room; came = a.came }
 
   -- a refusal stays, whatever comes after
   pub reached-refused : (more : ℕ) (st' : State) → Added (λ x. Unit {0}) st.0 st'.0
@@ -121,9 +117,9 @@ module _ {ks : List Class} {n : ℕ} {S R S' R' P' : List ℕ} {most : ℕ} {st 
       stays x q = ap (misfit (length S / slot_bytes) (length R)) g.is ∙ misfit-grown (length S / slot_bytes) (length R) st.0 g.more x q
 
       go : (r : Answer) → Refused r → Came ks n S R S' R' P' most st r → Reached ks n S R S' R' P' more st' r
-      go (Fits c u) h t = absurd h
-      go (NoSlot p) h t = record { slots = a.slots; room = a.room; came = stays (refuse refused_slots p) t }
-      go (NoRoom p) h t = record { slots = a.slots; room = a.room; came = stays (refuse refused_room p) t }
+      go (Ok x) h t = absurd h
+      go (Err (Slots p)) h t = record { slots = a.slots; room = a.room; came = stays (refuse refused_slots p) t }
+      go (Err (Room p)) h t = record { slots = a.slots; room = a.room; came = stays (refuse refused_room p) t }
 
   -- a state that is equal
   pub reached_as : (st' : State) → st ≡ st' → (r : Answer) → Reached ks n S R S' R' P' most st r → Reached ks n S R S' R' P' most st' r
@@ -138,13 +134,13 @@ module _ {ks : List Class} {n : ℕ} {S R S' R' P' : List ℕ} {most : ℕ} {st 
       fitted y q = ap (λ k. misfit (k / slot_bytes) (length R₀) st.0) (sym a) ∙ ap (λ k. misfit (length S / slot_bytes) k st.0) (sym b) ∙ q
 
       go : (r : Answer) → Came ks n S R S' R' P' most st r → Reached ks n S₀ R₀ S' R' P' most st r
-      go (Fits c u) t = record { slots = x.slots ∙ a; room = x.room ∙ b; came = t }
-      go (NoSlot p) t = record { slots = x.slots ∙ a; room = x.room ∙ b; came = fitted (refuse refused_slots p) t }
-      go (NoRoom p) t = record { slots = x.slots ∙ a; room = x.room ∙ b; came = fitted (refuse refused_room p) t }
+      go (Ok y) t = record { slots = x.slots ∙ a; room = x.room ∙ b; came = t }
+      go (Err (Slots p)) t = record { slots = x.slots ∙ a; room = x.room ∙ b; came = fitted (refuse refused_slots p) t }
+      go (Err (Room p)) t = record { slots = x.slots ∙ a; room = x.room ∙ b; came = fitted (refuse refused_room p) t }
 
 -- what is there
 pub reached-here : {ks : List Class} {n : ℕ} {S R P : List ℕ} {c u : ℕ} {st : State} (most : ℕ) → Keeps ks n S R P c u st → u ≤ most
-    → Reached ks n S R S R P most st (Fits c u)
+    → Reached ks n S R S R P most st (fits c u)
 reached-here most k l = record { slots = refl; room = refl; came = (k, l) }
 
 -- One edge more
@@ -171,14 +167,14 @@ module _ {ks : List Class} {n : ℕ} {S R P : List ℕ} {count used : ℕ} {st :
       as_kept es = ap (λ (es : List Edge). misfit (length S / slot_bytes) (length R) (add es (some (edge_by e w)))) k.edges
 
       go : (r : Answer) → r ≡ added S R count used e w → Reached ks n S R slots' room' (places_after r count e end P) (used + length w) after r
-      go (Fits c u) q =
-          made (Fits c u) (keeps_added k e w ok end ends h l c u (sym q), added_used S R count used e w k.stored ok c u (sym q))
-      go (NoSlot p) q =
+      go (Ok t) q =
+          made (Ok t) (keeps_added k e w ok end ends h l t.count t.used (sym q), added_used S R count used e w k.stored ok t.count t.used (sym q))
+      go (Err (Slots p)) q =
           let s = subst (Fitted S R count used e w k.stored ok) (sym q) (stopped S R count used e w k.stored ok) in
-          made (NoSlot p) (sym (as_kept []) ∙ ap (misfit (length S / slot_bytes) (length R)) s.1.new ∙ s.1.scan [] ∙ ap (λ k. some (refuse refused_slots k)) (sym s.0))
-      go (NoRoom p) q =
+          made (Err (Slots p)) (sym (as_kept []) ∙ ap (misfit (length S / slot_bytes) (length R)) s.1.new ∙ s.1.scan [] ∙ ap (λ k. some (refuse refused_slots k)) (sym s.0))
+      go (Err (Room p)) q =
           let s = subst (Fitted S R count used e w k.stored ok) (sym q) (stopped S R count used e w k.stored ok) in
-          made (NoRoom p) (sym (as_kept []) ∙ ap (misfit (length S / slot_bytes) (length R)) s.1.new ∙ s.1.scan [] ∙ ap (λ k. some (refuse refused_room k)) (sym s.0))
+          made (Err (Room p)) (sym (as_kept []) ∙ ap (misfit (length S / slot_bytes) (length R)) s.1.new ∙ s.1.scan [] ∙ ap (λ k. some (refuse refused_room k)) (sym s.0))
 
   pub reached-add : (S' R' P' : List ℕ) (r : Answer) → r ≡ added S R count used e w → S' ≡ slots' → R' ≡ room' → P' ≡ places_after r count e end P
       → Reached ks n S R S' R' P' (used + length w) after r
