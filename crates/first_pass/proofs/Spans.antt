@@ -21,8 +21,7 @@ use Rattle.definition.proofs.Promises.{tables-bounded}
 use Rattle.definition.specs.Call.{tables_of}
 use Rattle.table_vowels.specs.Told.{FineVowels}
 use Rattle.edge.specs.declared.Filled.{Filled}
-use Rattle.edge.specs.declared.Added.{Added as Answer}
-use Rattle.edge.specs.declared.Added.TheVariants.{Fits}
+use Rattle.edge.specs.Answers.{Answer, fits}
 use Rattle.edge.specs.Slots.{edge_by, edges_of}
 use Rattle.edge.specs.Adding.{there, added, slots_after, room_after, Writable}
 use Rattle.edge_places.specs.declared.Ending.{Ending}
@@ -60,7 +59,7 @@ module _ (rules vowels code : List ℕ) {ready line S R P P₁ : List ℕ} {w : 
 
   -- none was found
   pub span_none : r.there ≡ false → Reached (kinds w) (size w) S R S R P₁ (filled.used + most_bytes) (put_span D w.text look.from look.to (state_of w P))
-      (Fits filled.count filled.used)
+      (fits filled.count filled.used)
   unfolding tables_of add
   span_none h =
       reached_as _ (put_in_did (λ es. span_edge D w.text (view D.classes es) look.from look.to) w.edges (memory (size w) P)

@@ -1,11 +1,10 @@
 -- What the first pass and its steps need of what they are lent, and what the whole of it promises.
-use Rattle.std.specs.Prelude.{ℕ, ◌+◌, ◌-◌, ◌*◌, ◌<◌, ◌≤◌, List, ◌≡◌, length, set}
+use Rattle.std.specs.Prelude.{Ok, Err, ℕ, ◌+◌, ◌-◌, ◌*◌, ◌<◌, ◌≤◌, List, ◌≡◌, length, set}
 use Rattle.base.specs.Alls.{All}
 use Rattle.definition.specs.Limits.{most_source, most_edges, most_bytes}
 use Rattle.definition.specs.Building.{each, build}
 use Rattle.edge.specs.declared.Filled.{Filled}
-use Rattle.edge.specs.declared.Added.{Added as Answer}
-use Rattle.edge.specs.declared.Added.TheVariants.{Fits, NoSlot, NoRoom}
+use Rattle.edge.specs.Answers.{Answer}
 use Rattle.edge.specs.Slots.{edges_of}
 use Rattle.standing.specs.Starts.{begun as begun-at}
 use Rattle.standing.specs.Begun.{Begun}
@@ -60,8 +59,7 @@ FirstPass rules ready vowels code line before after x r =
 -- What starts tell then: each of the stretch has begun, the entry behind it is the number of edges, each of which goes forward
 -- within the text of `n` characters; and there are not too many
 abbrev pub BeganTo : List ℕ → List ℕ → ℕ → List ℕ → Stretch → Answer → Type 0
-BeganTo slots room n starts x (Fits c u) =
-    Begun (edges_of room c slots) x.to starts × (begun-at starts x.to ≡ c) × (length starts ≡ n + 1)
-    × All (λ y. Ahead n y.from y.to) (edges_of room c slots) × (c ≤ x.count + (x.to - x.from) * most_source)
-BeganTo slots room n starts x (NoSlot p) = Unit {0}
-BeganTo slots room n starts x (NoRoom p) = Unit {0}
+BeganTo slots room n starts x (Ok t) =
+    Begun (edges_of room t.count slots) x.to starts × (begun-at starts x.to ≡ t.count) × (length starts ≡ n + 1)
+    × All (λ y. Ahead n y.from y.to) (edges_of room t.count slots) × (t.count ≤ x.count + (x.to - x.from) * most_source)
+BeganTo slots room n starts x (Err f) = Unit {0}

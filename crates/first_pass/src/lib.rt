@@ -10,7 +10,7 @@ ghost use Rattle.passes.specs.Reached.{Reaches};
 ghost use Rattle.first_pass.specs.Rises.{put_span};
 ghost use Rattle.first_pass.specs.FirstPass.{SpanReady, StartReady, PassReady, FirstPass, BeganTo};
 
-use edge::{Added, Filled};
+use edge::{Filled, Full, Taken};
 use words::{Look, Span};
 
 // Ends of a start, at most: no source is longer.
@@ -20,10 +20,7 @@ const MOST_SOURCE: usize = rule_row::MOST_SOURCE as usize;
 fn is_known(look: Look) -> bool
     ensures { result ≡ (ltb 0 look.count || look.more) }
 {
-    if 0 < look.count {
-        return true;
-    }
-    look.more
+    0 < look.count || look.more
 }
 
 // The edge of one span, where it has one, is added.
@@ -38,7 +35,7 @@ fn add_span(
     places: &mut [u32],
     filled: Filled,
     look: Look,
-) -> Added
+) -> Result<Taken, Full>
     requires { SpanReady rules.now ready.now vowels.now line.now slots.old room.old places.old filled look }
     ensures { Reaches rules.now ready.now vowels.now code.now line.now
         (slots.old, room.old, places.old) (slots.new, room.new, places.new)
@@ -51,10 +48,10 @@ fn add_span(
         let end = noting::ending_of(text, passes::ends_in_letter(ready, text));
         return noting::add_edge(slots, room, places, filled, found.numbers, text, end);
     }
-    Added::Fits {
+    Ok(Taken {
         count: filled.count,
         used: filled.used,
-    }
+    })
 }
 
 // `add_romanization` from one start: its ends rise while the span is a prefix of a source.
@@ -69,68 +66,39 @@ fn add_from(
     places: &mut [u32],
     filled: Filled,
     s: usize,
-) -> Added
+) -> Result<Taken, Full>
     requires { StartReady rules.now ready.now vowels.now line.now slots.old room.old places.old filled s }
     ensures { Reaches rules.now ready.now vowels.now code.now line.now
         (slots.old, room.old, places.old) (slots.new, room.new, places.new)
         filled (filled.used + most_source * most_bytes) (λ D t. build D t s) result }
 {
     let n = words::text_len(line);
-    let since = filled.since;
-    let mut edges = filled.count;
-    let mut bytes = filled.used;
-    let mut e = s + 1;
-    let mut left: usize = MOST_SOURCE;
-    while 0 < left {
+    let mut taken = Taken {
+        count: filled.count,
+        used: filled.used,
+    };
+    for e in s + 1..s + 1 + MOST_SOURCE {
         if n < e {
-            return Added::Fits {
-                count: edges,
-                used: bytes,
-            };
+            return Ok(taken);
         }
         let look = words::look_up(rules, ready, line, Span { from: s, to: e });
-        if is_known(look) {
-            let so_far = Filled {
-                count: edges,
-                used: bytes,
-                since,
-            };
-            let done = add_span(
-                rules, ready, vowels, code, line, slots, room, places, so_far, look,
-            );
-            match done {
-                Added::Fits { count, used } => {
-                    edges = count;
-                    bytes = used;
-                }
-                Added::NoSlot(_) => {
-                    return done;
-                }
-                Added::NoRoom(_) => {
-                    return done;
-                }
-            }
-            // no longer source: the next span is none's start
-            if look.more {
-                e += 1;
-                left -= 1;
-            } else {
-                return Added::Fits {
-                    count: edges,
-                    used: bytes,
-                };
-            }
-        } else {
-            return Added::Fits {
-                count: edges,
-                used: bytes,
-            };
+        if !is_known(look) {
+            return Ok(taken);
+        }
+        let so_far = Filled {
+            count: taken.count,
+            used: taken.used,
+            since: filled.since,
+        };
+        taken = add_span(
+            rules, ready, vowels, code, line, slots, room, places, so_far, look,
+        )?;
+        // no longer source: the next span is none's start
+        if !look.more {
+            return Ok(taken);
         }
     }
-    Added::Fits {
-        count: edges,
-        used: bytes,
-    }
+    Ok(taken)
 }
 
 // A stretch of starts, and how many edges there are and how much room they take when the search comes to it.
@@ -155,43 +123,27 @@ pub fn add_romanization(
     places: &mut [u32],
     starts: &mut [u32],
     stretch: Stretch,
-) -> Added
+) -> Result<Taken, Full>
     requires { PassReady rules.now ready.now vowels.now line.now slots.old room.old places.old starts.old stretch }
     ensures built { FirstPass rules.now ready.now vowels.now code.now line.now
         (slots.old, room.old, places.old) (slots.new, room.new, places.new) stretch result }
     ensures starts { BeganTo slots.new room.new (size_in line.now) starts.new stretch result }
 {
-    let n = stretch.to;
-    let mut edges = stretch.count;
-    let mut bytes = stretch.used;
-    let mut s = stretch.from;
-    while s < n {
-        standing::begin_at(starts, s, edges);
+    let mut taken = Taken {
+        count: stretch.count,
+        used: stretch.used,
+    };
+    for s in stretch.from..stretch.to {
+        standing::begin_at(starts, s, taken.count);
         let filled = Filled {
-            count: edges,
-            used: bytes,
+            count: taken.count,
+            used: taken.used,
             since: standing::since(starts, s),
         };
-        let done = add_from(
+        taken = add_from(
             rules, ready, vowels, code, line, slots, room, places, filled, s,
-        );
-        match done {
-            Added::Fits { count, used } => {
-                edges = count;
-                bytes = used;
-            }
-            Added::NoSlot(_) => {
-                return done;
-            }
-            Added::NoRoom(_) => {
-                return done;
-            }
-        }
-        s += 1;
+        )?;
     }
-    standing::begin_at(starts, n, edges);
-    Added::Fits {
-        count: edges,
-        used: bytes,
-    }
+    standing::begin_at(starts, stretch.to, taken.count);
+    Ok(taken)
 }

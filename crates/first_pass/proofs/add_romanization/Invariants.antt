@@ -17,14 +17,12 @@ use Rattle.first_pass.proofs.add_romanization.Given as goal
 
 abbrev pub invariant-loop-s : goal.invariant-loop-s
 invariant-loop-s l =
-    ((w : World) → Over w l.ready l.line l.initial.slots l.initial.room l.initial.places (filled_of (record { count = l.initial.edges; used = l.initial.bytes; from = l.initial.s; to = l.n }))
-    → Going (each (build (tables_of w.choices l.rules w.classes l.vowels l.code) w.text) (l.n - l.s) l.s) (kinds w) (size w) l.initial.slots l.initial.room
-    (each (build (tables_of w.choices l.rules w.classes l.vowels l.code) w.text) (l.n - l.initial.s) l.initial.s (state_of w l.initial.places)) l.slots l.room l.places l.edges l.bytes)
-    × Begun (edges_of l.room l.edges l.slots) l.s (set l.starts l.s l.edges) × (length l.starts ≡ size_in l.line + 1)
-    × All (λ x. Ahead (size_in l.line) x.from x.to) (edges_of l.room l.edges l.slots)
-    × (l.edges ≤ l.initial.edges + (l.s - l.initial.s) * most_source) × (l.bytes ≤ l.initial.bytes + (l.s - l.initial.s) * (most_source * most_bytes)) × (l.initial.s ≤ l.s) × (l.s ≤ l.n)
+    let x = l.fn.stretch in
+    ((w : World) → Over w l.ready l.line l.initial.slots l.initial.room l.initial.places (filled_of x)
+    → Going (each (build (tables_of w.choices l.rules w.classes l.vowels l.code) w.text) (x.to - l.s) l.s) (kinds w) (size w) l.initial.slots l.initial.room
+    (each (build (tables_of w.choices l.rules w.classes l.vowels l.code) w.text) (x.to - x.from) x.from (state_of w l.initial.places))
+    l.slots l.room l.places l.taken.count l.taken.used)
+    × Begun (edges_of l.room l.taken.count l.slots) l.s (set l.starts l.s l.taken.count) × (length l.starts ≡ size_in l.line + 1)
+    × All (λ x. Ahead (size_in l.line) x.from x.to) (edges_of l.room l.taken.count l.slots)
+    × (l.taken.count ≤ x.count + (l.s - x.from) * most_source) × (l.taken.used ≤ x.used + (l.s - x.from) * (most_source * most_bytes))
     × (length l.slots ≡ length l.initial.slots) × (length l.room ≡ length l.initial.room) × (length l.places ≡ length l.initial.places) × (length l.starts ≡ length l.initial.starts)
-
-abbrev pub decreases-loop-s : goal.decreases-loop-s
-decreases-loop-s l =
-    l.n - l.s
