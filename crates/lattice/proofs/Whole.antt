@@ -1,4 +1,5 @@
 -- Both passes, one behind the other, make the lattice.
+use Rattle.std.specs.Prelude.{Ok, Err}
 use Prim.Native.Nat.{ℕ, ◌+◌, ◌≤◌}
 use mathlib.Core.List.{List, []}
 use mathlib.Core.Path.{◌≡◌, refl, sym, ap, ◌∙◌, subst}
@@ -9,8 +10,7 @@ use Rattle.definition.specs.Texts.{Text}
 use Rattle.definition.specs.Tables.{Tables}
 use Rattle.definition.specs.Edges.{Edge, Mem}
 use Rattle.definition.specs.Building.{each, build, fall, lattice_by, rule_lattice}
-use Rattle.edge.specs.declared.Added.{Added as Answer}
-use Rattle.edge.specs.declared.Added.TheVariants.{Fits, NoSlot, NoRoom}
+use Rattle.edge.specs.Answers.{Answer}
 use Rattle.edge.specs.Slots.{edges_of}
 use Rattle.edge_places.specs.Shows.{memory, memory-none}
 use Rattle.standing.specs.Starts.{begun}
@@ -64,11 +64,10 @@ whole_ready {line = line} table inherent there zeros n e = record {
 
 -- and behind it starts have begun up to the text's end
 pub whole_began : (slots room starts : List ℕ) (m n : ℕ) → m ≡ n → (r : Answer) → BeganTo slots room n starts (all_starts m) r → Began slots room n starts r
-whole_began slots room starts m n e (Fits c u) b = (
-  subst (λ (k : ℕ). Begun (edges_of room c slots) k starts) e b.0,
+whole_began slots room starts m n e (Ok t) b = (
+  subst (λ (k : ℕ). Begun (edges_of room t.count slots) k starts) e b.0,
   ap (begun starts) (sym e) ∙ b.1,
   b.2,
   b.3,
 )
-whole_began slots room starts m n e (NoSlot p) b = tt
-whole_began slots room starts m n e (NoRoom p) b = tt
+whole_began slots room starts m n e (Err f) b = tt

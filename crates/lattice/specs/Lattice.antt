@@ -3,7 +3,7 @@ use Rattle.std.specs.Prelude.{ℕ, ◌+◌, ◌*◌, List, ◌≡◌, replicate}
 use Rattle.definition.specs.Limits.{most_bytes, most_edges, most_characters}
 use Rattle.definition.specs.Building.{rule_lattice}
 use Rattle.definition.specs.Call.{tables_of}
-use Rattle.edge.specs.declared.Added.{Added as Answer}
+use Rattle.edge.specs.Answers.{Answer}
 use Rattle.table_vowels.specs.Told.{FineVowels}
 use Rattle.words.specs.Given.{World, kinds, size, size_in, Prepared}
 use Rattle.passes.specs.Reached.{nothing, Over, Somewhere, Rooms, Reached}

@@ -5,7 +5,7 @@
 ghost use Rattle.second_pass.specs.Starts.{Standing};
 ghost use Rattle.lattice.specs.Lattice.{Lattice, Buildable};
 
-use edge::{Added, Filled};
+use edge::{Filled, Full, Taken};
 
 // The lattice of a text in the slots and the room that are lent: how many edges it has and how much room they take, or
 // the first that finds no slot, or a slot but too little room.
@@ -20,14 +20,14 @@ pub fn build_lattice<'a>(
     room: &mut [u8],
     places: &mut [u32],
     starts: &mut [u32],
-) -> Added
+) -> Result<Taken, Full>
     requires { Buildable rules.now ready.now vowels.now text.now line.now slots.old room.old places.old starts.old }
     ensures built { Lattice rules.now ready.now vowels.now code.now line.now
         (slots.old, room.old, places.old) (slots.new, room.new, places.new) result }
     ensures starts { Standing slots.new starts.new result }
 {
     let n = words::text_len(line);
-    let done = first_pass::add_romanization(
+    let taken = first_pass::add_romanization(
         rules,
         ready,
         vowels,
@@ -43,25 +43,21 @@ pub fn build_lattice<'a>(
             from: 0,
             to: n,
         },
-    );
-    match done {
-        Added::Fits { count, used } => second_pass::add_rom_fall_back_singles(
-            rules,
-            ready,
-            code,
-            text,
-            line,
-            slots,
-            room,
-            places,
-            starts,
-            Filled {
-                count,
-                used,
-                since: count,
-            },
-        ),
-        Added::NoSlot(_) => done,
-        Added::NoRoom(_) => done,
-    }
+    )?;
+    second_pass::add_rom_fall_back_singles(
+        rules,
+        ready,
+        code,
+        text,
+        line,
+        slots,
+        room,
+        places,
+        starts,
+        Filled {
+            count: taken.count,
+            used: taken.used,
+            since: taken.count,
+        },
+    )
 }

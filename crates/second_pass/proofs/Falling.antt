@@ -17,8 +17,6 @@ use Rattle.definition.specs.Building.{single, put_in, fallback_by, fallback_edge
 use Rattle.definition.specs.Posts.{Post, post_ret, post_then, post_pick}
 use Rattle.definition.specs.Growth.{Added, added_not, added_new}
 use Rattle.edge.specs.declared.Filled.{Filled}
-use Rattle.edge.specs.declared.Added.{Added as Answer}
-use Rattle.edge.specs.declared.Added.TheVariants.{Fits, NoSlot, NoRoom}
 use Rattle.edge.specs.Slots.{edges_of}
 use Rattle.edge.specs.Stored.{edge_count}
 use Rattle.words.specs.Given.{World}
@@ -26,9 +24,8 @@ use Rattle.standing.specs.Starts.{begun, fell}
 use Rattle.standing.specs.Begun.{Begun}
 use Rattle.standing.specs.Fallen.{Fallen, fallen-first, fallen-kept, fallen-more}
 use Rattle.standing.specs.Stands.{Ahead, Stands, fallen-stands}
-use Rattle.passes.specs.Reached.{Over, Refused}
+use Rattle.passes.specs.Reached.{Over}
 use Rattle.passes.proofs.Passing.{kept}
-use Rattle.second_pass.specs.Starts.{Standing}
 
 -- An edge over the one character at `p`
 pub record Alone (p : ℕ) (x : Edge) : Type 0 where
@@ -144,9 +141,3 @@ module _ {P : List Edge} {n : ℕ} {S R : List ℕ} {c p : ℕ} {starts : List �
 pub over_since : {ready line S R P : List ℕ} {w : World} {filled : Filled} → Over w ready line S R P filled
     → Over w ready line S R P (record { count = filled.count; used = filled.used; since = 0 })
 over_since o = record { told = o.told; lent = o.lent; stored = o.stored; edges = o.edges }
-
--- a refusal tells nothing of starts
-pub refused-stands : (slots starts : List ℕ) (r : Answer) → Refused r → Standing slots starts r
-refused-stands slots starts (Fits c u) h = absurd h
-refused-stands slots starts (NoSlot p) h = tt
-refused-stands slots starts (NoRoom p) h = tt

@@ -33,7 +33,7 @@ use Rattle.definition.specs.Call.{tables_of}
 use Rattle.utf8.specs.Encodings.{low-decoded}
 use Rattle.edge.specs.declared.Filled.{Filled}
 use Rattle.edge.specs.declared.Numbers.{Numbers}
-use Rattle.edge.specs.declared.Added.{Added as Answer}
+use Rattle.edge.specs.Answers.{Answer}
 use Rattle.edge.specs.Slots.{edge_by}
 use Rattle.edge.specs.Stored.{Stored}
 use Rattle.edge.specs.Adding.{added, slots_after, room_after, Writable, Addable}

@@ -6,8 +6,7 @@ use Rattle.definition.specs.Tables.{Tables}
 use Rattle.definition.specs.Edges.{State}
 use Rattle.definition.specs.Building.{each, fall}
 use Rattle.edge.specs.declared.Filled.{Filled}
-use Rattle.edge.specs.declared.Added.{Added as Answer}
-use Rattle.edge.specs.declared.Added.TheVariants.{Fits}
+use Rattle.edge.specs.Answers.{Answer, fits}
 use Rattle.words.specs.Given.{size_in, Prepared}
 use Rattle.passes.specs.Reached.{addressable, Somewhere, Rooms, Reaches}
 use Rattle.passes.specs.Starts.{Began}
@@ -18,7 +17,7 @@ use Rattle.second_pass.specs.Fallback.{chars_in, Own}
 abbrev pub FallReady : List ℕ → List ℕ → List ℕ → List ℕ → List ℕ → List ℕ → List ℕ → List ℕ → Filled → Type 0
 FallReady rules ready text line slots room places starts filled =
     Prepared rules ready × Own text (chars_in line) × (filled.used + size_in line * most_bytes < addressable)
-    × Somewhere ready line slots room places filled × Began slots room (size_in line) starts (Fits filled.count filled.used)
+    × Somewhere ready line slots room places filled × Began slots room (size_in line) starts (fits filled.count filled.used)
 
 module _ (rules ready code line : List ℕ) (filled : Filled) where
   -- One fallback at most, by the definition's step `f`, whatever the vowel table: no fallback asks it

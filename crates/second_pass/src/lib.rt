@@ -16,7 +16,7 @@ ghost use Rattle.second_pass.specs.Fallback.{search_note, single_numbers, At, Ba
 ghost use Rattle.second_pass.specs.Starts.{Standing};
 ghost use Rattle.second_pass.specs.SecondPass.{FallReady, FallsBack, SecondPass};
 
-use edge::{Added, Filled, Numbers};
+use edge::{Filled, Full, Numbers, Taken};
 use rule_choice::Chosen;
 use words::Span;
 
@@ -75,7 +75,7 @@ fn add_fallback<'a>(
     places: &mut [u32],
     filled: Filled,
     here: Here,
-) -> Added
+) -> Result<Taken, Full>
     requires { Prepared rules.now ready.now × At text.now line.now here × (filled.used < addressable)
         × Somewhere ready.now line.now slots.old room.old places.old filled × Bare slots.old room.old filled here.p }
     ensures { FallsBack rules.now ready.now code.now line.now filled (λ D t. put_fallback D t here.p)
@@ -138,17 +138,17 @@ fn fall_back_at<'a>(
     places: &mut [u32],
     filled: Filled,
     here: Here,
-) -> Added
+) -> Result<Taken, Full>
     requires { Prepared rules.now ready.now × At text.now line.now here × (filled.used < addressable)
         × Somewhere ready.now line.now slots.old room.old places.old filled × (filled.since ≡ filled.count) }
     ensures { FallsBack rules.now ready.now code.now line.now filled (λ D t. fall D t here.p)
         (slots.old, room.old, places.old) (slots.new, room.new, places.new) result }
 {
     if edge_places::is_covered(places, here.p) {
-        return Added::Fits {
+        return Ok(Taken {
             count: filled.count,
             used: filled.used,
-        };
+        });
     }
     add_fallback(
         rules, ready, code, text, line, slots, room, places, filled, here,
@@ -168,7 +168,7 @@ pub fn add_rom_fall_back_singles<'a>(
     places: &mut [u32],
     starts: &mut [u32],
     filled: Filled,
-) -> Added
+) -> Result<Taken, Full>
     requires { FallReady rules.now ready.now text.now line.now slots.old room.old places.old starts.old filled }
     ensures built { SecondPass rules.now ready.now code.now line.now filled
         (slots.old, room.old, places.old) (slots.new, room.new, places.new) result }
@@ -176,17 +176,19 @@ pub fn add_rom_fall_back_singles<'a>(
 {
     let n = words::text_len(line);
     let first = filled.count;
-    let mut edges = filled.count;
-    let mut bytes = filled.used;
-    let mut p: usize = 0;
+    let mut taken = Taken {
+        count: first,
+        used: filled.used,
+    };
     let mut at: usize = 0;
-    while p < n {
+    for p in 0..n {
+        let before = taken.count;
         let so_far = Filled {
-            count: edges,
-            used: bytes,
-            since: edges,
+            count: before,
+            used: taken.used,
+            since: before,
         };
-        let done = fall_back_at(
+        taken = fall_back_at(
             rules,
             ready,
             code,
@@ -197,27 +199,11 @@ pub fn add_rom_fall_back_singles<'a>(
             places,
             so_far,
             Here { p, at },
-        );
-        match done {
-            Added::Fits { count, used } => {
-                if edges < count {
-                    standing::fall_at(starts, p, edges - first);
-                }
-                edges = count;
-                bytes = used;
-            }
-            Added::NoSlot(_) => {
-                return done;
-            }
-            Added::NoRoom(_) => {
-                return done;
-            }
+        )?;
+        if before < taken.count {
+            standing::fall_at(starts, p, before - first);
         }
-        p += 1;
-        at += utf8::encoded_len(words::number_at(line, p));
+        at += utf8::encoded_len(words::number_at(line, p + 1));
     }
-    Added::Fits {
-        count: edges,
-        used: bytes,
-    }
+    Ok(taken)
 }

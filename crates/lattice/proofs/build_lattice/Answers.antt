@@ -1,5 +1,7 @@
 -- `lattice::build_lattice`: the fallbacks come behind the first pass; a refusal of either is the whole's.
-use mathlib.Core.Path.{◌≡◌, sym, ap, ◌∙◌, subst}
+use Rattle.std.specs.Prelude.{Ok, Err}
+use Rattle.std.proofs.lemmas.Result.{err_from_is_err_and}
+use mathlib.Core.Path.{◌≡◌, ap, ◌∙◌}
 use Prim.Native.Nat.{◌+◌, ◌-◌, ◌*◌}
 use native.Mathlib.Omega.{arith}
 use Rattle.definition.specs.Limits.{most_source, most_bytes, most_edges, most_characters}
@@ -7,27 +9,23 @@ use Rattle.definition.specs.Edges.{Mem}
 use Rattle.definition.specs.Building.{each, build, fall, rule_lattice}
 use Rattle.definition.specs.Growth.{each-grown, fall-grown}
 use Rattle.definition.specs.Call.{tables_of}
-use Rattle.edge.specs.declared.Added.TheVariants.{Fits}
 use Rattle.words.specs.Given.{World, kinds, size, size_in, line-size}
 use Rattle.passes.specs.Reached.{nothing, Over, state_of, with_edges, over_now, Reached, Refused}
 use Rattle.passes.specs.Reached.{reached-wide, reached-refused, reached_as, reached_since}
-use Rattle.passes.specs.Starts.{Began}
-use Rattle.second_pass.specs.Starts.{Standing}
 use Rattle.lattice.specs.Lattice.{Lattice}
 use Rattle.lattice.proofs.Whole.{whole-lattice, whole_ready, whole_began}
 use Rattle.lattice.proofs.build_lattice.Goals as goal
 
-pub add_romanization-done-requires : goal.add_romanization-done-requires
-add_romanization-done-requires c =
+pub add_romanization-requires : goal.add_romanization-requires
+add_romanization-requires c =
     whole_ready c.requires.0 c.requires.1 c.requires.3 c.requires.5 c.text_len-n.result c.text_len-n.ensures
 
 pub add_rom_fall_back_singles-requires : goal.add_rom_fall_back_singles-requires
 add_rom_fall_back_singles-requires c =
-    let fits : (w : World) → (o : (Over w c.args.ready.now c.args.line.now c.args.slots.now c.args.room.now c.args.places.now nothing)) → Reached (kinds w) (size w) c.args.slots.now c.args.room.now c.add_romanization-done.new.slots c.add_romanization-done.new.room c.add_romanization-done.new.places (0 + (c.text_len-n.result - 0) * (most_source * most_bytes)) ((each (build ((tables_of w.choices c.args.rules.now w.classes c.args.vowels.now c.args.code.now)) w.text) (c.text_len-n.result - 0) 0 (state_of w c.args.places.now))) (Fits c.in-Fits.count c.in-Fits.used) = λ w. λ o.
-    subst (Reached (kinds w) (size w) c.args.slots.now c.args.room.now c.add_romanization-done.new.slots c.add_romanization-done.new.room c.add_romanization-done.new.places (0 + (c.text_len-n.result - 0) * (most_source * most_bytes)) ((each (build ((tables_of w.choices c.args.rules.now w.classes c.args.vowels.now c.args.code.now)) w.text) (c.text_len-n.result - 0) 0 (state_of w c.args.places.now))))
-    c.in-Fits.is (c.add_romanization-done.ensures.built w o) in
-    let over : (w : World) → (o : (Over w c.args.ready.now c.args.line.now c.args.slots.now c.args.room.now c.args.places.now nothing)) → Over (with_edges w ((each (build ((tables_of w.choices c.args.rules.now w.classes c.args.vowels.now c.args.code.now)) w.text) (c.text_len-n.result - 0) 0 (state_of w c.args.places.now))).0) c.args.ready.now c.args.line.now c.add_romanization-done.new.slots c.add_romanization-done.new.room c.add_romanization-done.new.places (record { count = c.in-Fits.count; used = c.in-Fits.used; since = c.in-Fits.count }) = λ w. λ o.
-    over_now o.told o.lent.text c.add_romanization-done.new.slots c.add_romanization-done.new.room c.add_romanization-done.new.places (record { count = c.in-Fits.count; used = c.in-Fits.used; since = c.in-Fits.count }) ((each (build ((tables_of w.choices c.args.rules.now w.classes c.args.vowels.now c.args.code.now)) w.text) (c.text_len-n.result - 0) 0 (state_of w c.args.places.now))) (fits w o).came.0 in
+    let fits : (w : World) → (o : (Over w c.args.ready.now c.args.line.now c.args.slots.now c.args.room.now c.args.places.now nothing)) → Reached (kinds w) (size w) c.args.slots.now c.args.room.now c.add_romanization.new.slots c.add_romanization.new.room c.add_romanization.new.places (0 + (c.text_len-n.result - 0) * (most_source * most_bytes)) ((each (build ((tables_of w.choices c.args.rules.now w.classes c.args.vowels.now c.args.code.now)) w.text) (c.text_len-n.result - 0) 0 (state_of w c.args.places.now))) (Ok c.in_ok-taken.taken) = λ w. λ o.
+    c.in_ok-taken.ensures.built w o in
+    let over : (w : World) → (o : (Over w c.args.ready.now c.args.line.now c.args.slots.now c.args.room.now c.args.places.now nothing)) → Over (with_edges w ((each (build ((tables_of w.choices c.args.rules.now w.classes c.args.vowels.now c.args.code.now)) w.text) (c.text_len-n.result - 0) 0 (state_of w c.args.places.now))).0) c.args.ready.now c.args.line.now c.add_romanization.new.slots c.add_romanization.new.room c.add_romanization.new.places (record { count = c.in_ok-taken.taken.count; used = c.in_ok-taken.taken.used; since = c.in_ok-taken.taken.count }) = λ w. λ o.
+    over_now o.told o.lent.text c.add_romanization.new.slots c.add_romanization.new.room c.add_romanization.new.places (record { count = c.in_ok-taken.taken.count; used = c.in_ok-taken.taken.used; since = c.in_ok-taken.taken.count }) ((each (build ((tables_of w.choices c.args.rules.now w.classes c.args.vowels.now c.args.code.now)) w.text) (c.text_len-n.result - 0) 0 (state_of w c.args.places.now))) (fits w o).came.0 in
     let w = c.requires.3.world in
     let o = c.requires.3.over in
     let n = size_in c.args.line.now in
@@ -38,20 +36,19 @@ add_rom_fall_back_singles-requires c =
       c.requires.2,
       omega (arith, most, few, is, line-size o.lent.text),
       record { world = with_edges w ((each (build ((tables_of w.choices c.args.rules.now w.classes c.args.vowels.now c.args.code.now)) w.text) (c.text_len-n.result - 0) 0 (state_of w c.args.places.now))).0; over = over w o },
-      subst (Began c.add_romanization-done.new.slots c.add_romanization-done.new.room n c.add_romanization-done.new.starts) c.in-Fits.is
-          (whole_began c.add_romanization-done.new.slots c.add_romanization-done.new.room c.add_romanization-done.new.starts c.text_len-n.result n is c.add_romanization-done.result c.add_romanization-done.ensures.starts),
+      whole_began c.add_romanization.new.slots c.add_romanization.new.room c.add_romanization.new.starts c.text_len-n.result n is (Ok c.in_ok-taken.taken)
+          c.in_ok-taken.ensures.starts,
     )
 
-pub returns-in-Fits : goal.returns-in-Fits
+pub returns : goal.returns
 unfolding tables_of
-returns-in-Fits c =
+returns c =
     let whole : (w : World) → (o : (Over w c.args.ready.now c.args.line.now c.args.slots.now c.args.room.now c.args.places.now nothing)) → each (fall ((tables_of w.choices c.args.rules.now w.classes c.args.vowels.now c.args.code.now)) w.text) (size w) 0 ((each (build ((tables_of w.choices c.args.rules.now w.classes c.args.vowels.now c.args.code.now)) w.text) (c.text_len-n.result - 0) 0 (state_of w c.args.places.now))) ≡ rule_lattice ((tables_of w.choices c.args.rules.now w.classes c.args.vowels.now c.args.code.now)) w.text = λ w. λ o. let is = line-size o.lent.text in
     whole-lattice ((tables_of w.choices c.args.rules.now w.classes c.args.vowels.now c.args.code.now)) o (c.text_len-n.result - 0) (size_in c.args.line.now + 1) (omega (arith, is, c.text_len-n.ensures)) c.requires.4 (omega (arith, is)) in
-    let fits : (w : World) → (o : (Over w c.args.ready.now c.args.line.now c.args.slots.now c.args.room.now c.args.places.now nothing)) → Reached (kinds w) (size w) c.args.slots.now c.args.room.now c.add_romanization-done.new.slots c.add_romanization-done.new.room c.add_romanization-done.new.places (0 + (c.text_len-n.result - 0) * (most_source * most_bytes)) ((each (build ((tables_of w.choices c.args.rules.now w.classes c.args.vowels.now c.args.code.now)) w.text) (c.text_len-n.result - 0) 0 (state_of w c.args.places.now))) (Fits c.in-Fits.count c.in-Fits.used) = λ w. λ o.
-    subst (Reached (kinds w) (size w) c.args.slots.now c.args.room.now c.add_romanization-done.new.slots c.add_romanization-done.new.room c.add_romanization-done.new.places (0 + (c.text_len-n.result - 0) * (most_source * most_bytes)) ((each (build ((tables_of w.choices c.args.rules.now w.classes c.args.vowels.now c.args.code.now)) w.text) (c.text_len-n.result - 0) 0 (state_of w c.args.places.now))))
-    c.in-Fits.is (c.add_romanization-done.ensures.built w o) in
-    let over : (w : World) → (o : (Over w c.args.ready.now c.args.line.now c.args.slots.now c.args.room.now c.args.places.now nothing)) → Over (with_edges w ((each (build ((tables_of w.choices c.args.rules.now w.classes c.args.vowels.now c.args.code.now)) w.text) (c.text_len-n.result - 0) 0 (state_of w c.args.places.now))).0) c.args.ready.now c.args.line.now c.add_romanization-done.new.slots c.add_romanization-done.new.room c.add_romanization-done.new.places (record { count = c.in-Fits.count; used = c.in-Fits.used; since = c.in-Fits.count }) = λ w. λ o.
-    over_now o.told o.lent.text c.add_romanization-done.new.slots c.add_romanization-done.new.room c.add_romanization-done.new.places (record { count = c.in-Fits.count; used = c.in-Fits.used; since = c.in-Fits.count }) ((each (build ((tables_of w.choices c.args.rules.now w.classes c.args.vowels.now c.args.code.now)) w.text) (c.text_len-n.result - 0) 0 (state_of w c.args.places.now))) (fits w o).came.0 in
+    let fits : (w : World) → (o : (Over w c.args.ready.now c.args.line.now c.args.slots.now c.args.room.now c.args.places.now nothing)) → Reached (kinds w) (size w) c.args.slots.now c.args.room.now c.add_romanization.new.slots c.add_romanization.new.room c.add_romanization.new.places (0 + (c.text_len-n.result - 0) * (most_source * most_bytes)) ((each (build ((tables_of w.choices c.args.rules.now w.classes c.args.vowels.now c.args.code.now)) w.text) (c.text_len-n.result - 0) 0 (state_of w c.args.places.now))) (Ok c.in_ok-taken.taken) = λ w. λ o.
+    c.in_ok-taken.ensures.built w o in
+    let over : (w : World) → (o : (Over w c.args.ready.now c.args.line.now c.args.slots.now c.args.room.now c.args.places.now nothing)) → Over (with_edges w ((each (build ((tables_of w.choices c.args.rules.now w.classes c.args.vowels.now c.args.code.now)) w.text) (c.text_len-n.result - 0) 0 (state_of w c.args.places.now))).0) c.args.ready.now c.args.line.now c.add_romanization.new.slots c.add_romanization.new.room c.add_romanization.new.places (record { count = c.in_ok-taken.taken.count; used = c.in_ok-taken.taken.used; since = c.in_ok-taken.taken.count }) = λ w. λ o.
+    over_now o.told o.lent.text c.add_romanization.new.slots c.add_romanization.new.room c.add_romanization.new.places (record { count = c.in_ok-taken.taken.count; used = c.in_ok-taken.taken.used; since = c.in_ok-taken.taken.count }) ((each (build ((tables_of w.choices c.args.rules.now w.classes c.args.vowels.now c.args.code.now)) w.text) (c.text_len-n.result - 0) 0 (state_of w c.args.places.now))) (fits w o).came.0 in
     record {
       built = λ w o.
           let r = fits w o in
@@ -65,28 +62,14 @@ returns-in-Fits c =
       starts = c.add_rom_fall_back_singles.ensures.starts;
     }
 
-pub returns-in-NoSlot : goal.returns-in-NoSlot
-returns-in-NoSlot c =
+pub returns-in_err-taken-clause-built : goal.returns-in_err-taken-clause-built
+returns-in_err-taken-clause-built c =
     let whole : (w : World) → (o : (Over w c.args.ready.now c.args.line.now c.args.slots.now c.args.room.now c.args.places.now nothing)) → each (fall ((tables_of w.choices c.args.rules.now w.classes c.args.vowels.now c.args.code.now)) w.text) (size w) 0 ((each (build ((tables_of w.choices c.args.rules.now w.classes c.args.vowels.now c.args.code.now)) w.text) (c.text_len-n.result - 0) 0 (state_of w c.args.places.now))) ≡ rule_lattice ((tables_of w.choices c.args.rules.now w.classes c.args.vowels.now c.args.code.now)) w.text = λ w. λ o. let is = line-size o.lent.text in
     whole-lattice ((tables_of w.choices c.args.rules.now w.classes c.args.vowels.now c.args.code.now)) o (c.text_len-n.result - 0) (size_in c.args.line.now + 1) (omega (arith, is, c.text_len-n.ensures)) c.requires.4 (omega (arith, is)) in
-    let stops : (q : Refused c.add_romanization-done.result) → Lattice c.args.rules.now c.args.ready.now c.args.vowels.now c.args.code.now c.args.line.now (c.args.slots.now, c.args.room.now, c.args.places.now) (c.add_romanization-done.new.slots, c.add_romanization-done.new.room, c.add_romanization-done.new.places) c.add_romanization-done.result = λ q. λ w o.
+    let stops : (q : Refused (Err c.in_err-taken.field-0.0)) → Lattice c.args.rules.now c.args.ready.now c.args.vowels.now c.args.code.now c.args.line.now (c.args.slots.now, c.args.room.now, c.args.places.now) (c.add_romanization.new.slots, c.add_romanization.new.room, c.add_romanization.new.places) (Err c.in_err-taken.field-0.0) = λ q. λ w o.
     let f = fall ((tables_of w.choices c.args.rules.now w.classes c.args.vowels.now c.args.code.now)) w.text in
-    reached_as _ (whole w o) c.add_romanization-done.result
+    reached_as _ (whole w o) (Err c.in_err-taken.field-0.0)
     (reached-refused (most_edges * most_characters * most_bytes) (each f (size w) 0 ((each (build ((tables_of w.choices c.args.rules.now w.classes c.args.vowels.now c.args.code.now)) w.text) (c.text_len-n.result - 0) 0 (state_of w c.args.places.now))))
-    (each-grown f 1 (fall-grown ((tables_of w.choices c.args.rules.now w.classes c.args.vowels.now c.args.code.now)) w.text) (size w) 0 ((each (build ((tables_of w.choices c.args.rules.now w.classes c.args.vowels.now c.args.code.now)) w.text) (c.text_len-n.result - 0) 0 (state_of w c.args.places.now)))).added c.add_romanization-done.result q (c.add_romanization-done.ensures.built w o)) in record {
-      built = stops (subst Refused (sym c.in-NoSlot.is) tt);
-      starts = subst (Standing c.add_romanization-done.new.slots c.add_romanization-done.new.starts) (sym c.in-NoSlot.is) tt;
-    }
-
-pub returns-in-NoRoom : goal.returns-in-NoRoom
-returns-in-NoRoom c =
-    let whole : (w : World) → (o : (Over w c.args.ready.now c.args.line.now c.args.slots.now c.args.room.now c.args.places.now nothing)) → each (fall ((tables_of w.choices c.args.rules.now w.classes c.args.vowels.now c.args.code.now)) w.text) (size w) 0 ((each (build ((tables_of w.choices c.args.rules.now w.classes c.args.vowels.now c.args.code.now)) w.text) (c.text_len-n.result - 0) 0 (state_of w c.args.places.now))) ≡ rule_lattice ((tables_of w.choices c.args.rules.now w.classes c.args.vowels.now c.args.code.now)) w.text = λ w. λ o. let is = line-size o.lent.text in
-    whole-lattice ((tables_of w.choices c.args.rules.now w.classes c.args.vowels.now c.args.code.now)) o (c.text_len-n.result - 0) (size_in c.args.line.now + 1) (omega (arith, is, c.text_len-n.ensures)) c.requires.4 (omega (arith, is)) in
-    let stops : (q : Refused c.add_romanization-done.result) → Lattice c.args.rules.now c.args.ready.now c.args.vowels.now c.args.code.now c.args.line.now (c.args.slots.now, c.args.room.now, c.args.places.now) (c.add_romanization-done.new.slots, c.add_romanization-done.new.room, c.add_romanization-done.new.places) c.add_romanization-done.result = λ q. λ w o.
-    let f = fall ((tables_of w.choices c.args.rules.now w.classes c.args.vowels.now c.args.code.now)) w.text in
-    reached_as _ (whole w o) c.add_romanization-done.result
-    (reached-refused (most_edges * most_characters * most_bytes) (each f (size w) 0 ((each (build ((tables_of w.choices c.args.rules.now w.classes c.args.vowels.now c.args.code.now)) w.text) (c.text_len-n.result - 0) 0 (state_of w c.args.places.now))))
-    (each-grown f 1 (fall-grown ((tables_of w.choices c.args.rules.now w.classes c.args.vowels.now c.args.code.now)) w.text) (size w) 0 ((each (build ((tables_of w.choices c.args.rules.now w.classes c.args.vowels.now c.args.code.now)) w.text) (c.text_len-n.result - 0) 0 (state_of w c.args.places.now)))).added c.add_romanization-done.result q (c.add_romanization-done.ensures.built w o)) in record {
-      built = stops (subst Refused (sym c.in-NoRoom.is) tt);
-      starts = subst (Standing c.add_romanization-done.new.slots c.add_romanization-done.new.starts) (sym c.in-NoRoom.is) tt;
-    }
+    (each-grown f 1 (fall-grown ((tables_of w.choices c.args.rules.now w.classes c.args.vowels.now c.args.code.now)) w.text) (size w) 0 ((each (build ((tables_of w.choices c.args.rules.now w.classes c.args.vowels.now c.args.code.now)) w.text) (c.text_len-n.result - 0) 0 (state_of w c.args.places.now)))).added (Err c.in_err-taken.field-0.0) q (c.in_err-taken.ensures.built w o)) in
+    let p = err_from_is_err_and c.from_residual.result c.from_residual.ensures.1 in
+    rw (p.1, p.2) (stops tt)
