@@ -1,5 +1,5 @@
 -- The path walked to its end: what was spelled and what is left of it.
-use Rattle.std.specs.Prelude.{Bool, ◌≡◌, ℕ, suc, ◌+◌, ◌<◌, length, drop}
+use Rattle.std.specs.Prelude.{Some, None, Bool, ◌≡◌, ℕ, suc, ◌+◌, ◌<◌, length, drop}
 use mathlib.Core.List.{List, [], ◌++◌, append-nil, append_assoc}
 use Rattle.std.proofs.Math.Option.{Option, none, some}
 use Rattle.std.proofs.Math.Path.{refl, ap, subst}
@@ -10,8 +10,7 @@ use Rattle.definition.specs.Tables.{Class}
 use Rattle.definition.specs.Edges.{Edge, right_best}
 use Rattle.definition.specs.Paths.{join, next, path_from, joined}
 use Rattle.definition.specs.Decomposing.{slashed}
-use Rattle.edge.specs.declared.BestEdge.{BestEdge}
-use Rattle.edge.specs.declared.BestEdge.TheVariants.{At, Nothing}
+use Rattle.edge.specs.Best.{BestEdge}
 use Rattle.edge.specs.Slots.{from_of}
 use Rattle.edge.specs.Stored.{Slot}
 use Rattle.words.specs.Given.{size_in}
@@ -27,8 +26,8 @@ pub record Lying (line slots room starts : List ℕ) : Type 0 where
 
 -- an edge of it, if any, that can be read
 abbrev pub BestRead : List ℕ → List ℕ → List ℕ → BestEdge → Type 0
-BestRead line slots room (At slot) = Slot room (length room) (drop slot slots) × (from_of (drop slot slots) < size_in line)
-BestRead line slots room Nothing = Unit {0}
+BestRead line slots room (Some slot) = Slot room (length room) (drop slot slots) × (from_of (drop slot slots) < size_in line)
+BestRead line slots room None = Unit {0}
 
 -- the text of an edge, where there is one
 unfoldable pub text_of : Option Edge → Text

@@ -25,8 +25,6 @@ ghost use Rattle.decomp_text.specs.Spelling.{Spells, Held, shaped};
 ghost use Rattle.decomp_text.specs.Reading.{read_as};
 ghost use Rattle.decomp_text.specs.Walking.{Lying, BestRead, text_of};
 
-use edge::BestEdge;
-
 // A fraction slash, which a number's text has as a slash.
 const FRACTION_SLASH: u32 = 0x2044;
 
@@ -134,7 +132,7 @@ fn put_best(
     line: &[u32],
     slots: &[u8],
     room: &[u8],
-    best: BestEdge,
+    best: Option<usize>,
     number: bool,
     bytes: &mut [u8],
     s: Spelling,
@@ -146,8 +144,8 @@ fn put_best(
         × Held bytes.new result }
 {
     match best {
-        BestEdge::At(slot) => put_edge(ready, line, slots, room, slot, number, bytes, s),
-        BestEdge::Nothing => s,
+        Some(slot) => put_edge(ready, line, slots, room, slot, number, bytes, s),
+        None => s,
     }
 }
 
@@ -173,6 +171,7 @@ fn put_path(
     let n = starts.len() - 1;
     let mut made = s;
     let mut p: usize = 0;
+    // the path moves on by each edge's own length
     while p < n {
         let best = standing::best_right_neighbor_edge(slots, starts, p);
         made = put_best(ready, line, slots, room, best, number, bytes, made);
@@ -187,11 +186,8 @@ fn part(ready: &[u32], bytes: &mut [u8], s: Spelling, number: bool, beside: bool
     ensures { ((w : World) (t : Text) → Told w ready.now → Spells (kinds w) bytes.old s t
         → Spells (kinds w) bytes.new result (t ++ pick number (parted beside) [])) × Held bytes.new result }
 {
-    if number {
-        if beside {
-            return put_ascii(ready, bytes, s, b" ");
-        }
-        return s;
+    if number && beside {
+        return put_ascii(ready, bytes, s, b" ");
     }
     s
 }

@@ -2,6 +2,7 @@
 use native.Mathlib.Omega.{arith}
 use Rattle.decomp_text.specs.Reading.{part_space, part_none, part-other}
 use Rattle.decomp_text.proofs.part.Goals as goal
+use Rattle.decomp_text.proofs.part.Goals.{else-number-via-then-number+else-beside, else-number-via-else-number}
 
 pub returns-then-beside : goal.returns-then-beside
 returns-then-beside c = (
@@ -9,10 +10,11 @@ returns-then-beside c = (
   c.put_ascii.ensures.1,
 )
 
-pub returns-then-number : goal.returns-then-number
-returns-then-number c =
-    (λ w t told h. part_none c.args.number c.args.beside c.if-beside.false t h, c.requires)
-
 pub returns : goal.returns
-returns c =
-    (λ w t told h. part-other c.args.number c.args.beside c.if-number.false t h, c.requires)
+returns c = (
+  λ w t told h. elim c.else-number.branch [
+    | else-number-via-then-number+else-beside v ↦ part_none c.args.number c.args.beside v.if-beside.false t h
+    | else-number-via-else-number v ↦ part-other c.args.number c.args.beside v.if-number.false t h
+  ],
+  c.requires,
+)
