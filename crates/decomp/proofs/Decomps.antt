@@ -1,4 +1,5 @@
 -- The edge of a character that stands for others: from what was read of its row to where the definition's step leads.
+use Rattle.std.specs.Prelude.{Ok, Err}
 use Prim.Native.Nat.{ℕ, ◌+◌, ◌-◌, ◌*◌, ◌/◌, ◌≤◌, ◌<◌}
 use mathlib.Core.Bool.{Bool, true, false}
 use mathlib.Core.List.{List, []}
@@ -23,20 +24,22 @@ use Rattle.definition.specs.ClassRows.{classes_of}
 use Rattle.definition.specs.Call.{tables_of}
 use Rattle.table_decompositions.specs.Told.{into_means, EdgeFound}
 use Rattle.edge.specs.declared.Filled.{Filled}
-use Rattle.edge.specs.declared.Added.{Added as Answer}
+use Rattle.edge.specs.declared.Full.{Full}
+use Rattle.edge.specs.declared.Full.TheVariants as full
+use Rattle.edge.specs.Answers.{Answer}
 use Rattle.edge.specs.Stored.{edge_count}
 use Rattle.noting.specs.Keeps.{Keeps}
 use Rattle.words.specs.Given.{World, kinds, size, choices_in}
 use Rattle.passes.specs.Reached.{Over, over_keeps, state_of, Reached, reached_since}
 use Rattle.decomp_text.specs.declared.Beside.{Beside}
+use Rattle.decomp_text.specs.declared.Spelling.{Spelling}
 use Rattle.decomp_text.specs.Spelling.{Spells, held-length}
 use Rattle.decomp_text.specs.Reading.{read_as, Besides, read_text}
-use Rattle.decomp.specs.declared.Grew.{Grew}
-use Rattle.decomp.specs.declared.Grew.TheVariants.{Fits, NoSlot, NoRoom, TooLong}
-use Rattle.decomp.specs.declared.RowText.{RowText}
+use Rattle.decomp.specs.declared.Unfit.TheVariants.{TooLong}
+use Rattle.decomp.specs.Answers.{Grew, as_grew, unfit_at}
 use Rattle.decomp.specs.Rows.{RowRead}
 use Rattle.decomp.specs.Grown.{Before, GrewTo}
-use Rattle.decomp.specs.Adding.{as_grew, TextAdded}
+use Rattle.decomp.specs.Adding.{TextAdded}
 use Rattle.decomp.specs.Steps.{put_decomp, own, step-none, step-slot, step_room, step-long, step_added}
 
 -- a row's offset says what its character stands for
@@ -67,13 +70,12 @@ module _ (rules ready line classes vowels decompositions code S R P : List ℕ) 
   Leads S' R' P' r = GrewTo D ds w.text (kinds w) (size w) S R S' R' P' most (put_decomp p D ds w.text (state_of w P)) r
 
   -- it stands for nothing
-  pub leads_none : stands_for ds (at w.text p) ≡ none → Leads S R P (Fits filled.count filled.used)
+  pub leads_none : stands_for ds (at w.text p) ≡ none → Leads S R P (Ok record { count = filled.count; used = filled.used })
   leads_none e = step-none D ds w.text (kinds w) (size w) S R P filled.count filled.used p most (state_of w P) (over_keeps o) held before e (omega arith)
 
   -- or its row was read, in what was free
   module _ (into : Text) (e : stands_for ds (at w.text p) ≡ some into) (b : Beside) (near : Besides (kinds w) w.text p b) (k r : ℕ)
-      (k-is : k ≡ length S - filled.count * slot_bytes) (r-is : r ≡ length R - filled.used) (bytes_read : List ℕ) (read : RowText)
-      (h : RowRead rules (choices_in ready) classes vowels into b k r bytes_read read) where
+      (k-is : k ≡ length S - filled.count * slot_bytes) (r-is : r ≡ length R - filled.used) (bytes_read : List ℕ) where
     -- the tables that it was read by are those of the text, without their code
     abbrev inner : Tables
     inner = tables_of (choices_in ready) rules classes vowels []
@@ -100,42 +102,38 @@ module _ (rules ready line classes vowels decompositions code S R P : List ℕ) 
     inner-fits x q = sym free ∙ ap (λ (E : Tables). misfit (k / slot_bytes) r (rule_lattice E into).0) (sym uncoded-is) ∙ q
 
     module _ (S₁ R₁ : List ℕ) (a : length S₁ ≡ length S) (c : length R₁ ≡ length R) where
-      pub leads_slot : read.lack ≡ refused_slots → Leads S₁ R₁ P (NoSlot p)
-      leads_slot z =
-          let q = h.no_slot z in
+      pub leads_lacks : (f : Full) → RowRead rules (choices_in ready) classes vowels into b k r bytes_read (Err f) → Leads S₁ R₁ P (Err (unfit_at f p))
+      leads_lacks (full.Slots q) h =
           step-slot D ds w.text (kinds w) (size w) S R P filled.count filled.used p most (state_of w P) (over_keeps o) held before into e S₁ R₁ P a c
-          q.0 (inner-fits (some (refuse refused_slots q.0)) q.1)
-
-      pub leads_room : (read.lack ≡ 0 → ⊥) → (read.lack ≡ refused_slots → ⊥) → Leads S₁ R₁ P (NoRoom p)
-      leads_room y z =
-          let q = h.no_room y z in
+          q (inner-fits (some (refuse refused_slots q)) h)
+      leads_lacks (full.Room q) h =
           step_room D ds w.text (kinds w) (size w) S R P filled.count filled.used p most (state_of w P) (over_keeps o) held before into e S₁ R₁ P a c
-          q.0 (inner-fits (some (refuse refused_room q.0)) q.1)
+          q (inner-fits (some (refuse refused_room q)) h)
 
     -- all fits: the text is told, and added unless it is too long
-    module _ (z : read.lack ≡ 0) where
-      spelled : Spells (kinds w) bytes_read read.spelling (decomp_text D w.text p into)
+    module _ (spelling : Spelling) (h : RowRead rules (choices_in ready) classes vowels into b k r bytes_read (Ok spelling)) where
+      spelled : Spells (kinds w) bytes_read spelling (decomp_text D w.text p into)
       unfolding inner_string inner_lattice tables_of
       spelled =
-          subst (Spells (kinds w) bytes_read read.spelling)
+          subst (Spells (kinds w) bytes_read spelling)
           (ap (λ (E : Tables). read_as b (joined (path_of E into (rule_lattice E into)))) uncoded-is ∙ read_text D w.text p b near into)
-          (subst (λ (l : List ℕ). Spells (classes_of l) bytes_read read.spelling (read_as b (joined (path_of inner into (rule_lattice inner into))))) (sym same) (h.text z))
+          (subst (λ (l : List ℕ). Spells (classes_of l) bytes_read spelling (read_as b (joined (path_of inner into (rule_lattice inner into))))) (sym same) h.0)
 
       module _ (S₁ R₁ : List ℕ) (stay : Keeps (kinds w) (size w) S₁ R₁ P filled.count filled.used (state_of w P)) (a : length S₁ ≡ length S) (c : length R₁ ≡ length R)
           (inside : p + 1 ≤ size w) (S' R' P' : List ℕ) (a' : length S' ≡ length S) (c' : length R' ≡ length R) (g : Grew)
-          (done : TextAdded (S₁, R₁, P) (S', R', P') filled bytes_read read.spelling p g) where
+          (done : TextAdded (S₁, R₁, P) (S', R', P') filled bytes_read spelling p g) where
         fit : misfit (length S / slot_bytes - length w.edges) (length R - all_bytes w.edges) (inner_lattice D into).0 ≡ none
-        fit = inner-fits none (h.fits z)
+        fit = inner-fits none h.2
 
         pub leads_text : Leads S' R' P' g
         unfolding bytes single
-        leads_text = go read.spelling.full refl
+        leads_text = go spelling.full refl
           where
-            told : (read.spelling.full ≡ true → g ≡ TooLong p) × (read.spelling.full ≡ false → (x : Answer)
+            told : (spelling.full ≡ true → g ≡ Err (TooLong p)) × (spelling.full ≡ false → (x : Answer)
                 × Reached (kinds w) (size w) S₁ R₁ S' R' P' most (add w.edges (some (own D ds w.text p into e)), (state_of w P).1) x × (g ≡ as_grew x))
             told = done (kinds w) (size w) (state_of w P) (decomp_text D w.text p into) stay inside spelled
 
-            go : (full : Bool) → read.spelling.full ≡ full → Leads S' R' P' g
+            go : (full : Bool) → spelling.full ≡ full → Leads S' R' P' g
             go true q =
                 subst (Leads S' R' P') (sym (told.0 q))
                 (step-long D ds w.text (kinds w) (size w) S R P filled.count filled.used p most (state_of w P) (over_keeps o) held before into e S' R' P' a' c' fit
@@ -144,4 +142,4 @@ module _ (rules ready line classes vowels decompositions code S R P : List ℕ) 
                 let x = told.1 q in
                 subst (Leads S' R' P') (sym x.2)
                 (step_added D ds w.text (kinds w) (size w) S R P filled.count filled.used p most (state_of w P) (over_keeps o) held before into e S' R' P' a' c' fit
-                (omega (arith, ap length (spelled.bytes q), held-length h.held, h.held.fits)) x.0 (reached_since S R a c x.0 x.1))
+                (omega (arith, ap length (spelled.bytes q), held-length h.1, h.1.fits)) x.0 (reached_since S R a c x.0 x.1))

@@ -1,4 +1,5 @@
 -- A row's characters as a world of their own, and the text that is told of a line's lattice.
+use Rattle.std.specs.Prelude.{Ok, Err}
 use Prim.Native.Nat.{ℕ, ◌+◌, ◌*◌, ◌≤◌}
 use mathlib.Core.List.{List, [], ◌++◌}
 use mathlib.Core.Path.{◌≡◌, refl, sym, ap, ◌∙◌, subst}
@@ -15,7 +16,6 @@ use Rattle.definition.specs.Paths.{joined, path_from, path_of}
 use Rattle.definition.specs.Bounds.{Bounded, Ruled}
 use Rattle.definition.proofs.Bounds.{rule_lattice-ruled}
 use Rattle.definition.proofs.Promises.{tables-bounded}
-use Rattle.definition.specs.Refusals.{refused_slots, refused_room}
 use Rattle.definition.specs.DecompositionRows.{decomposition_count, decomposition_into}
 use Rattle.definition.specs.DecompositionLaws.{into-length}
 use Rattle.definition.specs.Call.{tables_of}
@@ -24,8 +24,10 @@ use Rattle.utf8.specs.Encodings.{Scalars}
 use Rattle.table_classes.specs.Told.{kinds_of}
 use Rattle.table_decompositions.specs.Told.{Placed}
 use Rattle.table_vowels.specs.Told.{FineVowels}
-use Rattle.edge.specs.declared.Added.{Added as Answer}
-use Rattle.edge.specs.declared.Added.TheVariants as added
+use Rattle.edge.specs.declared.Taken.{Taken}
+use Rattle.edge.specs.declared.Full.{Full}
+use Rattle.edge.specs.declared.Full.TheVariants.{Slots, Room}
+use Rattle.edge.specs.Answers.{Answer}
 use Rattle.edge.specs.Slots.{edges_of}
 use Rattle.edge.specs.Asked.{stored_readable}
 use Rattle.standing.specs.Starts.{end_of}
@@ -65,61 +67,43 @@ module _ {rules ready line S R P : List ℕ} (vowels : List ℕ) (w : World) (o 
   ok : Bounded D
   ok = tables-bounded w.choices rules w.classes vowels [] table.table.accepted lined_so.fine inherent
 
-  module _ (c u : ℕ) (e : a ≡ added.Fits c u) where
-    fits : Told_of (added.Fits c u)
+  module _ (t : Taken) (e : a ≡ Ok t) where
+    fits : Told_of (Ok t)
     fits = subst Told_of e came
 
-    module _ (starts : List ℕ) (stands : Stands S' starts c) (sized : length starts ≡ size_in line + 1) where
+    module _ (starts : List ℕ) (stands : Stands S' starts t.count) (sized : length starts ≡ size_in line + 1) where
       pub lying : Lying line S' R' starts
       lying = record {
-        count = c;
+        count = t.count;
         laid = record {
-          read = stored_readable S' R' c u fits.came.0.stored;
+          read = stored_readable S' R' t.count t.used fits.came.0.stored;
           stands = stands;
           short = omega (arith, sized, lined_so.few, line-size lined_so);
         };
         sized = sized;
       }
 
-      ruled : All (Ruled w.text) (edges_of R' c S')
+      ruled : All (Ruled w.text) (edges_of R' t.count S')
       ruled = subst (All (Ruled w.text)) (sym fits.came.0.edges) (rule_lattice-ruled D ok w.text)
 
       -- all fits: the text is spelled
       pub line_read : (b : Beside) (bytes : List ℕ) (s : Spelling) → Held bytes s
           → ((v : World) (count : ℕ) → Told v ready → Lined v line → Stands S' starts count → All (Ruled v.text) (edges_of R' count S')
           → Spells (kinds v) bytes s (read_as b (joined (path_from (end_of starts) 0 (edges_of R' count S')))))
-          → RowRead rules w.choices w.classes vowels w.text b (length S) (length R) bytes (record { spelling = s; lack = 0 })
+          → RowRead rules w.choices w.classes vowels w.text b (length S) (length R) bytes (Ok s)
       unfolding path_of
-      line_read b bytes s held h = record {
-        text = λ z. subst (λ (es : List Edge). Spells (kinds w) bytes s (read_as b (joined (path_from (size w) 0 es)))) fits.came.0.edges
-            (subst (λ (k : ℕ). Spells (kinds w) bytes s (read_as b (joined (path_from k 0 (edges_of R' c S'))))) {x = end_of starts} {y = size w}
-            (omega (arith, sized, line-size lined_so)) (h w c o.told lined_so stands ruled));
-        held = held;
-        fits = λ z. reached-fits fits;
-        no_slot = λ z. absurd (omega (arith, z));
-        no_room = λ y z. absurd (y refl);
-      }
+      line_read b bytes s held h = (
+        subst (λ (es : List Edge). Spells (kinds w) bytes s (read_as b (joined (path_from (size w) 0 es)))) fits.came.0.edges
+            (subst (λ (k : ℕ). Spells (kinds w) bytes s (read_as b (joined (path_from k 0 (edges_of R' t.count S'))))) {x = end_of starts} {y = size w}
+            (omega (arith, sized, line-size lined_so)) (h w t.count o.told lined_so stands ruled)),
+        held,
+        reached-fits fits,
+      )
 
   -- or there is too little
-  pub line-slot : (b : Beside) (q : ℕ) → a ≡ added.NoSlot q → (bytes : List ℕ) (s : Spelling) → Held bytes s
-      → RowRead rules w.choices w.classes vowels w.text b (length S) (length R) bytes (record { spelling = s; lack = refused_slots })
-  line-slot b q e bytes s held = record {
-    text = λ z. absurd (omega (arith, z));
-    held = held;
-    fits = λ z. absurd (omega (arith, z));
-    no_slot = λ z. (q, (subst Told_of e came).came);
-    no_room = λ y z. absurd (z refl);
-  }
-
-  pub line-room : (b : Beside) (q : ℕ) → a ≡ added.NoRoom q → (bytes : List ℕ) (s : Spelling) → Held bytes s
-      → RowRead rules w.choices w.classes vowels w.text b (length S) (length R) bytes (record { spelling = s; lack = refused_room })
-  line-room b q e bytes s held = record {
-    text = λ z. absurd (omega (arith, z));
-    held = held;
-    fits = λ z. absurd (omega (arith, z));
-    no_slot = λ z. absurd (omega (arith, z));
-    no_room = λ y z. (q, (subst Told_of e came).came);
-  }
+  pub line-lacks : (b : Beside) (bytes : List ℕ) (f : Full) → a ≡ Err f → RowRead rules w.choices w.classes vowels w.text b (length S) (length R) bytes (Err f)
+  line-lacks b bytes (Slots q) e = (subst Told_of e came).came
+  line-lacks b bytes (Room q) e = (subst Told_of e came).came
 
 -- The line that a row's characters were laid out as
 module _ {rules ready classes vowels decompositions : List ℕ} (f : Formable rules ready classes vowels decompositions) (row : ℕ) (p : Placed decompositions row)

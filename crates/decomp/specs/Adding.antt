@@ -1,5 +1,5 @@
 -- The edge of a text that was read: what adding it needs, and how far building has come then.
-use Rattle.std.specs.Prelude.{ℕ, ◌+◌, ◌≤◌, ◌<◌, true, false, List, ◌≡◌, length, take}
+use Rattle.std.specs.Prelude.{Err, ℕ, ◌+◌, ◌≤◌, ◌<◌, true, false, List, ◌≡◌, length, take}
 use Rattle.std.proofs.Math.Option.{some}
 use Rattle.std.proofs.Math.Path.{refl, ap}
 use Rattle.std.proofs.Common.{sym, ◌∙◌, subst, arith}
@@ -15,8 +15,7 @@ use Rattle.definition.specs.Building.{single}
 use Rattle.utf8.specs.Encodings.{TextBytes, encoded-bytes}
 use Rattle.edge.specs.declared.Filled.{Filled}
 use Rattle.edge.specs.declared.Numbers.{Numbers}
-use Rattle.edge.specs.declared.Added.{Added as Answer}
-use Rattle.edge.specs.declared.Added.TheVariants as added
+use Rattle.edge.specs.Answers.{Answer}
 use Rattle.edge.specs.Slots.{edge_by, edges_of}
 use Rattle.edge.specs.Stored.{Stored}
 use Rattle.edge.specs.Adding.{added as answered, there, slots_after, room_after, Writable}
@@ -28,8 +27,8 @@ use Rattle.passes.specs.Reached.{addressable, Rooms, Reached, reached_as, reache
 use Rattle.first_pass.specs.Fresh.{Fresh}
 use Rattle.decomp_text.specs.declared.Spelling.{Spelling}
 use Rattle.decomp_text.specs.Spelling.{Spells, Held, held-length}
-use Rattle.decomp.specs.declared.Grew.{Grew}
-use Rattle.decomp.specs.declared.Grew.TheVariants.{Fits, NoSlot, NoRoom, TooLong}
+use Rattle.decomp.specs.declared.Unfit.TheVariants.{TooLong}
+use Rattle.decomp.specs.Answers.{Grew, as_grew}
 
 pub record TextReady (slots room places : List ℕ) (filled : Filled) (text : List ℕ) (spelling : Spelling) (p : ℕ) : Type 0 where
   pub stored : Stored slots room filled.count filled.used
@@ -40,18 +39,12 @@ pub record TextReady (slots room places : List ℕ) (filled : Filled) (text : Li
   pub few : p < most_characters
   pub offset : filled.used + most_bytes < addressable
 
--- what adding an edge answered
-abbrev pub as_grew : Answer → Grew
-as_grew (added.Fits c u) = Fits c u
-as_grew (added.NoSlot p) = NoSlot p
-as_grew (added.NoRoom p) = NoRoom p
-
 -- A text that is too long is told, and one that is not is added
 abbrev pub TextAdded : Rooms → Rooms → Filled → List ℕ → Spelling → ℕ → Grew → Type 0
 TextAdded before after filled text spelling p r =
     (ks : List Class) (n : ℕ) (st : State) (t : Text) → Keeps ks n before.0 before.1 before.2 filled.count filled.used st → p + 1 ≤ n
     → Spells ks text spelling t
-    → (spelling.full ≡ true → r ≡ TooLong p)
+    → (spelling.full ≡ true → r ≡ Err (TooLong p))
     × (spelling.full ≡ false → (a : Answer)
     × Reached ks n before.0 before.1 after.0 after.1 after.2 (filled.used + most_bytes) (add st.0 (some (single p note_decomp t)), st.1) a
     × (r ≡ as_grew a))

@@ -1,6 +1,6 @@
 -- How far building has come where characters stand for others: slots, room and places keep a state of the definition, and
 -- nothing has overflowed; or there is the refusal that the scan of its edges gives.
-use Rattle.std.specs.Prelude.{ℕ, ◌-◌, ◌/◌, ◌≤◌, ◌<◌, List, [], ◌∷◌, ◌++◌, ◌≡◌}
+use Rattle.std.specs.Prelude.{Ok, Err, ℕ, ◌-◌, ◌/◌, ◌≤◌, ◌<◌, List, [], ◌∷◌, ◌++◌, ◌≡◌}
 use Rattle.std.proofs.Math.Option.{Option, none, some}
 use Rattle.std.proofs.Math.Path.{refl, sym, ap}
 use Rattle.std.proofs.Common.{◌∙◌}
@@ -22,18 +22,18 @@ use Rattle.edge.specs.declared.Filled.{Filled}
 use Rattle.noting.specs.Keeps.{Keeps}
 use Rattle.words.specs.Given.{World, kinds, size, ready_in, line_in}
 use Rattle.passes.specs.Reached.{Over, Rooms, state_of}
-use Rattle.decomp.specs.declared.Grew.{Grew}
-use Rattle.decomp.specs.declared.Grew.TheVariants.{Fits, NoSlot, NoRoom, TooLong}
+use Rattle.decomp.specs.declared.Unfit.TheVariants.{Slots, Room, TooLong}
+use Rattle.decomp.specs.Answers.{Grew}
 
 module _ (D : Tables) (ds : List Decomposition) (t : Text) (ks : List Class) (n : ℕ) (S R S' R' P' : List ℕ) (most : ℕ) (st : State) where
   abbrev lost : Option Refusal
   lost = overflow D ds t (length S / slot_bytes) (length R) st.0
 
   abbrev Came : Grew → Type 0
-  Came (Fits c u) = Keeps ks n S' R' P' c u st × (u ≤ most) × (lost ≡ none)
-  Came (NoSlot p) = lost ≡ some (refuse refused_slots p)
-  Came (NoRoom p) = lost ≡ some (refuse refused_room p)
-  Came (TooLong p) = lost ≡ some (refuse refused_edge_text p)
+  Came (Ok t) = Keeps ks n S' R' P' t.count t.used st × (t.used ≤ most) × (lost ≡ none)
+  Came (Err (Slots p)) = lost ≡ some (refuse refused_slots p)
+  Came (Err (Room p)) = lost ≡ some (refuse refused_room p)
+  Came (Err (TooLong p)) = lost ≡ some (refuse refused_edge_text p)
 
   pub record GrewTo (r : Grew) : Type 0 where
     pub slots : length S' ≡ length S

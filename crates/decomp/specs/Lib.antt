@@ -1,4 +1,5 @@
 pub mod First
+pub mod Answers
 pub mod Rows
 pub mod Grown
 pub mod Adding

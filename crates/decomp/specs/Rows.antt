@@ -1,13 +1,13 @@
 -- What reading a row needs of what it is lent, and what it tells.
-use Rattle.std.specs.Prelude.{List, [], ◌≡◌, ℕ, ◌+◌, ◌/◌, ◌≤◌, replicate}
-use Rattle.std.proofs.Math.Option.{none, some}
+use Rattle.std.specs.Prelude.{Result, Ok, Err, List, [], ◌≡◌, ℕ, ◌+◌, ◌/◌, ◌≤◌, replicate}
+use Rattle.std.proofs.Math.Option.{Option, none, some}
 use Rattle.definition.specs.Limits.{slot_bytes, most_into}
 use Rattle.definition.specs.Texts.{Text}
 use Rattle.definition.specs.Tables.{Choices, Tables}
 use Rattle.definition.specs.ClassRows.{classes_of}
 use Rattle.definition.specs.Paths.{joined, path_of}
 use Rattle.definition.specs.Building.{rule_lattice}
-use Rattle.definition.specs.Refusals.{refuse, refused_slots, refused_room}
+use Rattle.definition.specs.Refusals.{Refusal, refuse, refused_slots, refused_room}
 use Rattle.definition.specs.Capacity.{misfit}
 use Rattle.definition.specs.Call.{tables_of}
 use Rattle.table_classes.specs.Told.{Fine, alphas_of}
@@ -15,10 +15,12 @@ use Rattle.table_vowels.specs.Told.{FineVowels}
 use Rattle.table_decompositions.specs.Index.{Ready}
 use Rattle.words.specs.Given.{World, size_in, letters_in, forms_in, Prepared, Told, Lined}
 use Rattle.lattice.specs.Lattice.{Buildable}
+use Rattle.edge.specs.declared.Full.{Full}
+use Rattle.edge.specs.declared.Full.TheVariants.{Slots, Room}
 use Rattle.decomp_text.specs.declared.Beside.{Beside}
+use Rattle.decomp_text.specs.declared.Spelling.{Spelling}
 use Rattle.decomp_text.specs.Spelling.{Spells, Held}
 use Rattle.decomp_text.specs.Reading.{read_as}
-use Rattle.decomp.specs.declared.RowText.{RowText}
 
 -- The tables are as they were checked, and what was made ready is theirs
 pub record Formable (rules ready classes vowels decompositions : List ℕ) : Type 0 where
@@ -36,13 +38,13 @@ module _ (rules : List ℕ) (choices : Choices) (classes vowels : List ℕ) (int
   abbrev string : Text
   string = joined (path_of D into (rule_lattice D into))
 
-  pub record RowRead (r : RowText) : Type 0 where
-    pub text : r.lack ≡ 0 → Spells (classes_of classes) bytes r.spelling (read_as b string)
-    pub held : Held bytes r.spelling
-    pub fits : r.lack ≡ 0 → misfit (slots / slot_bytes) room (rule_lattice D into).0 ≡ none
-    pub no_slot : r.lack ≡ refused_slots → (q : ℕ) × (misfit (slots / slot_bytes) room (rule_lattice D into).0 ≡ some (refuse refused_slots q))
-    pub no_room : (r.lack ≡ 0 → ⊥) → (r.lack ≡ refused_slots → ⊥)
-        → (q : ℕ) × (misfit (slots / slot_bytes) room (rule_lattice D into).0 ≡ some (refuse refused_room q))
+  abbrev lost : Option Refusal
+  lost = misfit (slots / slot_bytes) room (rule_lattice D into).0
+
+  abbrev pub RowRead : Result Spelling Full → Type 0
+  RowRead (Ok s) = Spells (classes_of classes) bytes s (read_as b string) × Held bytes s × (lost ≡ none)
+  RowRead (Err (Slots q)) = lost ≡ some (refuse refused_slots q)
+  RowRead (Err (Room q)) = lost ≡ some (refuse refused_room q)
 
 -- What reading a line needs: a lattice can be built of it, by entries that are all zeros, and it has no more characters than a row
 abbrev pub LineReady : List ℕ → List ℕ → List ℕ → List ℕ → List ℕ → List ℕ → List ℕ → List ℕ → Type 0
@@ -50,6 +52,6 @@ LineReady rules ready vowels text line slots room starts =
     Buildable rules ready vowels text line slots room (replicate (size_in line + 1) 0) starts × (size_in line ≤ most_into)
 
 -- What is read of it: the text of every world that stands there
-abbrev pub LineRead : List ℕ → List ℕ → List ℕ → List ℕ → Beside → ℕ → ℕ → List ℕ → RowText → Type 0
+abbrev pub LineRead : List ℕ → List ℕ → List ℕ → List ℕ → Beside → ℕ → ℕ → List ℕ → Result Spelling Full → Type 0
 LineRead rules ready vowels line b slots room bytes r =
     (w : World) → Told w ready → Lined w line → RowRead rules w.choices w.classes vowels w.text b slots room bytes r

@@ -1,5 +1,5 @@
 -- Adding the edge of a character that stands for others: what it needs, and where it leads.
-use Rattle.std.specs.Prelude.{ℕ, ◌+◌, ◌-◌, ◌/◌, ◌≤◌, ◌<◌, Bool, true, false, ◌||◌, List, [], ◌∷◌, ◌++◌, ◌≡◌, eqb, length}
+use Rattle.std.specs.Prelude.{Ok, Err, ℕ, ◌+◌, ◌-◌, ◌/◌, ◌≤◌, ◌<◌, Bool, true, false, ◌||◌, List, [], ◌∷◌, ◌++◌, ◌≡◌, eqb, length}
 use Rattle.std.proofs.Math.Option.{Option, none, some}
 use Rattle.std.proofs.Math.Path.{refl, ap}
 use Rattle.std.proofs.Common.{sym, ◌∙◌, subst, arith}
@@ -18,8 +18,9 @@ use Rattle.definition.specs.Refusals.{Refusal, refuse, when, refused_slots, refu
 use Rattle.definition.specs.Capacity.{bytes, misfit, placed_at, inner_edges, before_edge, overflow}
 use Rattle.definition.specs.Growth.{all_bytes}
 use Rattle.edge.specs.declared.Filled.{Filled}
-use Rattle.edge.specs.declared.Added.{Added as Answer}
-use Rattle.edge.specs.declared.Added.TheVariants as added
+use Rattle.edge.specs.declared.Taken.{Taken}
+use Rattle.edge.specs.declared.Full.TheVariants as full
+use Rattle.edge.specs.Answers.{Answer}
 use Rattle.edge.specs.Slots.{edges_of}
 use Rattle.edge.specs.Fitting.{stored_fits}
 use Rattle.noting.specs.Keeps.{Keeps}
@@ -27,9 +28,9 @@ use Rattle.words.specs.Given.{size_in, ready_in, line_in, all_ready}
 use Rattle.passes.specs.Reached.{addressable, Somewhere, Reached}
 use Rattle.first_pass.specs.Fresh.{Fresh}
 use Rattle.decomp.specs.Rows.{Formable}
-use Rattle.decomp.specs.declared.Grew.TheVariants.{Fits, NoSlot, NoRoom, TooLong}
+use Rattle.decomp.specs.declared.Unfit.TheVariants.{Slots, Room, TooLong}
+use Rattle.decomp.specs.Answers.{as_grew}
 use Rattle.decomp.specs.Grown.{Before, GrewTo, overflow-one, overflow-before}
-use Rattle.decomp.specs.Adding.{as_grew}
 
 -- the definition's step
 abbrev pub put_decomp : ℕ → Tables → List Decomposition → Text → State → State
@@ -96,13 +97,13 @@ module _ (D : Tables) (ds : List Decomposition) (t : Text) (p : ℕ) (w : Text) 
     before-fits h l = rw (inner_are, h, le-ltb most_bytes (bytes own) l)
 
 -- what is in the slots has found room
-pub reached-fits : {ks : List Class} {n : ℕ} {S R S' R' P' : List ℕ} {most : ℕ} {st : State} {c u : ℕ} → Reached ks n S R S' R' P' most st (added.Fits c u)
+pub reached-fits : {ks : List Class} {n : ℕ} {S R S' R' P' : List ℕ} {most : ℕ} {st : State} {t : Taken} → Reached ks n S R S' R' P' most st (Ok t)
     → misfit (length S / slot_bytes) (length R) st.0 ≡ none
-reached-fits {S = S} {R = R} {S' = S'} {R' = R'} {c = c} {u = u} b =
+reached-fits {S = S} {R = R} {S' = S'} {R' = R'} {t = t} b =
     ap (misfit (length S / slot_bytes) (length R)) (sym b.came.0.edges)
-    ∙ ap (λ (k : ℕ). misfit (k / slot_bytes) (length R) (edges_of R' c S')) (sym b.slots)
-    ∙ ap (λ (k : ℕ). misfit (length S' / slot_bytes) k (edges_of R' c S')) (sym b.room)
-    ∙ stored_fits S' R' c u b.came.0.stored
+    ∙ ap (λ (k : ℕ). misfit (k / slot_bytes) (length R) (edges_of R' t.count S')) (sym b.slots)
+    ∙ ap (λ (k : ℕ). misfit (length S' / slot_bytes) k (edges_of R' t.count S')) (sym b.room)
+    ∙ stored_fits S' R' t.count t.used b.came.0.stored
 
 -- Building has come to a state whose edges fit, and none of these starts at `p` yet
 module _ (D : Tables) (ds : List Decomposition) (t : Text) (ks : List Class) (n : ℕ) (S R P : List ℕ) (count used p most : ℕ) (st : State)
@@ -117,7 +118,7 @@ module _ (D : Tables) (ds : List Decomposition) (t : Text) (ks : List Class) (n 
   fitted = ap (misfit (length S / slot_bytes) (length R)) (sym k.edges) ∙ stored_fits S R count used k.stored
 
   -- no row: nothing is added
-  pub step-none : stands_for ds (at t p) ≡ none → used ≤ most → GrewTo D ds t ks n S R S R P most (put_decomp p D ds t st) (Fits count used)
+  pub step-none : stands_for ds (at t p) ≡ none → used ≤ most → GrewTo D ds t ks n S R S R P most (put_decomp p D ds t st) (Ok record { count = count; used = used })
   unfolding decomp_edge maybe add
   step-none e l = rw e (record { slots = refl; room = refl; came = (k, l, held) })
 
@@ -134,15 +135,15 @@ module _ (D : Tables) (ds : List Decomposition) (t : Text) (ks : List Class) (n 
         ∙ overflow-before D ds t (length S / slot_bytes) (length R) st.0 held fitted (own D ds t p w e) y q
 
     pub step-slot : (q : ℕ) → misfit slots_left room_left (inner_lattice D w).0 ≡ some (refuse refused_slots q)
-        → GrewTo D ds t ks n S R S' R' P' most (put_decomp p D ds t st) (NoSlot p)
+        → GrewTo D ds t ks n S R S' R' P' most (put_decomp p D ds t st) (Err (Slots p))
     step-slot q h = record { slots = a; room = b; came = step-before (refuse refused_slots p) (before_lacks D ds t p w e slots_left room_left refused_slots q h) }
 
     pub step_room : (q : ℕ) → misfit slots_left room_left (inner_lattice D w).0 ≡ some (refuse refused_room q)
-        → GrewTo D ds t ks n S R S' R' P' most (put_decomp p D ds t st) (NoRoom p)
+        → GrewTo D ds t ks n S R S' R' P' most (put_decomp p D ds t st) (Err (Room p))
     step_room q h = record { slots = a; room = b; came = step-before (refuse refused_room p) (before_lacks D ds t p w e slots_left room_left refused_room q h) }
 
     module _ (h : misfit slots_left room_left (inner_lattice D w).0 ≡ none) where
-      pub step-long : most_bytes < bytes (own D ds t p w e) → GrewTo D ds t ks n S R S' R' P' most (put_decomp p D ds t st) (TooLong p)
+      pub step-long : most_bytes < bytes (own D ds t p w e) → GrewTo D ds t ks n S R S' R' P' most (put_decomp p D ds t st) (Err (TooLong p))
       step-long l = record { slots = a; room = b; came = step-before (refuse refused_edge_text p) (before-long D ds t p w e slots_left room_left h l) }
 
       -- or added
@@ -160,10 +161,10 @@ module _ (D : Tables) (ds : List Decomposition) (t : Text) (ks : List Class) (n 
               ∙ ap (misfit (length S / slot_bytes) (length R)) (sym added_is)
 
           go : (r : Answer) → Reached ks n S R S' R' P' most (put_decomp p D ds t st) r → GrewTo D ds t ks n S R S' R' P' most (put_decomp p D ds t st) (as_grew r)
-          go (added.Fits c u) x = record {
+          go (Ok y) x = record {
             slots = x.slots;
             room = x.room;
             came = (x.came.0, x.came.1, asks_room ∙ reached-fits x);
           }
-          go (added.NoSlot q) x = record { slots = x.slots; room = x.room; came = asks_room ∙ x.came }
-          go (added.NoRoom q) x = record { slots = x.slots; room = x.room; came = asks_room ∙ x.came }
+          go (Err (full.Slots q)) x = record { slots = x.slots; room = x.room; came = asks_room ∙ x.came }
+          go (Err (full.Room q)) x = record { slots = x.slots; room = x.room; came = asks_room ∙ x.came }

@@ -13,10 +13,11 @@ ghost use Rattle.decomp_text.specs.Reading.{Besides};
 ghost use Rattle.decomp.specs.Rows.{Formable, RowRead, LineReady, LineRead};
 ghost use Rattle.decomp.specs.Grown.{GrowsAt};
 ghost use Rattle.decomp.specs.Steps.{AddReady, put_decomp};
-ghost use Rattle.decomp.specs.Adding.{as_grew, TextReady, TextAdded};
+ghost use Rattle.decomp.specs.Answers.{unfit, unfit_at};
+ghost use Rattle.decomp.specs.Adding.{TextReady, TextAdded};
 
 use decomp_text::{Beside, Spelling};
-use edge::{Added, Filled, Numbers};
+use edge::{Filled, Full, Numbers, Taken};
 
 // What is prepared for a row of the most characters: these between spaces with their classes, their bytes, and an entry for
 // each position, its end too.
@@ -28,29 +29,26 @@ const BYTES: usize = 4 * MOST_INTO;
 
 const PLACES: usize = MOST_INTO + 1;
 
-// The refusals of slots and of room.
-const NO_SLOT: u8 = 9;
-
-const NO_ROOM: u8 = 10;
-
 // The category of numbers.
 const NUMBER: u32 = 4;
 
-// What was read of a row: its text; or what it lacks, slots or room, by the refusal's number. 0 is nothing.
+// An edge, with its start, found no slot, or a slot but not enough room, or its text would be too long.
 #[derive(Clone, Copy)]
-pub struct RowText {
-    pub spelling: Spelling,
-    pub lack: u8,
+pub enum Unfit {
+    Slots { at: usize },
+    Room { at: usize },
+    TooLong { at: usize },
 }
 
-// What a start did: how many edges there are now and how much room they take; or the edge, with its start, that found no
-// slot, or a slot but not enough room, or whose text would be too long.
-#[derive(Clone, Copy)]
-pub enum Grew {
-    Fits { count: usize, used: usize },
-    NoSlot(usize),
-    NoRoom(usize),
-    TooLong(usize),
+impl From<Full> for Unfit {
+    ghost from_gives = { λ f u. u ≡ unfit f };
+
+    fn from(full: Full) -> Unfit {
+        match full {
+            Full::Slots { at } => Unfit::Slots { at },
+            Full::Room { at } => Unfit::Room { at },
+        }
+    }
 }
 
 // Is the character at a place of the line a number?
@@ -89,14 +87,14 @@ fn read_line<'a>(
     starts: &mut [u32],
     beside: Beside,
     bytes: &mut [u8],
-) -> RowText
+) -> Result<Spelling, Full>
     requires { LineReady rules.now ready.now vowels.now text.now line.now slots.old room.old starts.old × (length bytes.old ≡ most_bytes) }
     ensures { LineRead rules.now ready.now vowels.now line.now beside
         (length slots.old) (length room.old) bytes.new result }
 {
     let mut places = [0u32; PLACES];
     let end = starts.len();
-    match lattice::build_lattice(
+    lattice::build_lattice(
         rules,
         ready,
         vowels,
@@ -107,20 +105,8 @@ fn read_line<'a>(
         room,
         &mut places[..end],
         starts,
-    ) {
-        Added::Fits { count: _, used: _ } => RowText {
-            spelling: decomp_text::spell(ready, line, slots, room, starts, beside, bytes),
-            lack: 0,
-        },
-        Added::NoSlot(_) => RowText {
-            spelling: decomp_text::nothing(),
-            lack: NO_SLOT,
-        },
-        Added::NoRoom(_) => RowText {
-            spelling: decomp_text::nothing(),
-            lack: NO_ROOM,
-        },
-    }
+    )?;
+    Ok(decomp_text::spell(ready, line, slots, room, starts, beside, bytes))
 }
 
 // The text of a row, put into an array: its characters are laid out as a line of their own.
@@ -135,7 +121,7 @@ fn read_row(
     slots: &mut [u8],
     room: &mut [u8],
     text: &mut [u8],
-) -> RowText
+) -> Result<Spelling, Full>
     requires { Formable rules.now ready.now classes.now vowels.now decompositions.now × Placed decompositions.now row
         × (length text.old ≡ most_bytes) }
     ensures { RowRead rules.now (choices_in ready.now) classes.now vowels.now
@@ -163,17 +149,6 @@ fn read_row(
     )
 }
 
-// What adding an edge answered.
-pub fn as_grew(done: Added) -> Grew
-    ensures { result ≡ as_grew done }
-{
-    match done {
-        Added::Fits { count, used } => Grew::Fits { count, used },
-        Added::NoSlot(p) => Grew::NoSlot(p),
-        Added::NoRoom(p) => Grew::NoRoom(p),
-    }
-}
-
 // The edge of a text that was read, at its character. One that is too long is refused before slots and room are asked.
 fn add_text(
     slots: &mut [u8],
@@ -183,13 +158,13 @@ fn add_text(
     bytes: &[u8],
     spelling: Spelling,
     p: usize,
-) -> Grew
+) -> Result<Taken, Unfit>
     requires { TextReady slots.old room.old places.old filled bytes.now spelling p }
     ensures { TextAdded (slots.old, room.old, places.old) (slots.new, room.new, places.new)
         filled bytes.now spelling p result }
 {
     if spelling.full {
-        return Grew::TooLong(p);
+        return Err(Unfit::TooLong { at: p });
     }
     let len = spelling.len;
     let text = &bytes[..len];
@@ -200,7 +175,18 @@ fn add_text(
         core: 0,
     };
     let end = noting::ending_of(text, spelling.letter);
-    as_grew(noting::add_edge(slots, room, places, filled, numbers, text, end))
+    let taken = noting::add_edge(slots, room, places, filled, numbers, text, end)?;
+    Ok(taken)
+}
+
+// What the edges of a row found no place for, told of its character.
+fn unfit_at(full: Full, p: usize) -> Unfit
+    ensures { result ≡ unfit_at full p }
+{
+    match full {
+        Full::Slots { at: _ } => Unfit::Slots { at: p },
+        Full::Room { at: _ } => Unfit::Room { at: p },
+    }
 }
 
 // The edge of the character at a position, where it stands for others. Its string's edges lie behind those that are there,
@@ -216,7 +202,7 @@ pub fn add_decomp(
     places: &mut [u32],
     filled: Filled,
     p: usize,
-) -> Grew
+) -> Result<Taken, Unfit>
     requires { AddReady rules.now prepared.now classes.now vowels.now decompositions.now slots.old room.old places.old filled p }
     ensures { (code : List ℕ) → GrowsAt rules.now prepared.now classes.now vowels.now decompositions.now code
         (slots.old, room.old, places.old) (slots.new, room.new, places.new)
@@ -230,10 +216,10 @@ pub fn add_decomp(
         words::number_at(line, p + 1),
     );
     if row == 0 {
-        return Grew::Fits {
+        return Ok(Taken {
             count: filled.count,
             used: filled.used,
-        };
+        });
     }
     let from = filled.count * edge::SLOT_BYTES;
     let used = filled.used;
@@ -250,12 +236,8 @@ pub fn add_decomp(
         &mut room[used..],
         &mut text,
     );
-    let lack = read.lack;
-    if lack == 0 {
-        return add_text(slots, room, places, filled, &text, read.spelling, p);
+    match read {
+        Ok(spelling) => add_text(slots, room, places, filled, &text, spelling, p),
+        Err(full) => Err(unfit_at(full, p)),
     }
-    if lack == NO_SLOT {
-        return Grew::NoSlot(p);
-    }
-    Grew::NoRoom(p)
 }

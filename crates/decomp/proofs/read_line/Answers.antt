@@ -1,21 +1,18 @@
 -- `decomp::read_line`: where the lattice was built its path is spelled, of every world that the line stands for; else it is told what is too little.
+use Rattle.std.specs.Prelude.{Ok, Err}
+use Rattle.std.proofs.lemmas.Result.{err_from_is_err_and}
 use mathlib.Core.List.{List, []}
-use mathlib.Core.Path.{◌≡◌, sym, ap, ◌∙◌, subst}
+use mathlib.Core.Path.{◌≡◌, refl, sym, ap, ◌∙◌, subst}
 use Prim.Native.Nat.{ℕ, ◌+◌, ◌≤◌}
 use native.Mathlib.Omega.{arith}
 use lib.ListN.{length, take, replicate, length-replicate}
 use Rattle.base.specs.ListLaws.{take-replicate}
 use Rattle.definition.specs.Limits.{most_into}
-use Rattle.edge.specs.declared.Added.TheVariants.{Fits}
-use Rattle.standing.specs.Stands.{Stands}
 use Rattle.words.specs.Given.{World, size_in, Told, Lined}
 use Rattle.passes.specs.Reached.{nothing, Over, with_edges}
-use Rattle.second_pass.specs.Starts.{Standing}
 use Rattle.lattice.specs.Lattice.{Buildable}
-use Rattle.decomp_text.specs.declared.Spelling.{Spelling}
-use Rattle.decomp_text.specs.Spelling.{Held}
 use Rattle.decomp.specs.First.{first-over}
-use Rattle.decomp.proofs.Rowing.{lying, line_read, line-slot, line-room}
+use Rattle.decomp.proofs.Rowing.{lying, line_read, line-lacks}
 use Rattle.decomp.proofs.read_line.Goals as goal
 
 -- an entry for each position of a row of the most characters, and for its end
@@ -34,7 +31,6 @@ pub spell-requires : goal.spell-requires
 spell-requires c =
     let end_is : ((length c.args.starts.now)) ≡ size_in c.args.line.now + 1 = ap length c.requires.0.0.5 ∙ length-replicate {A = ℕ} (size_in c.args.line.now + 1) 0 in
     let sized : length c.build_lattice.new.starts ≡ size_in c.args.line.now + 1 = omega (arith, c.build_lattice.auto.starts, end_is) in
-    let stand : (i : ℕ) → (u : ℕ) → (e : c.build_lattice.result ≡ Fits i u) → Stands c.build_lattice.new.slots c.build_lattice.new.starts i = λ i. λ u. λ e. subst (Standing c.build_lattice.new.slots c.build_lattice.new.starts) e c.build_lattice.ensures.starts in
     let few : ((length c.args.starts.now)) ≤ places = omega (arith, (end_is), c.requires.0.1) in
     let entries : ((take ((length c.args.starts.now)) (replicate {A = ℕ} places 0))) ≡ replicate (size_in c.args.line.now + 1) 0 = take-replicate 0 ((length c.args.starts.now)) places (few) ∙ ap (λ (n : ℕ). replicate {A = ℕ} n 0) (end_is) in
     let empty : (w : World) → (told : Told w c.args.ready.now) → (lined : Lined w c.args.line.now) → Over (with_edges w []) c.args.ready.now c.args.line.now c.args.slots.now c.args.room.now ((take ((length c.args.starts.now)) (replicate {A = ℕ} places 0))) nothing = λ w. λ told. λ lined. first-over told lined c.args.slots.now c.args.room.now ((take ((length c.args.starts.now)) (replicate {A = ℕ} places 0))) (entries) in
@@ -43,45 +39,31 @@ spell-requires c =
     let o = p.3.over in (
       c.requires.1,
       lying c.args.vowels.now (with_edges w []) (empty w o.told o.lent.text) p.0 p.1 c.build_lattice.new.slots c.build_lattice.new.room c.build_lattice.new.places
-          c.build_lattice.result c.build_lattice.ensures.built c.in-Fits.count c.in-Fits.used c.in-Fits.is c.build_lattice.new.starts (stand c.in-Fits.count c.in-Fits.used c.in-Fits.is) (sized),
+          (Ok c.in_ok-build_lattice.field-0) c.in_ok-build_lattice.ensures.built c.in_ok-build_lattice.field-0 refl c.build_lattice.new.starts c.in_ok-build_lattice.ensures.starts (sized),
     )
 
-pub returns-in-Fits : goal.returns-in-Fits
-returns-in-Fits c =
+pub returns-in_err-build_lattice : goal.returns-in_err-build_lattice
+returns-in_err-build_lattice c =
+    let end_is : ((length c.args.starts.now)) ≡ size_in c.args.line.now + 1 = ap length c.requires.0.0.5 ∙ length-replicate {A = ℕ} (size_in c.args.line.now + 1) 0 in
+    let few : ((length c.args.starts.now)) ≤ places = omega (arith, (end_is), c.requires.0.1) in
+    let entries : ((take ((length c.args.starts.now)) (replicate {A = ℕ} places 0))) ≡ replicate (size_in c.args.line.now + 1) 0 = take-replicate 0 ((length c.args.starts.now)) places (few) ∙ ap (λ (n : ℕ). replicate {A = ℕ} n 0) (end_is) in
+    let empty : (w : World) → (told : Told w c.args.ready.now) → (lined : Lined w c.args.line.now) → Over (with_edges w []) c.args.ready.now c.args.line.now c.args.slots.now c.args.room.now ((take ((length c.args.starts.now)) (replicate {A = ℕ} places 0))) nothing = λ w. λ told. λ lined. first-over told lined c.args.slots.now c.args.room.now ((take ((length c.args.starts.now)) (replicate {A = ℕ} places 0))) (entries) in
+    let p = c.requires.0.0 in
+    let q = err_from_is_err_and c.from_residual.result c.from_residual.ensures.1 in
+    let f = c.in_err-build_lattice.field-0.0 in
+    λ w told lined. rw (q.1, q.2)
+    (line-lacks c.args.vowels.now (with_edges w []) (empty w told lined) p.0 p.1 c.build_lattice.new.slots c.build_lattice.new.room c.build_lattice.new.places
+    (Err f) c.in_err-build_lattice.ensures.built c.args.beside c.args.bytes.now f refl)
+
+pub returns : goal.returns
+returns c =
     let end_is : ((length c.args.starts.now)) ≡ size_in c.args.line.now + 1 = ap length c.requires.0.0.5 ∙ length-replicate {A = ℕ} (size_in c.args.line.now + 1) 0 in
     let sized : length c.build_lattice.new.starts ≡ size_in c.args.line.now + 1 = omega (arith, c.build_lattice.auto.starts, end_is) in
-    let stand : (i : ℕ) → (u : ℕ) → (e : c.build_lattice.result ≡ Fits i u) → Stands c.build_lattice.new.slots c.build_lattice.new.starts i = λ i. λ u. λ e. subst (Standing c.build_lattice.new.slots c.build_lattice.new.starts) e c.build_lattice.ensures.starts in
     let few : ((length c.args.starts.now)) ≤ places = omega (arith, (end_is), c.requires.0.1) in
     let entries : ((take ((length c.args.starts.now)) (replicate {A = ℕ} places 0))) ≡ replicate (size_in c.args.line.now + 1) 0 = take-replicate 0 ((length c.args.starts.now)) places (few) ∙ ap (λ (n : ℕ). replicate {A = ℕ} n 0) (end_is) in
     let empty : (w : World) → (told : Told w c.args.ready.now) → (lined : Lined w c.args.line.now) → Over (with_edges w []) c.args.ready.now c.args.line.now c.args.slots.now c.args.room.now ((take ((length c.args.starts.now)) (replicate {A = ℕ} places 0))) nothing = λ w. λ told. λ lined. first-over told lined c.args.slots.now c.args.room.now ((take ((length c.args.starts.now)) (replicate {A = ℕ} places 0))) (entries) in
     let p = c.requires.0.0 in
     λ w told lined.
-    line_read c.args.vowels.now (with_edges w []) (empty w told lined) p.0 p.1 c.build_lattice.new.slots c.build_lattice.new.room c.build_lattice.new.places c.build_lattice.result
-    c.build_lattice.ensures.built c.in-Fits.count c.in-Fits.used c.in-Fits.is c.build_lattice.new.starts (stand c.in-Fits.count c.in-Fits.used c.in-Fits.is) (sized)
+    line_read c.args.vowels.now (with_edges w []) (empty w told lined) p.0 p.1 c.build_lattice.new.slots c.build_lattice.new.room c.build_lattice.new.places (Ok c.in_ok-build_lattice.field-0)
+    c.in_ok-build_lattice.ensures.built c.in_ok-build_lattice.field-0 refl c.build_lattice.new.starts c.in_ok-build_lattice.ensures.starts (sized)
     c.args.beside c.spell.new.bytes c.spell.result c.spell.ensures.1 c.spell.ensures.0
-
-pub returns-in-NoSlot : goal.returns-in-NoSlot
-returns-in-NoSlot c =
-    let end_is : ((length c.args.starts.now)) ≡ size_in c.args.line.now + 1 = ap length c.requires.0.0.5 ∙ length-replicate {A = ℕ} (size_in c.args.line.now + 1) 0 in
-    let few : ((length c.args.starts.now)) ≤ places = omega (arith, (end_is), c.requires.0.1) in
-    let entries : ((take ((length c.args.starts.now)) (replicate {A = ℕ} places 0))) ≡ replicate (size_in c.args.line.now + 1) 0 = take-replicate 0 ((length c.args.starts.now)) places (few) ∙ ap (λ (n : ℕ). replicate {A = ℕ} n 0) (end_is) in
-    let empty : (w : World) → (told : Told w c.args.ready.now) → (lined : Lined w c.args.line.now) → Over (with_edges w []) c.args.ready.now c.args.line.now c.args.slots.now c.args.room.now ((take ((length c.args.starts.now)) (replicate {A = ℕ} places 0))) nothing = λ w. λ told. λ lined. first-over told lined c.args.slots.now c.args.room.now ((take ((length c.args.starts.now)) (replicate {A = ℕ} places 0))) (entries) in
-    let none-held : (s : Spelling) → (e : s.len ≡ 0) → Held c.args.bytes.now s = λ s. λ e. record { long = c.requires.1; fits = omega (arith, e) } in
-    let p = c.requires.0.0 in
-    λ w told lined.
-    line-slot c.args.vowels.now (with_edges w []) (empty w told lined) p.0 p.1 c.build_lattice.new.slots c.build_lattice.new.room c.build_lattice.new.places c.build_lattice.result
-    c.build_lattice.ensures.built c.args.beside c.in-NoSlot.field-0 c.in-NoSlot.is c.args.bytes.now c.nothing.result
-    (none-held c.nothing.result (ap (λ (s : Spelling). s.len) c.nothing.ensures))
-
-pub returns-in-NoRoom : goal.returns-in-NoRoom
-returns-in-NoRoom c =
-    let end_is : ((length c.args.starts.now)) ≡ size_in c.args.line.now + 1 = ap length c.requires.0.0.5 ∙ length-replicate {A = ℕ} (size_in c.args.line.now + 1) 0 in
-    let few : ((length c.args.starts.now)) ≤ places = omega (arith, (end_is), c.requires.0.1) in
-    let entries : ((take ((length c.args.starts.now)) (replicate {A = ℕ} places 0))) ≡ replicate (size_in c.args.line.now + 1) 0 = take-replicate 0 ((length c.args.starts.now)) places (few) ∙ ap (λ (n : ℕ). replicate {A = ℕ} n 0) (end_is) in
-    let empty : (w : World) → (told : Told w c.args.ready.now) → (lined : Lined w c.args.line.now) → Over (with_edges w []) c.args.ready.now c.args.line.now c.args.slots.now c.args.room.now ((take ((length c.args.starts.now)) (replicate {A = ℕ} places 0))) nothing = λ w. λ told. λ lined. first-over told lined c.args.slots.now c.args.room.now ((take ((length c.args.starts.now)) (replicate {A = ℕ} places 0))) (entries) in
-    let none-held : (s : Spelling) → (e : s.len ≡ 0) → Held c.args.bytes.now s = λ s. λ e. record { long = c.requires.1; fits = omega (arith, e) } in
-    let p = c.requires.0.0 in
-    λ w told lined.
-    line-room c.args.vowels.now (with_edges w []) (empty w told lined) p.0 p.1 c.build_lattice.new.slots c.build_lattice.new.room c.build_lattice.new.places c.build_lattice.result
-    c.build_lattice.ensures.built c.args.beside c.in-NoRoom.field-0 c.in-NoRoom.is c.args.bytes.now c.nothing-in-NoRoom.result
-    (none-held c.nothing-in-NoRoom.result (ap (λ (s : Spelling). s.len) c.nothing-in-NoRoom.ensures))
