@@ -1,5 +1,6 @@
 -- The pass when it comes to a start: of every world over what was lent it is underway, and what speaks of no world holds. From
 -- there a stretch of starts can be run.
+use Rattle.std.specs.Prelude.{Ok, Err}
 use Prim.Native.Nat.{ℕ, ◌+◌, ◌-◌, ◌*◌, ◌≤◌}
 use mathlib.Core.List.{List, []}
 use mathlib.Core.Path.{◌≡◌, refl, sym, ap, ◌∙◌, subst}
@@ -19,7 +20,7 @@ use Rattle.definition.specs.Bounds.{Bounded, Ruled}
 use Rattle.definition.proofs.Bounds.{build-ruled}
 use Rattle.definition.proofs.Promises.{tables-bounded}
 use Rattle.definition.specs.Call.{tables_of}
-use Rattle.edge.specs.declared.Added.{Added as Answer}
+use Rattle.edge.specs.Answers.{Answer}
 use Rattle.edge.specs.Slots.{edges_of}
 use Rattle.standing.specs.Starts.{begun as begun-at}
 use Rattle.standing.specs.Begun.{Begun}
@@ -30,13 +31,12 @@ use Rattle.passes.proofs.Passing.{kept, going_lent}
 use Rattle.first_pass.specs.declared.Stretch.{Stretch}
 use Rattle.first_pass.specs.FirstPass as first
 use Rattle.first_pass.proofs.Passes.{begun-zeros}
-use Rattle.decomp.specs.Adding.{as_grew}
+use Rattle.decomp.specs.Answers.{as_grew}
 use Rattle.decomp.specs.Grown.{Before, GrewTo}
 use Rattle.decomp_pass.specs.Passes.{PassReady, Passes, Begins}
 use Rattle.decomp_pass.proofs.Onward.{spans-grew, spans-before}
 use Rattle.decomp_pass.proofs.Passing.{Underway, underway_first, underway_over}
 use Rattle.decomp_pass.proofs.Between.{turn_rest, next_off}
-use Rattle.edge.specs.declared.Added.TheVariants as added
 use Rattle.table_decompositions.specs.Next.{next_form}
 
 -- what is true of two lists that were lent is true of what they are
@@ -162,6 +162,6 @@ module _ (code : List ℕ) {rules prepared classes vowels decompositions S₀ R�
 
 -- and what starts tell is what they tell of all
 pub rest-begins : (S R : List ℕ) (n : ℕ) (starts : List ℕ) (x : Stretch) (a : Answer) → x.to ≡ n → first.BeganTo S R n starts x a → Begins S R n starts (as_grew a)
-rest-begins S R n starts x (added.Fits c u) e b = (subst (λ (m : ℕ). Begun (edges_of R c S) m starts) e b.0, ap (begun-at starts) (sym e) ∙ b.1, b.2, b.3)
-rest-begins S R n starts x (added.NoSlot p) e b = tt
-rest-begins S R n starts x (added.NoRoom p) e b = tt
+rest-begins S R n starts x (Ok t) e b =
+    (subst (λ (m : ℕ). Begun (edges_of R t.count S) m starts) e b.0, ap (begun-at starts) (sym e) ∙ b.1, b.2, b.3)
+rest-begins S R n starts x (Err f) e b = tt

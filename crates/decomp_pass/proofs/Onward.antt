@@ -1,5 +1,6 @@
 -- Edges that spans give behind edges that fit: slots and room are asked alone, so that what adding them answers is told of the
 -- whole scan.
+use Rattle.std.specs.Prelude.{Ok, Err}
 use Prim.Native.Nat.{ℕ, ◌/◌, ◌≤◌, ◌<◌}
 use mathlib.Core.List.{List}
 use mathlib.Core.Option.{Option, none, some}
@@ -17,14 +18,13 @@ use Rattle.definition.specs.Capacity.{misfit, overflow}
 use Rattle.definition.specs.Growth.{Added}
 use Rattle.definition.specs.Bounds.{Ruled}
 use Rattle.definition.proofs.Decomposed.{overflow-grown}
-use Rattle.edge.specs.declared.Added.{Added as Answer}
-use Rattle.edge.specs.declared.Added.TheVariants as added
+use Rattle.edge.specs.declared.Full.TheVariants as full
+use Rattle.edge.specs.Answers.{Answer}
 use Rattle.edge.specs.Fitting.{stored_fits}
 use Rattle.noting.specs.Keeps.{Keeps}
 use Rattle.passes.specs.Reached.{Reached}
-use Rattle.decomp.specs.declared.Grew.{Grew}
-use Rattle.decomp.specs.declared.Grew.TheVariants.{Fits, NoSlot, NoRoom, TooLong}
-use Rattle.decomp.specs.Adding.{as_grew}
+use Rattle.decomp.specs.declared.Unfit.TheVariants.{Slots, Room, TooLong}
+use Rattle.decomp.specs.Answers.{Grew, as_grew}
 use Rattle.decomp.specs.Grown.{Before, GrewTo, overflow-behind}
 use Rattle.decomp.specs.Steps.{reached-fits}
 
@@ -40,9 +40,9 @@ module _ (D : Tables) (ds : List Decomposition) (t : Text) {ks : List Class} {n 
 
   -- what adding them answers is how far building has come
   pub spans-grew : {S' R' P' : List ℕ} {most : ℕ} (a : Answer) → Reached ks n S R S' R' P' most spans a → GrewTo D ds t ks n S R S' R' P' most spans (as_grew a)
-  spans-grew (added.Fits c u) b = record { slots = b.slots; room = b.room; came = (b.came.0, b.came.1, asks_room ∙ reached-fits b) }
-  spans-grew (added.NoSlot p) b = record { slots = b.slots; room = b.room; came = asks_room ∙ b.came }
-  spans-grew (added.NoRoom p) b = record { slots = b.slots; room = b.room; came = asks_room ∙ b.came }
+  spans-grew (Ok y) b = record { slots = b.slots; room = b.room; came = (b.came.0, b.came.1, asks_room ∙ reached-fits b) }
+  spans-grew (Err (full.Slots p)) b = record { slots = b.slots; room = b.room; came = asks_room ∙ b.came }
+  spans-grew (Err (full.Room p)) b = record { slots = b.slots; room = b.room; came = asks_room ∙ b.came }
 
   -- none of their edges is a character's own
   pub spans-before : (s e : ℕ) → s ≤ e → Before s st.0 → Before e spans.0
@@ -52,10 +52,8 @@ module _ (D : Tables) (ds : List Decomposition) (t : Text) {ks : List Class} {n 
 
 -- the answer is a refusal
 abbrev pub Refused : Grew → Type 0
-Refused (Fits c u) = ⊥
-Refused (NoSlot p) = Unit {0}
-Refused (NoRoom p) = Unit {0}
-Refused (TooLong p) = Unit {0}
+Refused (Ok t) = ⊥
+Refused (Err f) = Unit {0}
 
 -- Slots and room that were as long before refuse the same, and go on refusing it whatever comes behind
 module _ (D : Tables) (ds : List Decomposition) (t : Text) (S R S₀ R₀ : List ℕ) (st : State) (a : length S ≡ length S₀) (b : length R ≡ length R₀) where
@@ -74,19 +72,19 @@ module _ (D : Tables) (ds : List Decomposition) (t : Text) (S R S₀ R₀ : List
 module _ {D : Tables} {ds : List Decomposition} {t : Text} {ks : List Class} {n : ℕ} {S R S₀ R₀ S' R' P' : List ℕ} {most : ℕ} {st : State}
     (a : length S ≡ length S₀) (b : length R ≡ length R₀) where
   pub grew_since : (more : ℕ) → most ≤ more → (r : Grew) → GrewTo D ds t ks n S R S' R' P' most st r → GrewTo D ds t ks n S₀ R₀ S' R' P' more st r
-  grew_since more l (Fits c u) g = record {
+  grew_since more l (Ok y) g = record {
     slots = g.slots ∙ a;
     room = g.room ∙ b;
     came = (g.came.0, (let m = g.came.1 in omega (arith, m, l)), same D ds t S R S₀ R₀ st a b none g.came.2);
   }
-  grew_since more l (NoSlot p) g = record { slots = g.slots ∙ a; room = g.room ∙ b; came = same D ds t S R S₀ R₀ st a b (some (refuse refused_slots p)) g.came }
-  grew_since more l (NoRoom p) g = record { slots = g.slots ∙ a; room = g.room ∙ b; came = same D ds t S R S₀ R₀ st a b (some (refuse refused_room p)) g.came }
-  grew_since more l (TooLong p) g = record { slots = g.slots ∙ a; room = g.room ∙ b; came = same D ds t S R S₀ R₀ st a b (some (refuse refused_edge_text p)) g.came }
+  grew_since more l (Err (Slots p)) g = record { slots = g.slots ∙ a; room = g.room ∙ b; came = same D ds t S R S₀ R₀ st a b (some (refuse refused_slots p)) g.came }
+  grew_since more l (Err (Room p)) g = record { slots = g.slots ∙ a; room = g.room ∙ b; came = same D ds t S R S₀ R₀ st a b (some (refuse refused_room p)) g.came }
+  grew_since more l (Err (TooLong p)) g = record { slots = g.slots ∙ a; room = g.room ∙ b; came = same D ds t S R S₀ R₀ st a b (some (refuse refused_edge_text p)) g.came }
 
   -- a refusal stays
   pub grew-refused : (whole : State) → Added (λ x. Unit {0}) st.0 whole.0 → (more : ℕ) (r : Grew) → Refused r
       → GrewTo D ds t ks n S R S' R' P' most st r → GrewTo D ds t ks n S₀ R₀ S' R' P' more whole r
-  grew-refused whole h more (Fits c u) q g = absurd q
-  grew-refused whole h more (NoSlot p) q g = record { slots = g.slots ∙ a; room = g.room ∙ b; came = stays D ds t S R S₀ R₀ st a b whole h (refuse refused_slots p) g.came }
-  grew-refused whole h more (NoRoom p) q g = record { slots = g.slots ∙ a; room = g.room ∙ b; came = stays D ds t S R S₀ R₀ st a b whole h (refuse refused_room p) g.came }
-  grew-refused whole h more (TooLong p) q g = record { slots = g.slots ∙ a; room = g.room ∙ b; came = stays D ds t S R S₀ R₀ st a b whole h (refuse refused_edge_text p) g.came }
+  grew-refused whole h more (Ok y) q g = absurd q
+  grew-refused whole h more (Err (Slots p)) q g = record { slots = g.slots ∙ a; room = g.room ∙ b; came = stays D ds t S R S₀ R₀ st a b whole h (refuse refused_slots p) g.came }
+  grew-refused whole h more (Err (Room p)) q g = record { slots = g.slots ∙ a; room = g.room ∙ b; came = stays D ds t S R S₀ R₀ st a b whole h (refuse refused_room p) g.came }
+  grew-refused whole h more (Err (TooLong p)) q g = record { slots = g.slots ∙ a; room = g.room ∙ b; came = stays D ds t S R S₀ R₀ st a b whole h (refuse refused_edge_text p) g.came }

@@ -1,5 +1,6 @@
 -- The first pass in the middle: what is left of it leads where all of it does, nothing has overflowed, and no character from the
 -- next start on has its edge yet.
+use Rattle.std.specs.Prelude.{Ok}
 use Prim.Native.Nat.{ℕ, ◌/◌, ◌≤◌}
 use mathlib.Core.List.{List}
 use mathlib.Core.Option.{none}
@@ -14,13 +15,12 @@ use Rattle.definition.specs.Building.{each}
 use Rattle.definition.specs.Decomposing.{start}
 use Rattle.definition.specs.Capacity.{overflow}
 use Rattle.definition.specs.Growth.{Added}
-use Rattle.edge.specs.declared.Added.TheVariants as added
+use Rattle.edge.specs.Answers.{fits}
 use Rattle.edge.specs.Slots.{edges_of}
 use Rattle.words.specs.Given.{World, kinds, size}
 use Rattle.passes.specs.Reached.{nothing, Over, state_of}
 use Rattle.passes.proofs.Passing.{kept, Going, passing_first, going_next}
-use Rattle.decomp.specs.declared.Grew.{Grew}
-use Rattle.decomp.specs.declared.Grew.TheVariants.{Fits}
+use Rattle.decomp.specs.Answers.{Grew}
 use Rattle.decomp.specs.Grown.{Before, GrewTo}
 use Rattle.decomp_pass.specs.Both.{grew-fits}
 use Rattle.decomp_pass.proofs.Onward.{Refused, grew_since, grew-refused}
@@ -55,8 +55,8 @@ module _ {D : Tables} {ds : List Decomposition} {t : Text} {ks : List Class} {n 
       subst (λ (to : State). GrewTo D ds t ks n S₀ R₀ S' R' P' more to a) (sym e ∙ sym turn ∙ r.going.on) (grew_since r.going.slots r.going.room more l a b)
 
   -- or goes on
-  module _ (k v : ℕ) (q : a ≡ Fits k v) where
-    came : GrewTo D ds t ks n S R S' R' P' most (f (kept n S R P c)) (Fits k v)
+  module _ (k v : ℕ) (q : a ≡ Ok record { count = k; used = v }) where
+    came : GrewTo D ds t ks n S R S' R' P' most (f (kept n S R P c)) (Ok record { count = k; used = v })
     came = subst (GrewTo D ds t ks n S R S' R' P' most (f (kept n S R P c))) q b
 
     -- the edges are those of the step
@@ -68,7 +68,7 @@ module _ {D : Tables} {ds : List Decomposition} {t : Text} {ks : List Class} {n 
 
     pub underway_next : (s' : ℕ) → Before s' (f (kept n S R P c)).0 → Underway D ds t ks n S₀ R₀ whole next S' R' P' k v s'
     underway_next s' before = record {
-      going = going_next r.going f next turn (added.Fits k v) (grew-fits came) k v refl;
+      going = going_next r.going f next turn (fits k v) (grew-fits came) k v refl;
       held =
           ap (overflow D ds t (length S' / slot_bytes) (length R')) underway_edges
           ∙ ap (λ (m : ℕ). overflow D ds t (m / slot_bytes) (length R') (f (kept n S R P c)).0) came.slots

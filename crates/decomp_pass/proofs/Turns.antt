@@ -1,4 +1,5 @@
 -- A turn of the pass: a stretch of starts up to and with a character that stands for others, and the edge of that character.
+use Rattle.std.specs.Prelude.{Ok}
 use Prim.Native.Nat.{ℕ, ◌+◌, ◌-◌, ◌*◌, ◌≤◌, ◌<◌}
 use mathlib.Core.List.{List}
 use mathlib.Core.Path.{◌≡◌, refl, sym, ap, ◌∙◌, subst}
@@ -12,8 +13,7 @@ use Rattle.definition.specs.Building.{each, build}
 use Rattle.definition.specs.Decomposing.{decomp_edge, start}
 use Rattle.definition.specs.DecompositionRows.{decompositions_of}
 use Rattle.definition.specs.Growth.{added_twice, add-grown}
-use Rattle.edge.specs.declared.Added.{Added as Answer}
-use Rattle.edge.specs.declared.Added.TheVariants as added
+use Rattle.edge.specs.Answers.{Answer, fits}
 use Rattle.edge.specs.Slots.{edges_of}
 use Rattle.edge.specs.Stored.{edge_count}
 use Rattle.standing.specs.Starts.{since_in}
@@ -25,9 +25,7 @@ use Rattle.passes.proofs.Passing.{kept, going_lent}
 use Rattle.first_pass.specs.FirstPass as first
 use Rattle.first_pass.proofs.Passes.{fresh-begun, begun_turn}
 use Rattle.table_decompositions.specs.Next.{next_form}
-use Rattle.decomp.specs.declared.Grew.{Grew}
-use Rattle.decomp.specs.declared.Grew.TheVariants.{Fits}
-use Rattle.decomp.specs.Adding.{as_grew}
+use Rattle.decomp.specs.Answers.{Grew, as_grew}
 use Rattle.decomp.specs.Grown.{GrewTo, GrowsAt}
 use Rattle.decomp.specs.Steps.{AddReady, put_decomp}
 use Rattle.decomp_pass.specs.Passes.{PassReady, Passes}
@@ -87,11 +85,11 @@ module _ (code : List ℕ) {rules prepared classes vowels decompositions S₀ R�
         (n * (most_edges * most_bytes)) q
 
     -- With edges that fit
-    module _ (c' u' : ℕ) (e : a ≡ added.Fits c' u') where
+    module _ (c' u' : ℕ) (e : a ≡ fits c' u') where
       abbrev es : List Edge
       es = edges_of R' c' S'
 
-      began : first.BeganTo S' R' n starts' (record { count = c; used = u; from = s; to = at + 1 }) (added.Fits c' u')
+      began : first.BeganTo S' R' n starts' (record { count = c; used = u; from = s; to = at + 1 }) (fits c' u')
       began = subst (first.BeganTo S' R' n starts' (record { count = c; used = u; from = s; to = at + 1 })) e begins
 
       -- it is underway, and the character's edge is next
@@ -143,7 +141,7 @@ module _ (code : List ℕ) {rules prepared classes vowels decompositions S₀ R�
             (n * (most_edges * most_bytes)) q
 
         -- or it goes on behind it
-        pub form-next : (k v : ℕ) → r ≡ Fits k v → Halfway rules prepared classes vowels decompositions code S₀ R₀ P₀ S'' R'' P'' starts' k v (at + 1)
+        pub form-next : (k v : ℕ) → r ≡ Ok record { count = k; used = v } → Halfway rules prepared classes vowels decompositions code S₀ R₀ P₀ S'' R'' P'' starts' k v (at + 1)
         form-next k v q =
             let w = pre.somewhere.world in
             let o = pre.somewhere.over in

@@ -1,5 +1,5 @@
 -- Both passes: a refusal of either is the whole lattice's, and where both fit nothing has overflowed.
-use Rattle.std.specs.Prelude.{ℕ, List, [], ◌≡◌, refl, length, replicate}
+use Rattle.std.specs.Prelude.{Ok, ℕ, List, [], ◌≡◌, refl, length, replicate}
 use Rattle.std.proofs.Math.Option.{none, some}
 use Rattle.std.proofs.Common.{sym, ap, ◌∙◌, arith}
 use Rattle.base.specs.Alls.{All-map}
@@ -14,9 +14,8 @@ use Rattle.definition.specs.Growth.{Added, each-added, each-grown, fall-grown}
 use Rattle.definition.specs.Bounds.{Bounded, Ruled}
 use Rattle.definition.proofs.Bounds.{fall-ruled}
 use Rattle.definition.proofs.Decomposed.{overflow-grown}
-use Rattle.edge.specs.declared.Added.TheVariants as added
+use Rattle.edge.specs.declared.Taken.{Taken}
 use Rattle.passes.specs.Reached.{Reached}
-use Rattle.decomp.specs.declared.Grew.TheVariants.{Fits}
 use Rattle.decomp.specs.Grown.{GrewTo, overflow-behind}
 
 -- the passes make the lattice
@@ -41,6 +40,6 @@ module _ (D : Tables) (ds : List Decomposition) (t : Text) (k r : ℕ) (st : Sta
       ap (overflow D ds t k r) g.is ∙ overflow-behind D ds t k r st.0 h f g.more (All-map (λ x y. y.note) g.more g.all) ∙ ap (misfit k r) (sym g.is)
 
 -- what is kept of the first pass has found room
-pub grew-fits : {D : Tables} {ds : List Decomposition} {t : Text} {ks : List Class} {n : ℕ} {S R S' R' P' : List ℕ} {most : ℕ} {st : State} {c u : ℕ}
-    → GrewTo D ds t ks n S R S' R' P' most st (Fits c u) → Reached ks n S R S' R' P' most st (added.Fits c u)
+pub grew-fits : {D : Tables} {ds : List Decomposition} {t : Text} {ks : List Class} {n : ℕ} {S R S' R' P' : List ℕ} {most : ℕ} {st : State} {y : Taken}
+    → GrewTo D ds t ks n S R S' R' P' most st (Ok y) → Reached ks n S R S' R' P' most st (Ok y)
 grew-fits g = record { slots = g.slots; room = g.room; came = (g.came.0, g.came.1) }

@@ -1,14 +1,12 @@
 -- What the first pass needs of what it is lent, and what it promises.
-use Rattle.std.specs.Prelude.{ℕ, ◌+◌, ◌*◌, ◌≤◌, List, ◌≡◌, length, replicate}
+use Rattle.std.specs.Prelude.{Ok, Err, ℕ, ◌+◌, ◌*◌, ◌≤◌, List, ◌≡◌, length, replicate}
 use Rattle.definition.specs.Limits.{most_bytes, most_edges}
 use Rattle.definition.specs.Building.{each}
 use Rattle.definition.specs.Decomposing.{start}
-use Rattle.edge.specs.declared.Added.TheVariants as Added
 use Rattle.words.specs.Given.{size_in, ready_in, line_in, all_ready}
 use Rattle.passes.specs.Reached.{nothing, Somewhere, Rooms}
 use Rattle.passes.specs.Starts.{Began}
-use Rattle.decomp.specs.declared.Grew.{Grew}
-use Rattle.decomp.specs.declared.Grew.TheVariants.{Fits, NoSlot, NoRoom, TooLong}
+use Rattle.decomp.specs.Answers.{Grew}
 use Rattle.decomp.specs.Rows.{Formable}
 use Rattle.decomp.specs.Grown.{GrowsAt}
 
@@ -29,7 +27,5 @@ Passes rules prepared classes vowels decompositions code before after r =
 
 -- what starts tell then
 abbrev pub Begins : List ℕ → List ℕ → ℕ → List ℕ → Grew → Type 0
-Begins slots room n starts (Fits c u) = Began slots room n starts (Added.Fits c u)
-Begins slots room n starts (NoSlot p) = Unit {0}
-Begins slots room n starts (NoRoom p) = Unit {0}
-Begins slots room n starts (TooLong p) = Unit {0}
+Begins slots room n starts (Ok t) = Began slots room n starts (Ok t)
+Begins slots room n starts (Err f) = Unit {0}

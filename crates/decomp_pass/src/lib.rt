@@ -5,8 +5,8 @@
 ghost use Rattle.words.specs.Given.{size_in, line_in};
 ghost use Rattle.decomp_pass.specs.Passes.{PassReady, Passes, Begins};
 
-use decomp::Grew;
-use edge::{Added, Filled};
+use decomp::Unfit;
+use edge::{Filled, Taken};
 use first_pass::Stretch;
 
 // From every start, with no edge before. The starts up to the next character that stands for others go at once, then comes its
@@ -22,7 +22,7 @@ pub fn add_romanization(
     room: &mut [u8],
     places: &mut [u32],
     starts: &mut [u32],
-) -> Grew
+) -> Result<Taken, Unfit>
     requires { PassReady rules.now prepared.now classes.now vowels.now decompositions.now slots.old room.old places.old starts.old }
     ensures built { Passes rules.now prepared.now classes.now vowels.now decompositions.now code.now
         (slots.old, room.old, places.old) (slots.new, room.new, places.new) result }
@@ -31,8 +31,7 @@ pub fn add_romanization(
     let ready = words::ready_in(prepared);
     let line = words::line_in(prepared);
     let n = words::text_len(line);
-    let mut edges: usize = 0;
-    let mut bytes: usize = 0;
+    let mut taken = Taken { count: 0, used: 0 };
     let mut s: usize = 0;
     let mut at = table_decompositions::next_form(
         decompositions,
@@ -43,68 +42,42 @@ pub fn add_romanization(
     );
     while at < n {
         let stretch = Stretch {
-            count: edges,
-            used: bytes,
+            count: taken.count,
+            used: taken.used,
             from: s,
             to: at + 1,
         };
-        match first_pass::add_romanization(
+        let spans = first_pass::add_romanization(
             rules, ready, vowels, code, line, slots, room, places, starts, stretch,
-        ) {
-            Added::Fits { count, used } => {
-                let filled = Filled {
-                    count,
-                    used,
-                    since: standing::since(starts, at),
-                };
-                let done = decomp::add_decomp(
-                    rules,
-                    prepared,
-                    classes,
-                    vowels,
-                    decompositions,
-                    slots,
-                    room,
-                    places,
-                    filled,
-                    at,
-                );
-                match done {
-                    Grew::Fits {
-                        count: more,
-                        used: all,
-                    } => {
-                        edges = more;
-                        bytes = all;
-                    }
-                    Grew::NoSlot(_) => {
-                        return done;
-                    }
-                    Grew::NoRoom(_) => {
-                        return done;
-                    }
-                    Grew::TooLong(_) => {
-                        return done;
-                    }
-                }
-            }
-            Added::NoSlot(p) => {
-                return Grew::NoSlot(p);
-            }
-            Added::NoRoom(p) => {
-                return Grew::NoRoom(p);
-            }
-        }
+        )?;
+        let filled = Filled {
+            count: spans.count,
+            used: spans.used,
+            since: standing::since(starts, at),
+        };
+        taken = decomp::add_decomp(
+            rules,
+            prepared,
+            classes,
+            vowels,
+            decompositions,
+            slots,
+            room,
+            places,
+            filled,
+            at,
+        )?;
         s = at + 1;
         at = table_decompositions::next_form(decompositions, words::forms_in(ready), line, n, s);
     }
     let rest = Stretch {
-        count: edges,
-        used: bytes,
+        count: taken.count,
+        used: taken.used,
         from: s,
         to: n,
     };
-    decomp::as_grew(first_pass::add_romanization(
+    let all = first_pass::add_romanization(
         rules, ready, vowels, code, line, slots, room, places, starts, rest,
-    ))
+    )?;
+    Ok(all)
 }

@@ -10,7 +10,7 @@ use Rattle.decomp_pass.proofs.add_romanization.Given as goal
 
 abbrev pub invariant-loop-at : goal.invariant-loop-at
 invariant-loop-at l =
-    Halfway l.rules l.prepared l.classes l.vowels l.decompositions l.code l.initial.slots l.initial.room l.initial.places l.slots l.room l.places l.starts l.edges l.bytes l.s
+    Halfway l.rules l.prepared l.classes l.vowels l.decompositions l.code l.initial.slots l.initial.room l.initial.places l.slots l.room l.places l.starts l.taken.count l.taken.used l.s
     × (l.at ≡ next_form (decompositions_of l.decompositions) (line_in l.prepared) (number l.prepared - l.s) l.s)
     × (length l.slots ≡ length l.initial.slots) × (length l.room ≡ length l.initial.room) × (length l.places ≡ length l.initial.places) × (length l.starts ≡ length l.initial.starts)
 
