@@ -36,21 +36,21 @@ rising_fresh D t n s e {S} {R} {filled} f P S' R' k v q =
     fresh-later f S' R' k v (record { more = g.more; is = q ∙ g.is; all = g.all })
 
 -- What was looked up of a span tells whether it is a prefix of a source, and whether the next one is
-module _ {rules line : List ℕ} (a : rule_fault rules ≡ none) {look : Look} (d : Looked rules line look) (s e : ℕ) (f : look.from ≡ s) (g : look.to ≡ e)
+module _ {rules line : List ℕ} (a : rule_fault rules ≡ none) {look : Look} (d : Looked rules line look) (s e : ℕ) (f : look.span.from ≡ s) (g : look.span.to ≡ e)
     {w : World} (l : Lined w line) where
-  pub look_prefix : (b : Bool) → b ≡ (ltb 0 look.count || look.more) → is_prefix (rules_of rules) w.text s e ≡ b
+  pub look_prefix : (b : Bool) → b ≡ (ltb 0 look.found.count || look.found.more) → is_prefix (rules_of rules) w.text s e ≡ b
   look_prefix b q =
-      ap (λ (k : ℕ). is_prefix (rules_of rules) w.text k e) (sym f) ∙ ap (is_prefix (rules_of rules) w.text look.from) (sym g)
+      ap (λ (k : ℕ). is_prefix (rules_of rules) w.text k e) (sym f) ∙ ap (is_prefix (rules_of rules) w.text look.span.from) (sym g)
       ∙ looked_prefix a d l ∙ sym q
 
-  pub look_last : look.more ≡ false → is_prefix (rules_of rules) w.text s (e + 1) ≡ false
+  pub look_last : look.found.more ≡ false → is_prefix (rules_of rules) w.text s (e + 1) ≡ false
   look_last q =
       ap (λ (k : ℕ). is_prefix (rules_of rules) w.text k (e + 1)) (sym f)
-      ∙ ap (λ (k : ℕ). is_prefix (rules_of rules) w.text look.from (k + 1)) (sym g) ∙ looked_last a d l q
+      ∙ ap (λ (k : ℕ). is_prefix (rules_of rules) w.text look.span.from (k + 1)) (sym g) ∙ looked_last a d l q
 
   -- the edge of the span, by its ends
-  pub look_span : (D : Tables) (t : Text) (st : State) → put_span D t look.from look.to st ≡ put_span D t s e st
-  look_span D t st = ap (λ (k : ℕ). put_span D t k look.to st) f ∙ ap (λ (k : ℕ). put_span D t s k st) g
+  pub look_span : (D : Tables) (t : Text) (st : State) → put_span D t look.span.from look.span.to st ≡ put_span D t s e st
+  look_span D t st = ap (λ (k : ℕ). put_span D t k look.span.to st) f ∙ ap (λ (k : ℕ). put_span D t s k st) g
 
 -- What is left of a start from its end `e` on: `left` ends at most, of the whole that was begun with `P₀`
 module _ (rules vowels code : List ℕ) {ready line S₀ R₀ P₀ : List ℕ} {w : World} {filled : Filled} (o : Over w ready line S₀ R₀ P₀ filled)
@@ -74,9 +74,9 @@ module _ (rules vowels code : List ℕ) {ready line S₀ R₀ P₀ : List ℕ} {
   rising_over l h = going_over g most l (rise-over D w.text s e left now h)
 
   -- the edge of the span to `e`, which was looked up, is added
-  module _ (a : rule_fault rules ≡ none) {look : Look} (d : Looked rules line look) (f : look.from ≡ s) (k : look.to ≡ e)
-      (known : true ≡ (ltb 0 look.count || look.more)) (j : ℕ) (n : left ≡ j + 1) {S' R' P' : List ℕ} (r : Answer)
-      (b : Reached (kinds w) (size w) S R S' R' P' (t.used + most_bytes) (put_span D w.text look.from look.to now) r) where
+  module _ (a : rule_fault rules ≡ none) {look : Look} (d : Looked rules line look) (f : look.span.from ≡ s) (k : look.span.to ≡ e)
+      (known : true ≡ (ltb 0 look.found.count || look.found.more)) (j : ℕ) (n : left ≡ j + 1) {S' R' P' : List ℕ} (r : Answer)
+      (b : Reached (kinds w) (size w) S R S' R' P' (t.used + most_bytes) (put_span D w.text look.span.from look.span.to now) r) where
     turned : rises D w.text s e left now ≡ rises D w.text s (e + 1) j (put_span D w.text s e now)
     unfolding tables_of
     turned = rise_turn D w.text s e left j now n (look_prefix a d s e f k o.lent.text true known)

@@ -31,7 +31,7 @@ module _ (rules ready vowels line slots room places : List ℕ) where
 
   -- for one span, which was looked up
   abbrev pub SpanReady : Filled → Look → Type 0
-  SpanReady filled look = Searchable (Looked rules line look) filled look.from filled.used
+  SpanReady filled look = Searchable (Looked rules line look) filled look.span.from filled.used
 
   -- for all spans of one start
   abbrev pub StartReady : Filled → ℕ → Type 0

@@ -1,9 +1,8 @@
 -- The edge of a span can be written: it lies within the text, and its text is ASCII.
-use Rattle.std.specs.Prelude.{ℕ, ◌≤◌, ◌<◌, true, false, List, ◌≡◌, length, take}
-use Rattle.std.proofs.Math.Option.{none}
-use Rattle.std.proofs.Common.{sym, ◌∙◌, subst, arith}
+use Rattle.std.specs.Prelude.{ℕ, ◌≤◌, ◌<◌, List, ◌≡◌, length, take}
+use Rattle.std.proofs.Math.Option.{some}
+use Rattle.std.proofs.Common.{sym, subst, arith}
 use Rattle.std.proofs.Math.Path.{ap}
-use Rattle.base.specs.Pick.{pick}
 use Rattle.base.specs.Alls.{Opt}
 use Rattle.definition.specs.Limits.{most_characters, most_bytes}
 use Rattle.definition.specs.Texts.{Text}
@@ -21,16 +20,11 @@ use Rattle.utf8.specs.Encodings.{low_bytes, low-decoded}
 use Rattle.edge.specs.Slots.{four_bytes, edge_by}
 use Rattle.edge.specs.Adding.{Writable}
 use Rattle.spans.specs.declared.Spanned.{Spanned}
-use Rattle.spans.specs.Spans.{edge_with, found}
-use Rattle.spans.specs.Ways.{found-there}
+use Rattle.spans.specs.Spans.{edge_with}
 
 module _ (b : List ℕ) (r : Spanned) where
   abbrev w : List ℕ
   w = take r.len b
-
-  pub found_not : r.there ≡ false → found b r ≡ none
-  unfolding found pick
-  found_not h = rw h
 
   module _ (n used : ℕ) (few : n ≤ most_characters) (room : used < four_bytes) (h : Sound n (edge_with r.numbers w) × Short most_bytes w) where
     pub spelt_writable : Writable used r.numbers w
@@ -46,11 +40,11 @@ module _ (b : List ℕ) (r : Spanned) where
 
   -- it is what the definition finds
   pub span_spelt : (D : Tables) → Bounded D → (t : Text) (v : View) (s e : ℕ) (m : Mem) {m₁ : Mem} → s < e → e ≤ length t
-      → Did (span_edge D t v s e m) (found b r) m₁ → r.there ≡ true → Sound (length t) (edge_with r.numbers w) × Short most_bytes w
-  span_spelt D ok t v s e m l k d h =
-      let y = subst (Opt (Spelt D ok t)) (sym d.value ∙ found-there b r h) ((bounds.span_spelt D ok t v s e l k).gives m) in (y.0, y.1)
+      → Did (span_edge D t v s e m) (some (edge_with r.numbers w)) m₁ → Sound (length t) (edge_with r.numbers w) × Short most_bytes w
+  span_spelt D ok t v s e m l k d =
+      let y = subst (Opt (Spelt D ok t)) (sym d.value) ((bounds.span_spelt D ok t v s e l k).gives m) in (y.0, y.1)
 
   -- and starts near
   pub span_near : (D : Tables) (t : Text) (v : View) (s e : ℕ) (m : Mem) {m₁ : Mem}
-      → Did (span_edge D t v s e m) (found b r) m₁ → r.there ≡ true → Near s (edge_with r.numbers w)
-  span_near D t v s e m d h = subst (Opt (Near s)) (sym d.value ∙ found-there b r h) ((nearness.span_near D t v s e).gives m)
+      → Did (span_edge D t v s e m) (some (edge_with r.numbers w)) m₁ → Near s (edge_with r.numbers w)
+  span_near D t v s e m d = subst (Opt (Near s)) (sym d.value) ((nearness.span_near D t v s e).gives m)

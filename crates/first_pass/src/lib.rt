@@ -18,9 +18,9 @@ const MOST_SOURCE: usize = rule_row::MOST_SOURCE as usize;
 
 // Is the span a source, or the start of one?
 fn is_known(look: Look) -> bool
-    ensures { result ≡ (ltb 0 look.count || look.more) }
+    ensures { result ≡ (ltb 0 look.found.count || look.found.more) }
 {
-    0 < look.count || look.more
+    0 < look.found.count || look.found.more
 }
 
 // The edge of one span, where it has one, is added.
@@ -39,19 +39,20 @@ fn add_span(
     requires { SpanReady rules.now ready.now vowels.now line.now slots.old room.old places.old filled look }
     ensures { Reaches rules.now ready.now vowels.now code.now line.now
         (slots.old, room.old, places.old) (slots.new, room.new, places.new)
-        filled (filled.used + most_bytes) (λ D t. put_span D t look.from look.to) result }
+        filled (filled.used + most_bytes) (λ D t. put_span D t look.span.from look.span.to) result }
 {
     let mut bytes = [0u8; rom::MOST_BYTES];
-    let found = spans::put_span_edge(rules, ready, vowels, code, line, places, look, &mut bytes);
-    if found.there {
-        let text = &bytes[..found.len];
-        let end = noting::ending_of(text, passes::ends_in_letter(ready, text));
-        return noting::add_edge(slots, room, places, filled, found.numbers, text, end);
+    match spans::put_span_edge(rules, ready, vowels, code, line, places, look, &mut bytes) {
+        Some(found) => {
+            let text = &bytes[..found.len];
+            let end = noting::ending_of(text, passes::ends_in_letter(ready, text));
+            noting::add_edge(slots, room, places, filled, found.numbers, text, end)
+        }
+        None => Ok(Taken {
+            count: filled.count,
+            used: filled.used,
+        }),
     }
-    Ok(Taken {
-        count: filled.count,
-        used: filled.used,
-    })
 }
 
 // `add_romanization` from one start: its ends rise while the span is a prefix of a source.
@@ -94,7 +95,7 @@ fn add_from(
             rules, ready, vowels, code, line, slots, room, places, so_far, look,
         )?;
         // no longer source: the next span is none's start
-        if !look.more {
+        if !look.found.more {
             return Ok(taken);
         }
     }

@@ -17,7 +17,7 @@ ghost use Rattle.second_pass.specs.Starts.{Standing};
 ghost use Rattle.second_pass.specs.SecondPass.{FallReady, FallsBack, SecondPass};
 
 use edge::{Filled, Full, Numbers, Taken};
-use rule_choice::Chosen;
+use rule_choice::Target;
 use words::Span;
 
 // A position of the text, and where its bytes begin.
@@ -28,10 +28,10 @@ pub struct Here {
 }
 
 // The annotation of what simple search answered, and of the character itself.
-fn search_note(chosen: Chosen) -> u8
+fn search_note(chosen: Option<Target>) -> u8
     ensures { (rules : List ℕ) → result ≡ search_note (chosen_means rules chosen) }
 {
-    if rule_choice::is_told(chosen) {
+    if chosen.is_some() {
         return edge::SINGLE;
     }
     edge::ORIG
@@ -51,12 +51,12 @@ fn single(p: usize, note: u8) -> Numbers
 }
 
 // Does the text of a fallback end in a letter: a target, which is ASCII, or else the character itself?
-fn falls_on_letter(ready: &[u32], line: &[u32], chosen: Chosen, text: &[u8], p: usize) -> bool
+fn falls_on_letter(ready: &[u32], line: &[u32], chosen: Option<Target>, text: &[u8], p: usize) -> bool
     requires { p < size_in line.now }
     ensures { (rules : List ℕ) → result ≡ pick (has (chosen_means rules chosen)) (last_letter ready.now text.now)
         (alpha_kind (kind_in line.now (p + 1))) }
 {
-    if rule_choice::is_told(chosen) {
+    if chosen.is_some() {
         return passes::ends_in_letter(ready, text);
     }
     words::is_alpha_at(line, p + 1)
