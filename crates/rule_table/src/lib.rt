@@ -13,7 +13,7 @@ ghost use Rattle.base.specs.Lists.{starts};
 use std::cmp::Ordering;
 
 // How many rows lie from one entry of the index to the next, and how many entries it has.
-const INDEX_STEP: usize = 16;
+pub const INDEX_STEP: usize = 16;
 
 pub const INDEX_ENTRIES: usize = 512;
 
@@ -51,8 +51,9 @@ pub fn compare_source(rules: &[u8], row: usize, w: &[u32]) -> Ordering
     }
 }
 
-// The offset of row `n`, put into the index if it is one of those and there is room.
-fn put_offset(index: &mut [u32], n: usize, at: usize)
+// The offset of row `n`, put into the index if it is one of those and there is room: of this table, and of the decomposition
+// table.
+pub fn put_offset(index: &mut [u32], n: usize, at: usize)
     requires { at < 0x100000000 }
     ensures { index.new ≡ entered n at index.old }
 {

@@ -10,7 +10,7 @@ ghost use Rattle.definition.specs.DecompositionRows.{decomposition_right, decomp
 ghost use Rattle.definition.specs.DecompositionRows.{decomposition_fault};
 ghost use Rattle.definition.specs.DecompositionLaws.{RightRows};
 ghost use Rattle.table_blocks.specs.Faults.{table_means};
-ghost use Rattle.rule_table.specs.Index.{index_entries, entered, indexed};
+ghost use Rattle.rule_table.specs.Index.{index_entries, indexed};
 ghost use Rattle.table_decompositions.specs.Index.{row_offsets, index_of, Ready};
 ghost use Rattle.table_decompositions.specs.Search.{Walks, low_of, entry_low};
 ghost use Rattle.table_decompositions.specs.Told.{Found, EdgeFound};
@@ -19,9 +19,7 @@ ghost use Rattle.table_decompositions.specs.Gaps.{in_gap, GapAt};
 
 use table_blocks::TableFault;
 
-// How many rows lie from one entry of the index to the next, and how many entries it has.
-const INDEX_STEP: usize = 16;
-
+// How many entries the index has.
 pub const INDEX_ENTRIES: usize = 512;
 
 // Characters that one stands for, at most.
@@ -128,21 +126,8 @@ fn right_end(table: &[u8], own: Result<(), TableFault>) -> usize
     }
 }
 
-// The offset of row `n`, put into the index if it is one of those and there is room.
-fn put_offset(index: &mut [u32], n: usize, at: usize)
-    requires { at < 0x100000000 }
-    ensures { index.new ≡ entered n at index.old }
-{
-    let k = n / INDEX_STEP;
-    if index.len() <= k {
-        return;
-    }
-    if n % INDEX_STEP == 0 {
-        index[k] = at as u32;
-    }
-}
-
-// The offset of every 16th row, put into the index as far as that reaches.
+// The offset of every 16th row, put into the index as far as that reaches. A rule table's index is filled alike, over rows of
+// another size: one function for the two would take a size function, and its laws, for two loops of a few lines.
 pub fn fill_index(table: &[u8], index: &mut [u32])
     requires { length index.old ≤ index_entries }
     ensures { index.new ≡ indexed 0 (row_offsets table.now) index.old }
@@ -150,10 +135,10 @@ pub fn fill_index(table: &[u8], index: &mut [u32])
     let mut at = table_blocks::HEAD_BYTES;
     let mut n = 0;
     while at < table.len() {
-        if index.len() <= n / INDEX_STEP {
+        if index.len() <= n / rule_table::INDEX_STEP {
             return;
         }
-        put_offset(index, n, at);
+        rule_table::put_offset(index, n, at);
         at += size(table, at);
         n += 1;
     }
