@@ -1,8 +1,8 @@
 -- A row's characters put one after another, and their bytes.
-use Rattle.std.specs.Prelude.{true, not, ◌&&◌, ◌≡◌, refl, ℕ, zero, suc, ◌+◌, ◌*◌, ◌/◌, ◌≤◌, ◌<◌, set, drop, ltb}
+use Rattle.std.specs.Prelude.{true, not, ◌&&◌, ◌≡◌, refl, ℕ, ◌+◌, ◌*◌, ◌/◌, ◌≤◌, ◌<◌, set, drop, ltb}
 use mathlib.Core.List.{List, [], ◌∷◌, ◌++◌}
 use Rattle.std.proofs.Math.Path.{sym, ap}
-use Rattle.std.proofs.Common.{◌∙◌, arith, add-one, drop-cons}
+use Rattle.std.proofs.Common.{◌∙◌, arith, add-one, drop-cons, drop_of_length-le}
 use Rattle.std.proofs.Math.ListN.{length, get_or, take, length-append, length-set}
 use Rattle.std.proofs.Math.Dec.{leb}
 use borrow.Rule.Slice.PartMut.{put_mid, mid_of}
@@ -21,13 +21,6 @@ use Rattle.utf8.specs.Lines.{spaced, spaced-is, lent_length}
 use Rattle.table_classes.specs.Told.{kinds_of}
 use Rattle.table_decompositions.specs.Told.{Placed}
 use Rattle.lent_bytes.specs.Puts.{put_at, put-none, put_next, put-there, put-length}
-
--- behind the end nothing is left
-drop_all : (i : ℕ) (w : Text) → length w ≤ i → drop i w ≡ []
-drop_all zero [] h = refl
-drop_all (suc i) [] h = refl
-drop_all zero (c ∷ w) h = absurd (omega arith)
-drop_all (suc i) (c ∷ w) h = drop_all i w (omega arith)
 
 -- what is left from a place on begins with what stands there
 left : (w : Text) (i : ℕ) → i < length w → drop i w ≡ get_or w i 0 ∷ drop (i + 1) w
@@ -51,7 +44,7 @@ module _ {w before now : List ℕ} {i : ℕ} (h : Putting w before now i) where
 
   pub putting_over : length w ≤ i → now ≡ puts 0 w before
   unfolding puts
-  putting_over l = sym (ap (λ (v : List ℕ). puts i v now) (drop_all i w l)) ∙ h.rest
+  putting_over l = sym (ap (λ (v : List ℕ). puts i v now) (drop_of_length-le w {i = i} l)) ∙ h.rest
 
 -- Bytes likewise
 pub record Writing (w : Text) (before now : List ℕ) (at i : ℕ) : Type 0 where
@@ -82,7 +75,7 @@ module _ {w : Text} {before now : List ℕ} {at i : ℕ} (h : Writing w before n
   pub writing_over : length w ≤ i → (take at now ≡ encoded w) × (at ≡ length (encoded w))
   unfolding encoded
   writing_over l =
-      let none : encoded (drop i w) ≡ [] = ap encoded (drop_all i w l) in
+      let none : encoded (drop i w) ≡ [] = ap encoded (drop_of_length-le w {i = i} l) in
       let size : at ≡ length (encoded w) = omega (arith, h.size, ap length none) in
       let is : now ≡ put_at 0 (encoded w) before = sym (put-none at now) ∙ ap (λ (b : List ℕ). put_at at b now) (sym none) ∙ h.rest in
       (ap (λ (k : ℕ). take k now) size ∙ ap (take (length (encoded w))) is ∙ put-there 0 (encoded w) before (omega arith), size)

@@ -161,7 +161,7 @@ pub fn any_vowel(s: &[u8], n: usize) -> bool
 }
 
 // Is a part b, c, d, z or ng, which stay bare before the Khmer yo?
-#[tactic(auto, using(lent_bytes::specs::Library::same_texts, crate::specs::Back::slice_lent), unfolding(definition::specs::Vowels::before_yo, base::specs::Lists::any))]
+#[tactic(auto, using(lent_bytes::specs::Library::same_texts, std::proofs::lemmas::Slice::between_is), unfolding(definition::specs::Vowels::before_yo, base::specs::Lists::any))]
 pub fn stays_before_yo(s: &[u8], from: usize, to: usize) -> bool
     requires { (from ≤ to) × (to ≤ length s.now) }
     ensures { result ≡ before_yo (slice from to s.now) }

@@ -2,5 +2,5 @@
 pub mod Backwards
 pub mod Writes
 pub mod Capitals
--- The loops over lent bytes, a turn at a time
+-- What is left of lent bytes, and their last
 pub mod Walks

@@ -9,7 +9,7 @@ use Rattle.base.specs.Lists.{all, same}
 use Rattle.definition.specs.Texts.{consonants}
 use Rattle.definition.specs.Vowels.{consonant_only}
 use Rattle.rom.specs.Sets.{member, consonants_set, in_consonants}
-use Rattle.ends.specs.Back.{slice_lent}
+use Rattle.std.proofs.lemmas.Slice.{between_is}
 use Rattle.base.specs.ListLaws.{same_some}
 use Rattle.ends.proofs.consonant_only.Goals as goal
 
@@ -27,6 +27,6 @@ returns-then-from-to c =
     let a = s.args in
     let l = slice a.from a.to a.s.now in
     c.all_in.ensures
-    ∙ ap (all (member consonants_set)) (slice_lent a.from a.to a.s.now)
+    ∙ ap (all (member consonants_set)) (between_is a.s.now a.from a.to)
     ∙ ap (λ (q : ℕ → Bool). all q l) (fun_ext in_consonants)
     ∙ ap (λ (b : Bool). not b && all consonants l) (sym (same_some l (omega (arith, length-slice a.from a.to a.s.now s.requires.1))))
