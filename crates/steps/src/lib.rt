@@ -31,7 +31,8 @@ pub struct Work {
     pub note: u8,
 }
 
-// The same while the steps are at it: the romanization is the first `len` bytes of one array, which is lent to each step.
+// The same while the steps are at it: the romanization is the first `len` bytes of one array, which is lent to each step. A
+// length stands beside the array, and no slice of it, because a step makes the text longer or shorter where it stands.
 #[derive(Clone, Copy)]
 pub struct Growing {
     pub len: usize,
