@@ -145,15 +145,13 @@ pub fn fill_index(table: &[u8], index: &mut [u32])
 }
 
 // Is there an entry, and is its row's character not above `c`? Past the table's last row the index is 0.
+#[tactic(auto, unfolding(crate::specs::Search::entry_low))]
 fn is_entry_low(table: &[u8], index: &[u32], k: usize, c: u32) -> bool
     requires { k < length index.now }
     ensures { result ≡ entry_low table.now c (get_or index.now k 0) }
 {
     let at = index[k];
-    if at == 0 {
-        return false;
-    }
-    base::three(table, at as usize, 0) <= c
+    at != 0 && base::three(table, at as usize, 0) <= c
 }
 
 // Where the walk to a character's row begins: at the last row of the index that is not above it, or at the first of all.
@@ -163,7 +161,7 @@ fn walk_start(table: &[u8], index: &[u32], c: u32) -> usize
 {
     let mut low = 0;
     let mut high = index.len();
-    // a search by hand: an entry of 0, past the last row, is above all, so the entries do not rise
+    // `partition_point` of the library tells its answer only of a slice that its test parts in two, which this proof need not show
     while low < high {
         let mid = low + (high - low) / 2;
         if is_entry_low(table, index, mid, c) {
