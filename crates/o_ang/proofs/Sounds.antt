@@ -24,7 +24,7 @@ some_beside [] h = absurd (h refl)
 some_beside (c ∷ w) h = all_as o_ang_side_set o_ang_side in_o_ang_side (c ∷ w)
 
 -- of what may be absent
-pub beside-text : (o : Option Text) → beside (or_nothing o) ≡ is beside o
+pub beside_text : (o : Option Text) → beside (or_nothing o) ≡ is beside o
 unfolding beside same
-beside-text none = refl
-beside-text (some w) = refl
+beside_text none = refl
+beside_text (some w) = refl

@@ -19,6 +19,7 @@ use words::Choices;
 use words::characters::{O_ANG, SPACE};
 
 // Is a text one or more of the consonants beside which O ang is spoken?
+#[tactic(auto, using(crate::proofs::Sounds::none_beside, crate::proofs::Sounds::some_beside))]
 fn is_beside(text: &[u8]) -> bool
     ensures { result ≡ beside text.now }
 {
@@ -26,6 +27,7 @@ fn is_beside(text: &[u8]) -> bool
 }
 
 // Is what the first rule of a character says one or more of the consonants beside which O ang is spoken?
+#[tactic(auto, using(crate::proofs::Sounds::beside_text))]
 fn starts_beside(rules: &[u8], ready: &[u32], c: u32) -> bool
     requires { Prepared rules.now ready.now }
     ensures { result ≡ is beside (first_rule (rules_of rules.now) (c ∷ [])) }

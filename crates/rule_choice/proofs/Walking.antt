@@ -1,7 +1,7 @@
--- The best so far with one more rule, and the walk over the rows of a span.
-use mathlib.Core.Bool.{Bool, true, false}
+-- The walk over the rows of a span, which keeps the best so far.
+use mathlib.Core.Bool.{Bool}
 use mathlib.Core.List.{List}
-use mathlib.Core.Option.{Option, none, some}
+use mathlib.Core.Option.{Option, none}
 use mathlib.Core.Path.{◌≡◌, sym, ap, ◌∙◌}
 use Prim.Native.Nat.{ℕ, ◌+◌, ◌-◌, ◌<◌}
 use native.Mathlib.Omega.{arith}
@@ -16,26 +16,7 @@ use Rattle.definition.specs.Rules.{spans, valid, choose}
 use Rattle.words.specs.Did.{Did, outcome}
 use Rattle.words.specs.Spans.{spanning-past}
 use Rattle.words.specs.Found.{Rows, rules_in, none_in, one_in}
-use Rattle.rule_choice.specs.Fold.{beats, improve, consider, choose_from, choose-is}
-
--- the best so far, with one more rule
-module _ (v : Bool) (o : Option Rule) (r : Rule) where
-  pub not_valid : v ≡ false → o ≡ pick v (improve o r) o
-  unfolding pick
-  not_valid e = sym (ap (λ (b : Bool). pick b (improve o r) o) e)
-
-  module _ (e : v ≡ true) where
-    is-valid : improve o r ≡ pick v (improve o r) o
-    unfolding pick
-    is-valid = sym (ap (λ (b : Bool). pick b (improve o r) o) e)
-
-    pub the_first : o ≡ none → some r ≡ pick v (improve o r) o
-    unfolding improve
-    the_first f = sym (ap (λ (x : Option Rule). improve x r) f) ∙ is-valid
-
-    pub against : (x : Rule) → o ≡ some x → (b : Bool) → beats r x ≡ b → some (pick b r x) ≡ pick v (improve o r) o
-    unfolding improve
-    against x f b g = ap (λ (y : Bool). some (pick y r x)) (sym g) ∙ sym (ap (λ (x : Option Rule). improve x r) f) ∙ is-valid
+use Rattle.rule_choice.specs.Fold.{improve, consider, choose_from, choose-is}
 
 -- the walk
 module _ (L : Lexicon) (t : Text) (v : View) (s e : ℕ) (m : Mem) where

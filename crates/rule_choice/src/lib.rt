@@ -115,6 +115,7 @@ fn end_holds(rules: &[u8], row: usize, end: bool) -> bool
 
 // Do code and word flags hold, where the code does or not (`spoken`), and the span is at a start of word or not? Its end
 // is asked only where a flag asks it: it is the expensive question, and remembers nothing.
+#[tactic(auto, using(crate::proofs::Flags::holds_is, crate::proofs::Flags::unasked), unfolding(crate::specs::Chosen::asks_end, crate::specs::Chosen::end_holds))]
 fn holds_at(
     rules: &[u8],
     ready: &[u32],
@@ -136,6 +137,7 @@ fn holds_at(
 }
 
 // Do code and word flags hold, where it is known whether the span is at a start and at an end of word?
+#[tactic(auto, using(crate::proofs::Flags::holds_is))]
 pub fn holds(rules: &[u8], code: &[u8], row: usize, start: bool, end: bool) -> bool
     requires { Row (drop row rules.now) }
     ensures { result ≡ holds_at code.now start end (rule_of (drop row rules.now)) }
@@ -177,6 +179,7 @@ fn is_higher(rules: &[u8], row: usize, other: usize) -> bool
 }
 
 // Does the rule in a row beat the one in another? A rule with a target beats one without; else the higher count does.
+#[tactic(auto, using(crate::proofs::Targets::has_target), unfolding(crate::specs::Fold::beats, base::specs::Pick::pick))]
 fn beats(rules: &[u8], row: usize, other: usize) -> bool
     ensures { result ≡ beats (rule_of (drop row rules.now)) (rule_of (drop other rules.now)) }
 {
@@ -188,6 +191,7 @@ fn beats(rules: &[u8], row: usize, other: usize) -> bool
 }
 
 // The best so far, where the rule in a row is valid and may beat it.
+#[tactic(auto, unfolding(crate::specs::Fold::improve, base::specs::Pick::pick))]
 fn improve(rules: &[u8], row: usize, valid: bool, best: Option<usize>) -> Option<usize>
     requires { Row (drop row rules.now) × Rowed rules.now best }
     ensures { (choice_means rules.now result
@@ -230,6 +234,7 @@ pub fn top_rule(
 }
 
 // The target of the rule that was chosen, where it has one.
+#[tactic(auto, unfolding(definition::specs::RuleRows::rule_of, definition::specs::RuleRows::text_where, base::specs::Pick::pick))]
 pub fn target_of(rules: &[u8], choice: Option<usize>) -> Option<Target>
     requires { Rowed rules.now choice }
     ensures { (chosen_means rules.now result ≡ bind (choice_means rules.now choice) (λ x. x.target)) × Said rules.now result }

@@ -21,7 +21,7 @@ first-opens [] = refl
 first-opens (c ∷ w) = refl
 
 -- of what may be absent
-pub opens-text : (o : Option Text) → is (λ c. vowels (lower c)) (head (or_nothing o)) ≡ opens o
+pub opens_text : (o : Option Text) → is (λ c. vowels (lower c)) (head (or_nothing o)) ≡ opens o
 unfolding opens head
-opens-text none = refl
-opens-text (some w) = refl
+opens_text none = refl
+opens_text (some w) = refl

@@ -24,6 +24,7 @@ fn starts_with_vowel(text: &[u8]) -> bool
 }
 
 // Does the text that a search answered start with a vowel?
+#[tactic(auto, using(crate::specs::Sounds::opens_text))]
 fn opens(rules: &[u8], rom: Option<Target>) -> bool
     requires { Said rules.now rom }
     ensures { result ≡ opens (chosen_means rules.now rom) }
@@ -32,6 +33,7 @@ fn opens(rules: &[u8], rom: Option<Target>) -> bool
 }
 
 // One tone mark is skipped.
+#[tactic(auto, unfolding(base::specs::Pick::pick))]
 fn past_tone(line: &[u32], p: usize) -> usize
     requires { p + 1 ≤ length line.now / 2 }
     ensures { result ≡ pick (flagged (kind_in line.now (p + 1) / 1024) 5) (p + 1) p }

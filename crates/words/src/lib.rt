@@ -35,7 +35,8 @@ pub struct Look {
     pub found: Found,
 }
 
-// The choices of a call (`Choices` of the definition), each 0 or 1.
+// The choices of a call (`Choices` of the definition), each 0 or 1: numbers as the definition's are, since nothing says
+// that no other number was made ready.
 #[derive(Clone, Copy)]
 pub struct Choices {
     pub capitals: u32,
