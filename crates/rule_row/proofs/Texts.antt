@@ -1,6 +1,6 @@
 -- Where the texts of a row lie, and that each is a part of the table.
-use mathlib.Core.Bool.{Bool, true, false}
-use mathlib.Core.Path.{◌≡◌, refl, sym, ap, ◌∙◌}
+use mathlib.Core.Bool.{true}
+use mathlib.Core.Path.{◌≡◌, sym, ap, ◌∙◌}
 use mathlib.Core.List.{List}
 use Prim.Native.Nat.{ℕ, ◌+◌, ◌-◌, ◌≤◌}
 use native.Mathlib.Omega.{arith}
@@ -15,18 +15,6 @@ module _ (s : List ℕ) (o n : ℕ) (e : n ≡ get_or s o 0) where
   pub size_is : 1 + n ≡ text_size (drop o s)
   unfolding text_size
   size_is = ap (λ i. 1 + i) (e ∙ byte_there s o)
-
-  pub past_one : o + (1 + n) ≡ past_text true o s
-  unfolding past_text
-  past_one = ap (λ i. o + i) size_is
-
--- past a text that may not be there
-pub past-none : (s : List ℕ) (o : ℕ) → o ≡ past_text false o s
-unfolding past_text
-past-none s o = refl
-
-pub past_is : (s : List ℕ) (O o : ℕ) (B b : Bool) → O ≡ o → B ≡ b → past_text B O s ≡ past_text b o s
-past_is s O o B b e f = rw (e, f)
 
 module _ (R : List ℕ) (row o n : ℕ) (e : n ≡ get_or (drop row R) o 0) where
   pub reach : o + text_size (drop o (drop row R)) ≤ length (drop row R) → row + o + 1 + n ≤ length R

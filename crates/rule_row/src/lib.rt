@@ -31,6 +31,7 @@ pub const TARGET_BIT: u32 = 5;
 pub const END_TARGET_BIT: u32 = 6;
 
 // A row's size: two bytes count what follows them.
+#[tactic(auto, unfolding(definition::specs::RuleRows::rule_size))]
 pub fn size(rules: &[u8], row: usize) -> usize
     ensures { (result ≡ rule_size (drop row rules.now)) × (result < size_limit) }
 {
@@ -38,6 +39,7 @@ pub fn size(rules: &[u8], row: usize) -> usize
 }
 
 // Bit `k` of a row's flags.
+#[tactic(auto, unfolding(definition::specs::RuleRows::rule_flag))]
 pub fn flag(rules: &[u8], row: usize, k: u32) -> bool
     requires { k < 8 }
     ensures { result ≡ rule_flag (drop row rules.now) k }
@@ -46,6 +48,7 @@ pub fn flag(rules: &[u8], row: usize, k: u32) -> bool
 }
 
 // A row's restriction count.
+#[tactic(auto, unfolding(definition::specs::RuleRows::rule_count))]
 pub fn count(rules: &[u8], row: usize) -> u32
     ensures { result ≡ rule_count (drop row rules.now) }
 {
@@ -53,6 +56,7 @@ pub fn count(rules: &[u8], row: usize) -> u32
 }
 
 // How many characters a row's source has.
+#[tactic(auto, unfolding(definition::specs::RuleRows::source_count))]
 pub fn source_len(rules: &[u8], row: usize) -> usize
     ensures { (result ≡ source_count (drop row rules.now)) × (result < 256) }
 {
@@ -60,12 +64,14 @@ pub fn source_len(rules: &[u8], row: usize) -> usize
 }
 
 // Where a row's codes begin, and how many there are.
+#[tactic(auto, unfolding(definition::specs::RuleRows::codes_at))]
 pub fn codes_at(rules: &[u8], row: usize) -> usize
     ensures { (result ≡ codes_at (drop row rules.now)) × (result < 772) }
 {
     6 + 3 * source_len(rules, row)
 }
 
+#[tactic(auto, unfolding(definition::specs::RuleRows::codes_count_from))]
 pub fn codes_count(rules: &[u8], row: usize) -> usize
     ensures { (result ≡ codes_count (drop row rules.now)) × (result < 256) }
 {
@@ -148,6 +154,7 @@ pub fn sources_rise(rules: &[u8], a: usize, b: usize) -> bool
 }
 
 // Where a row's targets and its alternatives begin, each behind what stands before it.
+#[tactic(auto, unfolding(definition::specs::RuleRows::target_from))]
 pub fn target_at(rules: &[u8], row: usize) -> usize
     ensures { (result ≡ target_at (drop row rules.now)) × (result < 2000) }
 {
@@ -155,6 +162,7 @@ pub fn target_at(rules: &[u8], row: usize) -> usize
 }
 
 // Past the text at `o`, where the row has one.
+#[tactic(auto, unfolding(definition::specs::RuleRows::past_text, definition::specs::RuleRows::text_size))]
 fn past_text(rules: &[u8], row: usize, o: usize, there: bool) -> usize
     requires { o < offset_limit }
     ensures { (result ≡ past_text there o (drop row rules.now)) × (result ≤ o + 256) }
@@ -166,6 +174,7 @@ fn past_text(rules: &[u8], row: usize, o: usize, there: bool) -> usize
     }
 }
 
+#[tactic(auto, unfolding(definition::specs::RuleRows::end_target_from))]
 pub fn end_target_at(rules: &[u8], row: usize) -> usize
     ensures { (result ≡ end_target_at (drop row rules.now)) × (result < 2256) }
 {
@@ -177,6 +186,7 @@ pub fn end_target_at(rules: &[u8], row: usize) -> usize
     )
 }
 
+#[tactic(auto, unfolding(definition::specs::RuleRows::others_from))]
 pub fn others_at(rules: &[u8], row: usize) -> usize
     ensures { (result ≡ others_at (drop row rules.now)) × (result < 2512) }
 {

@@ -83,6 +83,7 @@ fn between(low: u32, c: u32, high: u32) -> bool
 }
 
 // A byte of a target text.
+#[tactic(auto, unfolding(definition::specs::RuleRows::printable))]
 pub fn printable(c: u32) -> bool
     ensures { result ≡ printable c }
 {
@@ -90,6 +91,7 @@ pub fn printable(c: u32) -> bool
 }
 
 // A field of `n` bytes at `o` of a row of size `z`: the next begins behind it, where it fits and is right.
+#[tactic(auto, unfolding(definition::specs::RuleFields::field, base::specs::Pick::pick))]
 fn field(z: usize, o: usize, n: usize, fault: Fault, ok: bool) -> Result<usize, RuleFault>
     requires { (o < size_limit) × (n < 4) }
     ensures { read_means result ≡ field z o n (fault_number fault) ok }
@@ -177,6 +179,7 @@ fn read_fields(
 }
 
 // A count or a length byte, from `least` to `most`.
+#[tactic(auto, unfolding(definition::specs::RuleFields::field, base::specs::Pick::pick))]
 fn read_count(
     rules: &[u8],
     row: usize,
@@ -200,6 +203,7 @@ fn read_count(
 }
 
 // A count and as many fields of a kind. A fault is the answer as it stands.
+#[tactic(auto, unfolding(definition::specs::RuleFields::and_then))]
 fn read_counted(
     rules: &[u8],
     row: usize,
@@ -218,6 +222,7 @@ fn read_counted(
 }
 
 // A text: its length byte, then its bytes.
+#[tactic(auto, using(crate::proofs::Chains::up_to), unfolding(definition::specs::RuleFields::read_text))]
 fn read_text(rules: &[u8], row: usize, z: usize, o: usize) -> Result<usize, RuleFault>
     requires { (z < size_limit) × (o ≤ z) × (z ≤ length (drop row rules.now)) }
     ensures { read_means result ≡ read_text z (drop row rules.now) o }
@@ -238,6 +243,7 @@ fn read_texts(rules: &[u8], row: usize, z: usize, n: usize, o: usize) -> Result<
 }
 
 // A text, where the row has one.
+#[tactic(auto, unfolding(definition::specs::RuleFields::read_text_if, base::specs::Pick::pick))]
 fn read_text_if(
     rules: &[u8],
     row: usize,
@@ -256,6 +262,7 @@ fn read_text_if(
 }
 
 // The parts of a row: flags and restriction count.
+#[tactic(auto, unfolding(definition::specs::RuleFields::read_flags, definition::specs::RuleFields::and_then))]
 fn read_flags(rules: &[u8], row: usize, z: usize) -> Result<usize, RuleFault>
     requires { (2 ≤ z) × (z < size_limit) }
     ensures { read_means result ≡ read_flags z (drop row rules.now) }
@@ -266,6 +273,7 @@ fn read_flags(rules: &[u8], row: usize, z: usize) -> Result<usize, RuleFault>
 }
 
 // The source.
+#[tactic(auto, unfolding(definition::specs::RuleFields::read_source))]
 fn read_source(rules: &[u8], row: usize, z: usize, o: usize) -> Result<usize, RuleFault>
     requires { (z < size_limit) × (o ≤ z) × (z ≤ length (drop row rules.now)) }
     ensures { read_means result ≡ read_source z (drop row rules.now) o }
@@ -274,6 +282,7 @@ fn read_source(rules: &[u8], row: usize, z: usize, o: usize) -> Result<usize, Ru
 }
 
 // The language codes.
+#[tactic(auto, using(crate::proofs::Chains::up_to), unfolding(definition::specs::RuleFields::read_codes))]
 fn read_codes(rules: &[u8], row: usize, z: usize, o: usize) -> Result<usize, RuleFault>
     requires { (z < size_limit) × (o ≤ z) × (z ≤ length (drop row rules.now)) }
     ensures { read_means result ≡ read_codes z (drop row rules.now) o }
@@ -282,6 +291,7 @@ fn read_codes(rules: &[u8], row: usize, z: usize, o: usize) -> Result<usize, Rul
 }
 
 // The alternatives.
+#[tactic(auto, using(crate::proofs::Chains::up_to), unfolding(definition::specs::RuleFields::read_others, definition::specs::RuleFields::and_then))]
 fn read_others(rules: &[u8], row: usize, z: usize, o: usize) -> Result<usize, RuleFault>
     requires { (z < size_limit) × (o ≤ z) × (z ≤ length (drop row rules.now)) }
     ensures { read_means result ≡ read_others z (drop row rules.now) o }
@@ -292,6 +302,7 @@ fn read_others(rules: &[u8], row: usize, z: usize, o: usize) -> Result<usize, Ru
 }
 
 // Nothing is left over.
+#[tactic(auto, unfolding(definition::specs::RuleFields::read_end, base::specs::Pick::pick))]
 fn read_end(z: usize, o: usize) -> Result<usize, RuleFault>
     ensures { read_means result ≡ read_end z o }
 {
@@ -305,6 +316,7 @@ fn read_end(z: usize, o: usize) -> Result<usize, RuleFault>
 }
 
 // The texts of a row from its target on, and its end.
+#[tactic(auto, unfolding(definition::specs::RuleFields::read_tail, definition::specs::RuleFields::and_then))]
 fn read_tail(rules: &[u8], row: usize, z: usize, o: usize) -> Result<usize, RuleFault>
     requires { (z < size_limit) × (o ≤ z) × (z ≤ length (drop row rules.now)) }
     ensures { read_means result ≡ read_tail z (drop row rules.now) o }
@@ -318,6 +330,7 @@ fn read_tail(rules: &[u8], row: usize, z: usize, o: usize) -> Result<usize, Rule
 }
 
 // All parts of a row that lies in the table.
+#[tactic(auto, unfolding(definition::specs::RuleFields::read_parts, definition::specs::RuleFields::and_then))]
 fn read_parts(rules: &[u8], row: usize, z: usize) -> Result<usize, RuleFault>
     requires { (2 ≤ z) × (z < size_limit) × (z ≤ length (drop row rules.now)) }
     ensures { read_means result ≡ read_parts z (drop row rules.now) }
