@@ -34,7 +34,8 @@ pub const PLUS_BEFORE: u32 = 0x23040;
 // Bytes of an edge's text, at most.
 pub const MOST_BYTES: usize = 606;
 
-// The text is the first `len` bytes; zeros stand behind it.
+// The text is the first `len` bytes; zeros stand behind it. An array with its length beside it, given by value at the two
+// steps that the project's documents name, and lent as array and length inside them (docs/DECISIONS.md, ticket 4).
 #[derive(Clone, Copy)]
 pub struct Rom {
     pub bytes: [u8; MOST_BYTES],

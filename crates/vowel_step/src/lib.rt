@@ -220,7 +220,8 @@ fn shape_of(
     Shape { forms, which }
 }
 
-// What the vowel step made in its place: so many bytes, and whether it only put vowels behind them.
+// What the vowel step made in its place: so many bytes, and whether it only put vowels behind them. It stays beside `Voiced`,
+// which gives the romanization by value at the public door (docs/DECISIONS.md, ticket 4).
 #[derive(Drop)]
 struct Grown {
     len: usize,
