@@ -24,10 +24,7 @@ pub struct Ending {
 pub fn entry(places: &[u32], p: usize) -> u32
     ensures { result ≡ get_or places.now p 0 }
 {
-    if p < places.len() {
-        return places[p];
-    }
-    0
+    places.get(p).copied().unwrap_or(0)
 }
 
 // What is remembered of a start of word: 0 not asked, 1 a start, 2 none.
@@ -81,19 +78,9 @@ pub fn step_back(x: u32, at: usize) -> usize
 {
     let back = (x / 128) as usize;
     if back == 0 {
-        return less(at, 1);
+        return at.saturating_sub(1);
     }
-    less(at, back)
-}
-
-// A difference, 0 where it would be negative.
-fn less(a: usize, b: usize) -> usize
-    ensures { result ≡ a - b }
-{
-    if a < b {
-        return 0;
-    }
-    a - b
+    at.saturating_sub(back)
 }
 
 // A start of word, or none, is remembered.

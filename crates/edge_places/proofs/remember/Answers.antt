@@ -2,9 +2,7 @@
 use mathlib.Core.Bool.{Bool}
 use mathlib.Core.Path.{sym, ap, ◌∙◌}
 use Prim.Native.Nat.{ℕ}
-use native.Mathlib.Omega.{arith}
 use lib.ListN.{set}
-use lib.Seq.{set_out}
 use Rattle.base.specs.Pick.{pick}
 use Rattle.edge_places.specs.Entry.{with_start}
 use Rattle.edge_places.specs.Shows.{remembered}
