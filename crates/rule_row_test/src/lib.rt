@@ -13,6 +13,7 @@ ghost use Rattle.rule_row_test.specs.Texts.{Walked};
 ghost use Rattle.rule_row_test.specs.Fields.{Told, Tail, Coded, Asked};
 
 // A row's size, for those who know that both of its bytes are there.
+#[tactic(auto, unfolding(definition::specs::RuleRows::rule_size))]
 pub fn size_there(s: &[u8], row: usize) -> usize
     requires { row + 1 < length s.now }
     ensures { (result ≡ rule_size (drop row s.now)) × (result < size_limit) }
@@ -46,7 +47,8 @@ fn all_scalar(s: &[u8], from: usize, to: usize) -> bool
     true
 }
 
-// Whether all language codes from a place to another are three letters each.
+// Whether all language codes from a place to another are three letters each. It asks other bytes than `all_scalar`: one function
+// for both would take the test as a closure, and its contract would have to say what that computes.
 fn all_codes(s: &[u8], from: usize, to: usize) -> bool
     requires { (from + 3 * ((to - from) / 3) ≡ to) × (to ≤ length s.now) }
     ensures { result ≡ all (all small) (counted code_of 3 ((to - from) / 3) (drop from s.now)) }

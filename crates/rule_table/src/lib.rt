@@ -66,7 +66,8 @@ pub fn put_offset(index: &mut [u32], n: usize, at: usize)
     }
 }
 
-// The offset of every 16th row, put into the index as far as that reaches.
+// The offset of every 16th row, put into the index as far as that reaches. table_decompositions has the same over rows of its
+// own: one function for both would take a row's size as a closure, and each contract would have to say what that computes.
 pub fn fill_index(rules: &[u8], index: &mut [u32])
     requires { length index.old ≤ index_entries }
     ensures { index.new ≡ indexed 0 (row_offsets rules.now) index.old }

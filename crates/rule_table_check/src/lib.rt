@@ -114,6 +114,7 @@ fn past_rows(rules: &[u8], start: Walk) -> Walk
 }
 
 // The first field of the row at `at` that is faulty, if any: what is wrong, and the field's offset in the table.
+#[tactic(auto, unfolding(definition::specs::RuleFaults::field_fault))]
 fn fields_fault(rules: &[u8], at: usize) -> Result<(), RuleFault>
     requires { at ≤ length rules.now }
     ensures { rules_means result ≡ field_fault at (read_row (drop at rules.now)) }
@@ -151,6 +152,7 @@ fn told(rules: &[u8], at: usize, left: u32, rises: bool) -> Result<(), RuleFault
 }
 
 // Whether the row at `at` rises over the one before it, where there is one: the first row does.
+#[tactic(auto, unfolding(definition::specs::RuleRows::rises))]
 fn rises_over(rules: &[u8], at: usize, before: Option<usize>) -> bool
     ensures { result ≡ rises (mark_behind rules.now before) (rule_source (drop at rules.now)) }
 {
@@ -161,6 +163,7 @@ fn rises_over(rules: &[u8], at: usize, before: Option<usize>) -> bool
 }
 
 // What is wrong with the row at `at`, if anything, where as many rows may come and `before` is the one before it.
+#[tactic(auto, unfolding(definition::specs::RuleFaults::row_fault))]
 pub fn row_fault(rules: &[u8], at: usize, left: u32, before: Option<usize>) -> Result<(), RuleFault>
     requires { at ≤ length rules.now }
     ensures { rules_means result ≡ row_fault (walk_at at left (mark_behind rules.now before) rules.now) }
@@ -170,6 +173,7 @@ pub fn row_fault(rules: &[u8], at: usize, left: u32, before: Option<usize>) -> R
 
 // What a walk finds where it stops: the table's end, or a row that is not right. Its order is not asked again: where nothing
 // else is wrong with the row, the order is.
+#[tactic(auto, unfolding(crate::specs::Told::stopped_at, base::specs::Pick::pick))]
 fn stopped(rules: &[u8], at: usize, left: u32) -> Result<(), RuleFault>
     ensures { rules_means result ≡ stopped_at rules.now at left }
 {
