@@ -7,7 +7,7 @@ use native.Mathlib.Omega.{arith}
 use lib.ListN.{length, replicate}
 use Rattle.definition.specs.Limits.{slot_bytes, most_bytes}
 use Rattle.definition.specs.Texts.{Text}
-use Rattle.definition.specs.Tables.{Decomposition, Tables}
+use Rattle.definition.specs.Tables.{Class, Decomposition, Tables}
 use Rattle.definition.specs.Edges.{Mem, State}
 use Rattle.definition.specs.Building.{each, fall}
 use Rattle.definition.specs.Decomposing.{start, lattice}
@@ -18,8 +18,10 @@ use Rattle.definition.specs.Capacity.{misfit, overflow}
 use Rattle.definition.specs.DecompositionRows.{decompositions_of}
 use Rattle.definition.specs.Call.{Called, tables_of, decompositions, accepted}
 use Rattle.edge.specs.declared.Filled.{Filled}
-use Rattle.edge.specs.declared.Added.{Added as Answer}
-use Rattle.edge.specs.declared.Added.TheVariants.{Fits}
+use Rattle.std.specs.Prelude.{Result, Ok, Err, IsErrAnd}
+use Rattle.edge.specs.Answers.{Answer, fits}
+use Rattle.edge.specs.declared.Full.{Full}
+use Rattle.edge.specs.declared.Full.TheVariants.{Slots, Room}
 use Rattle.standing.specs.Stands.{Stands}
 use Rattle.words.specs.Given.{World, kinds, size, size_in, ready_in, line_in, Prepared, Told, Lined, line-size}
 use Rattle.passes.specs.Reached.{addressable, Over, with_edges, told_with, over_now, Reached, reached_as}
@@ -29,10 +31,18 @@ use Rattle.second_pass.specs.SecondPass.{FallReady, SecondPass}
 use Rattle.decomp.specs.Steps.{reached-fits}
 use Rattle.decomp_pass.specs.Both.{lattice-is, second_asks, grew-fits}
 use Rattle.output.specs.Whole.{Whole}
-use Rattle.jettyfig.specs.Verdicts.{given, returned}
+use Rattle.jettyfig.specs.declared.Refusal.{Refusal as Refused}
+use Rattle.jettyfig.specs.declared.Romanized.{Romanized}
+use Rattle.jettyfig.specs.Verdicts.{refusal_means, of_full, refusing, given, answered, returned, answered_err}
 use Rattle.jettyfig.specs.Steps.{FirstDone, FinishReady, Writes}
-use Rattle.jettyfig.specs.Calls.{refusing, as_refused, built-refused}
+use Rattle.jettyfig.specs.Calls.{as_refused, built-refused}
 use Rattle.jettyfig.proofs.Wholes.{built-lent, built-whole, built-written}
+
+-- an edge that did not fit is what the scan of the edges refuses
+stopped : {ks : List Class} {n : ℕ} {S R S' R' P' : List ℕ} {most : ℕ} {st : State} (f : Full) → Reached ks n S R S' R' P' most st (Err f)
+    → misfit (length S / slot_bytes) (length R) st.0 ≡ some (refusal_means (of_full f))
+stopped (Slots p) r = r.came
+stopped (Room p) r = r.came
 
 -- In a world that the first pass is done in, with what was made ready and the line cut apart
 module _ {rules prepared vowels bytes code S R P : List ℕ} {filled : Filled} {w : World} (f : FirstDone rules prepared vowels bytes code S R P filled w)
@@ -76,7 +86,7 @@ module _ {rules prepared vowels bytes code S R P : List ℕ} {filled : Filled} {
 
     module _ (mode : ℕ) (text : List ℕ) where
       -- a fallback that did not fit is what the call refuses
-      pub second_stops : (out : List ℕ) → out ≡ replicate (length out) 0 → (n p : ℕ)
+      second_stops : (out : List ℕ) → out ≡ replicate (length out) 0 → (n p : ℕ)
           → misfit (length S / slot_bytes) (length R) (lattice D ds t).0 ≡ some (refuse n p)
           → returned (refusing n p) out ≡ accepted (given mode w.choices rules w.classes vowels bytes code text (length S) (length R) (length out)) D t
       unfolding decompositions
@@ -84,10 +94,17 @@ module _ {rules prepared vowels bytes code S R P : List ℕ} {filled : Filled} {
           let i = given mode w.choices rules w.classes vowels bytes code text (length S) (length R) (length out) in
           as_refused i out z n p ∙ built-refused i D t (refuse n p) (asks_room ∙ e)
 
+      pub second_refused : (out : List ℕ) → out ≡ replicate (length out) 0 → {S' R' P' : List ℕ} (f : Full)
+          → SecondPass rules ready code line filled (S, R, P) (S', R', P') (Err f) → (v : Result Romanized Refused) → IsErrAnd v (λ e. e ≡ of_full f)
+          → returned (answered v) out ≡ accepted (given mode w.choices rules w.classes vowels bytes code text (length S) (length R) (length out)) D t
+      second_refused out z f second v h =
+          let r = refusal_means (of_full f) in
+          ap (λ a. returned a out) (answered_err v (of_full f) h) ∙ second_stops out z r.number r.place (stopped f (both_passes (Err f) second))
+
       -- Where all fitted, the lattice is whole, and what is shown of it is what the call returns
-      module _ {S' R' P' : List ℕ} {c u : ℕ} (second : SecondPass rules ready code line filled (S, R, P) (S', R', P') (Fits c u)) where
-        abbrev reached : Reached (kinds w) (size w) S R S' R' P' (filled.used + size_in line * most_bytes) (lattice D ds t) (Fits c u)
-        reached = both_passes (Fits c u) second
+      module _ {S' R' P' : List ℕ} {c u : ℕ} (second : SecondPass rules ready code line filled (S, R, P) (S', R', P') (fits c u)) where
+        abbrev reached : Reached (kinds w) (size w) S R S' R' P' (filled.used + size_in line * most_bytes) (lattice D ds t) (fits c u)
+        reached = both_passes (fits c u) second
 
         held : overflow D ds t (length S / slot_bytes) (length R) (lattice D ds t).0 ≡ none
         held = asks_room ∙ reached-fits reached
@@ -119,5 +136,5 @@ module _ {rules prepared code text S R P starts : List ℕ} {filled : Filled} (h
         subst (λ (l : List ℕ). Own text (chars_in l)) (sym y) h.own,
         subst (λ (l : List ℕ). filled.used + size_in l * most_bytes < addressable) (sym y) (omega (arith, used, l.few, line-size l)),
         record { world = with_edges h.world _; over = first-lent h.first x y },
-        subst (λ (l : List ℕ). Began S R (size_in l) starts (Fits filled.count filled.used)) (sym y) h.began,
+        subst (λ (l : List ℕ). Began S R (size_in l) starts (fits filled.count filled.used)) (sym y) h.began,
       )

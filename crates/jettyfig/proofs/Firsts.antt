@@ -7,7 +7,7 @@ use native.Mathlib.Omega.{arith}
 use lib.ListN.{length, replicate}
 use Rattle.definition.specs.Limits.{slot_bytes, most_edges, most_bytes}
 use Rattle.definition.specs.Texts.{Text}
-use Rattle.definition.specs.Tables.{Decomposition, Tables}
+use Rattle.definition.specs.Tables.{Class, Decomposition, Tables}
 use Rattle.definition.specs.Edges.{Mem, State}
 use Rattle.definition.specs.Building.{each}
 use Rattle.definition.specs.Decomposing.{start}
@@ -19,15 +19,19 @@ use Rattle.table_vowels.specs.Told.{FineVowels}
 use Rattle.edge_places.specs.Shows.{memory, memory-none}
 use Rattle.words.specs.Given.{World, kinds, size, size_in, ready_in, line_in, Told, Lined, line-size}
 use Rattle.passes.specs.Reached.{with_edges}
-use Rattle.decomp.specs.declared.Grew.{Grew}
-use Rattle.decomp.specs.declared.Grew.TheVariants.{Fits, NoSlot, NoRoom, TooLong}
+use Rattle.std.specs.Prelude.{Result, Ok, Err, IsErrAnd}
+use Rattle.decomp.specs.declared.Unfit.{Unfit}
+use Rattle.decomp.specs.declared.Unfit.TheVariants.{Slots, Room, TooLong}
+use Rattle.decomp.specs.Answers.{Grew}
 use Rattle.decomp.specs.Grown.{GrewTo}
 use Rattle.decomp.specs.First.{first-over}
 use Rattle.decomp_pass.specs.Passes.{Passes}
 use Rattle.decomp_pass.specs.Both.{lattice-is, first-refused}
-use Rattle.jettyfig.specs.Verdicts.{given, returned}
+use Rattle.jettyfig.specs.declared.Refusal.{Refusal as Refused}
+use Rattle.jettyfig.specs.declared.Romanized.{Romanized}
+use Rattle.jettyfig.specs.Verdicts.{refusal_means, of_unfit, refusing, given, answered, returned, answered_err}
 use Rattle.jettyfig.specs.Steps.{FirstPassed}
-use Rattle.jettyfig.specs.Calls.{refusing, as_refused, built-refused}
+use Rattle.jettyfig.specs.Calls.{as_refused, built-refused}
 
 module _ (rules vowels bytes code S R : List ℕ) (w : World) where
   abbrev D : Tables
@@ -43,7 +47,7 @@ module _ (rules vowels bytes code S R : List ℕ) (w : World) where
   first = each (start D ds t) (length t) 0 ([], replicate (length t) 0)
 
   -- an edge that did not fit is what the call refuses
-  pub first_stops : (mode : ℕ) (text out : List ℕ) → out ≡ replicate (length out) 0 → (n p : ℕ)
+  first_stops : (mode : ℕ) (text out : List ℕ) → out ≡ replicate (length out) 0 → (n p : ℕ)
       → overflow D ds t (length S / slot_bytes) (length R) first.0 ≡ some (refuse n p)
       → returned (refusing n p) out ≡ accepted (given mode w.choices rules w.classes vowels bytes code text (length S) (length R) (length out)) D t
   unfolding decompositions
@@ -52,6 +56,19 @@ module _ (rules vowels bytes code S R : List ℕ) (w : World) where
       as_refused i out z n p ∙ built-refused i D t (refuse n p)
       (ap (λ (s : State). overflow D ds t (length S / slot_bytes) (length R) s.0) (sym (lattice-is D ds t))
       ∙ first-refused D ds t (length S / slot_bytes) (length R) first (refuse n p) e)
+
+  stopped : {ks : List Class} {n : ℕ} {S' R' P' : List ℕ} {most : ℕ} (f : Unfit) → GrewTo D ds t ks n S R S' R' P' most first (Err f)
+      → overflow D ds t (length S / slot_bytes) (length R) first.0 ≡ some (refusal_means (of_unfit f))
+  stopped (Slots p) g = g.came
+  stopped (Room p) g = g.came
+  stopped (TooLong p) g = g.came
+
+  pub first_refused : (mode : ℕ) (text out : List ℕ) → out ≡ replicate (length out) 0 → {ks : List Class} {n : ℕ} {S' R' P' : List ℕ} {most : ℕ}
+      (f : Unfit) → GrewTo D ds t ks n S R S' R' P' most first (Err f) → (v : Result Romanized Refused) → IsErrAnd v (λ e. e ≡ of_unfit f)
+      → returned (answered v) out ≡ accepted (given mode w.choices rules w.classes vowels bytes code text (length S) (length R) (length out)) D t
+  first_refused mode text out z f g v h =
+      let r = refusal_means (of_unfit f) in
+      ap (λ a. returned a out) (answered_err v (of_unfit f) h) ∙ first_stops mode text out z r.number r.place (stopped f g)
 
   module _ (prepared : List ℕ) (told : Told w (ready_in prepared)) (lined : Lined w (line_in prepared)) where
     abbrev most : ℕ
@@ -84,10 +101,10 @@ module _ (rules vowels bytes code S R : List ℕ) (w : World) where
       }
         where
           go : (r : Grew) → GrewTo D ds t (kinds w) (size w) S R S' R' P' most first r → GrewTo D ds t (kinds w) (size w) S' R' S' R' P' most first r
-          go (Fits c u) h = record { slots = refl; room = refl; came = (h.came.0, h.came.1, same-lost ∙ h.came.2) }
-          go (NoSlot p) h = record { slots = refl; room = refl; came = same-lost ∙ h.came }
-          go (NoRoom p) h = record { slots = refl; room = refl; came = same-lost ∙ h.came }
-          go (TooLong p) h = record { slots = refl; room = refl; came = same-lost ∙ h.came }
+          go (Ok k) h = record { slots = refl; room = refl; came = (h.came.0, h.came.1, same-lost ∙ h.came.2) }
+          go (Err (Slots p)) h = record { slots = refl; room = refl; came = same-lost ∙ h.came }
+          go (Err (Room p)) h = record { slots = refl; room = refl; came = same-lost ∙ h.came }
+          go (Err (TooLong p)) h = record { slots = refl; room = refl; came = same-lost ∙ h.came }
 
       -- and what is then concluded is what the call returns
       pub first_concluded : (mode out : ℕ) (text : List ℕ) (r : Called)

@@ -5,3 +5,5 @@ pub mod Finished
 pub mod Firsts
 pub mod Setting
 pub mod Told
+pub mod Tests
+pub mod Responded

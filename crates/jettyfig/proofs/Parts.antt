@@ -17,8 +17,8 @@ use Rattle.table_classes.specs.Packing.{alphas_length, kinds-length}
 use Rattle.rule_memo.specs.Kept.{all_places, Kept}
 use Rattle.table_decompositions.specs.Index.{index_of}
 use Rattle.words.specs.Given.{letters_in, choices_in, mode_in, form_entries, forms_from, forms_in, index_from, all_ready, ready_in, line_in}
-use Rattle.jettyfig.specs.declared.Asked.{Asked}
-use Rattle.jettyfig.specs.Verdicts.{choose, chosen}
+use Rattle.definition.specs.Tables.{Choices}
+use Rattle.jettyfig.specs.Verdicts.{choose}
 use Rattle.jettyfig.specs.Calls.{drop-zeros}
 use Rattle.jettyfig.specs.Steps.{with_kinds, LineRoom, asking, Fresh, Blank, MadeReady}
 
@@ -194,7 +194,7 @@ module _ (prepared : List ℕ) (long : all_ready ≤ length prepared) where
   ready_long = omega (arith, length-take-le all_ready prepared long)
 
 -- What is asked stands in what is prepared, and nothing behind it has changed
-module _ (a : Asked) (old : List ℕ) (long : all_ready ≤ length old) where
+module _ (mode : ℕ) (a : Choices) (old : List ℕ) (long : all_ready ≤ length old) where
   abbrev first : List ℕ
   first = set old ascii_characters a.capitals
 
@@ -213,20 +213,20 @@ module _ (a : Asked) (old : List ℕ) (long : all_ready ≤ length old) where
   third-long : length third ≡ length old
   third-long = length-set second (ascii_characters + 2) a.readings ∙ second-long
 
-  pub asking-long : length (asking a old) ≡ length old
-  asking-long = length-set third (ascii_characters + 3) a.mode ∙ third-long
+  pub asking-long : length (asking mode a old) ≡ length old
+  asking-long = length-set third (ascii_characters + 3) mode ∙ third-long
 
-  pub asking-mode : mode_in (asking a old) ≡ a.mode
-  asking-mode = get_or-set_same third (ascii_characters + 3) a.mode 0 (omega (arith, third-long))
+  pub asking-mode : mode_in (asking mode a old) ≡ mode
+  asking-mode = get_or-set_same third (ascii_characters + 3) mode 0 (omega (arith, third-long))
 
   -- a number stays as it is when one behind it is written
-  past-mode : (i : ℕ) → i < ascii_characters + 3 → get_or (asking a old) i 0 ≡ get_or third i 0
-  past-mode i h = get_or-set_other third (ascii_characters + 3) i a.mode 0 (λ e. omega arith)
+  past-mode : (i : ℕ) → i < ascii_characters + 3 → get_or (asking mode a old) i 0 ≡ get_or third i 0
+  past-mode i h = get_or-set_other third (ascii_characters + 3) i mode 0 (λ e. omega arith)
 
   past-readings : (i : ℕ) → i < ascii_characters + 2 → get_or third i 0 ≡ get_or second i 0
   past-readings i h = get_or-set_other second (ascii_characters + 2) i a.readings 0 (λ e. omega arith)
 
-  pub asking-choices : choices_in (asking a old) ≡ chosen a
+  pub asking-choices : choices_in (asking mode a old) ≡ a
   asking-choices = chosen_by
       (past-mode ascii_characters (omega arith) ∙ past-readings ascii_characters (omega arith)
       ∙ get_or-set_other first (ascii_characters + 1) ascii_characters a.o_ang 0 (λ e. omega arith)
@@ -235,30 +235,30 @@ module _ (a : Asked) (old : List ℕ) (long : all_ready ≤ length old) where
       ∙ get_or-set_same first (ascii_characters + 1) a.o_ang 0 (omega (arith, first-long)))
       (past-mode (ascii_characters + 2) (omega arith) ∙ get_or-set_same second (ascii_characters + 2) a.readings 0 (omega (arith, second-long)))
 
-  asking-behind : drop forms_from (asking a old) ≡ drop forms_from old
+  asking-behind : drop forms_from (asking mode a old) ≡ drop forms_from old
   asking-behind =
-      drop-set-lt forms_from third (ascii_characters + 3) a.mode (omega arith)
+      drop-set-lt forms_from third (ascii_characters + 3) mode (omega arith)
       ∙ drop-set-lt forms_from second (ascii_characters + 2) a.readings (omega arith)
       ∙ drop-set-lt forms_from first (ascii_characters + 1) a.o_ang (omega arith)
       ∙ drop-set-lt forms_from old ascii_characters a.capitals (omega arith)
 
 -- over zeros with room for a text, the tables can be checked
-module _ (a : Asked) (text : List ℕ) (room : ℕ) (h : LineRoom text room) where
+module _ (mode : ℕ) (a : Choices) (text : List ℕ) (size : ℕ) (l : all_ready ≤ size) (h : LineRoom text (size - all_ready)) where
   abbrev zeros : List ℕ
-  zeros = replicate (all_ready + room) 0
+  zeros = replicate size 0
 
-  pub zeros-long : length zeros ≡ all_ready + room
-  zeros-long = length-replicate {A = ℕ} (all_ready + room) 0
+  zeros-long : length zeros ≡ size
+  zeros-long = length-replicate {A = ℕ} size 0
 
-  pub enough : all_ready ≤ length zeros
+  enough : all_ready ≤ length zeros
   enough = omega (arith, zeros-long)
 
-  pub fresh : Fresh text (asking a zeros)
+  pub fresh : Fresh text (asking mode a zeros)
   fresh = record {
-    long = omega (arith, asking-long a zeros enough, enough);
-    zeros = ap (take (form_entries + all_places)) (asking-behind a zeros enough ∙ drop-zeros forms_from (all_ready + room))
-        ∙ take-replicate 0 (form_entries + all_places) (all_ready + room - forms_from) (omega arith);
-    room = subst (LineRoom text) {x = room} {y = length (asking a zeros) - all_ready} (omega (arith, asking-long a zeros enough, zeros-long)) h;
+    long = omega (arith, asking-long mode a zeros enough, enough);
+    zeros = ap (take (form_entries + all_places)) (asking-behind mode a zeros enough ∙ drop-zeros forms_from size)
+        ∙ take-replicate 0 (form_entries + all_places) (size - forms_from) (omega arith);
+    room = subst (LineRoom text) {x = size - all_ready} {y = length (asking mode a zeros) - all_ready} (omega (arith, asking-long mode a zeros enough, zeros-long)) h;
   }
 
 -- The index of the decomposition table is lent from what is prepared, and has come back

@@ -35,7 +35,7 @@ module _ (mode : ℕ) (a : Choices) (rules classes vowels decompositions code te
   asked_so out z slots room (Err q) r h e =
       let j = of mode a slots room (length out) in
       let k = first-refused j (refusal_means q) (asked-refused mode a rules classes vowels decompositions code (refusal_means q)
-          (sym e ∙ ap (λ (x : Refused). some (refusal_means x)) (sym h))) in
+      (sym e ∙ ap (λ (x : Refused). some (refusal_means x)) (sym h))) in
       as_refused j out z (refusal_means q).number (refusal_means q).place ∙ call-refused j (refusal_means q) k
 
   -- and then tables, code and text

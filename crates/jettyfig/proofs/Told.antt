@@ -14,15 +14,6 @@ use Rattle.utf8.specs.Beginnings.{beginnings, few_beginnings}
 use Rattle.jettyfig.specs.declared.Asked.{Asked}
 use Rattle.jettyfig.specs.Verdicts.{by_asked, chosen, above}
 
-pub mode_refused : (a : Asked) → most_mode < a.mode → by_asked a.mode (chosen a) ≡ some (refuse refused_mode 0)
-unfolding by_asked
-mode_refused a h = sym (above most_mode a.mode refused_mode (
-    when (ltb most_choice a.capitals) refused_capitals 0
-    ∷ when (ltb most_choice a.o_ang) refused_o_ang 0
-    ∷ when (ltb most_choice a.readings) refused_readings 0
-    ∷ []
-    ) h)
-
 pub few_decoded : (s : List ℕ) (n : ℕ) → beginnings s ≤ n → length (decoded s) ≤ n
 few_decoded s n h = omega (arith, few_beginnings s)
 

@@ -21,7 +21,7 @@ use Rattle.definition.specs.Capacity.{overflow}
 use Rattle.definition.specs.DecompositionRows.{decompositions_of}
 use Rattle.definition.specs.Call.{Called, tables_of, decompositions, written, accepted}
 use Rattle.table_vowels.specs.Told.{FineVowels}
-use Rattle.edge.specs.declared.Added.TheVariants.{Fits}
+use Rattle.edge.specs.Answers.{fits}
 use Rattle.edge_places.specs.Shows.{memory}
 use Rattle.standing.specs.Stands.{Stands}
 use Rattle.words.specs.Given.{World, kinds, size, size_in, Prepared, Told, Lined, Lent, line-size}
@@ -47,7 +47,7 @@ module _ (back rest : List ℕ) (k : ℕ) (e : length back ≡ k) where
 
 module _ (rules vowels code : List ℕ) (ds : List Decomposition) {ready line S R S' R' P' : List ℕ} {w : World} (told : Told w ready) (lined : Lined w line)
     (table : Prepared rules ready) (fine : FineVowels vowels) {c u most : ℕ}
-    (b : Reached (kinds w) (size w) S R S' R' P' most (lattice (tables_of w.choices rules w.classes vowels code) ds w.text) (Fits c u))
+    (b : Reached (kinds w) (size w) S R S' R' P' most (lattice (tables_of w.choices rules w.classes vowels code) ds w.text) (fits c u))
     (held : overflow (tables_of w.choices rules w.classes vowels code) ds w.text (length S / slot_bytes) (length R)
     (lattice (tables_of w.choices rules w.classes vowels code) ds w.text).0 ≡ none) where
   abbrev D : Tables

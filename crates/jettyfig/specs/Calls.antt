@@ -22,20 +22,13 @@ use Rattle.definition.specs.Capacity.{overflow}
 use Rattle.definition.specs.Call.{Inputs, Called, tables, decompositions, characters, before_text, refusal, refused, uncounted, written, within_room, with_lattice, accepted, unless_refused, called}
 use Rattle.definition.specs.Call.{text_refusal}
 use Rattle.lent_bytes.specs.Puts.{put_at}
-use Rattle.edge.specs.declared.Added.TheVariants.{Fits}
+use Rattle.edge.specs.Answers.{fits}
 use Rattle.edge.specs.Slots.{edges_of}
 use Rattle.edge.specs.Stored.{edge_count}
 use Rattle.passes.specs.Reached.{Reached}
 use Rattle.output.specs.Shows.{Shows}
 use Rattle.jettyfig.specs.declared.Answer.{Answer}
-use Rattle.jettyfig.specs.Verdicts.{returned}
-
--- answers: done, and a refusal
-abbrev pub done : ℕ → ℕ → Answer
-done length edges = record { number = 0; place = 0; length = length; edges = edges }
-
-abbrev pub refusing : ℕ → ℕ → Answer
-refusing n p = record { number = n; place = p; length = 0; edges = 0 }
+use Rattle.jettyfig.specs.Verdicts.{done, refusing, returned}
 
 -- a refusal over an output of zeros
 module _ (i : Inputs) (out : List ℕ) (h : out ≡ replicate i.out 0) where
@@ -90,7 +83,7 @@ module _ (i : Inputs) (D : Tables) (t : Text) where
   built-all e = sym (ap (within_room i D t (lattice D ds t)) e)
 
 -- a lattice that is in the slots has found room
-module _ {ks : List Class} {n : ℕ} {S R S' R' P' : List ℕ} {most : ℕ} {st : State} {c u : ℕ} (b : Reached ks n S R S' R' P' most st (Fits c u)) where
+module _ {ks : List Class} {n : ℕ} {S R S' R' P' : List ℕ} {most : ℕ} {st : State} {c u : ℕ} (b : Reached ks n S R S' R' P' most st (fits c u)) where
   pub reached-count : c ≡ length st.0
   reached-count = sym (edge_count S' R' c) ∙ ap length b.came.0.edges
 

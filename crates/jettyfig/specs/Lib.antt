@@ -1,3 +1,4 @@
 pub mod Verdicts
+pub mod Memory
 pub mod Steps
 pub mod Calls

@@ -1,5 +1,5 @@
 -- What the steps of a call are lent, and what they promise: of every world that the line and what was made ready stand for.
-use Rattle.std.specs.Prelude.{ℕ, ◌+◌, ◌-◌, ◌*◌, ◌≤◌, List, [], ◌++◌, ◌≡◌, length, take, drop, set, replicate}
+use Rattle.std.specs.Prelude.{ℕ, Result, Ok, Err, ◌+◌, ◌-◌, ◌*◌, ◌≤◌, List, [], ◌++◌, ◌≡◌, length, take, drop, set, replicate}
 use Rattle.std.proofs.Math.Option.{none, some}
 use Rattle.definition.specs.Limits.{most_mode, most_characters, most_edges, most_bytes, ascii_characters}
 use Rattle.definition.specs.Texts.{Text}
@@ -18,22 +18,20 @@ use Rattle.table_vowels.specs.Told.{FineVowels}
 use Rattle.table_decompositions.specs.Index.{index_of}
 use Rattle.rule_memo.specs.Kept.{all_places, Kept}
 use Rattle.edge.specs.declared.Filled.{Filled}
-use Rattle.edge.specs.declared.Added.TheVariants as Added
+use Rattle.edge.specs.Answers.{fits}
 use Rattle.edge.specs.Slots.{edges_of}
 use Rattle.edge_places.specs.Shows.{memory}
 use Rattle.words.specs.Given.{World, kinds, size, size_in, letters_in, choices_in, mode_in, form_entries, forms_from, forms_in, index_from, all_ready, ready_in, line_in}
 use Rattle.words.specs.Given.{Prepared, Told, Lined, Lent}
 use Rattle.passes.specs.Starts.{Began}
 use Rattle.second_pass.specs.Fallback.{Own, chars_in}
-use Rattle.decomp.specs.declared.Grew.{Grew}
-use Rattle.decomp.specs.declared.Grew.TheVariants.{Fits}
+use Rattle.decomp.specs.Answers.{Grew}
 use Rattle.decomp.specs.Rows.{Formable}
 use Rattle.decomp.specs.Grown.{GrewTo}
-use Rattle.decomp_pass.specs.Passes.{Begins}
 use Rattle.output.specs.declared.Built.{Built}
-use Rattle.jettyfig.specs.declared.Asked.{Asked}
-use Rattle.jettyfig.specs.declared.SetUp.{SetUp}
-use Rattle.jettyfig.specs.Verdicts.{given}
+use Rattle.jettyfig.specs.declared.Refusal.{Refusal as Refused}
+use Rattle.jettyfig.specs.Verdicts.{refusal_means, given}
+use Rattle.definition.specs.Tables.{Choices}
 
 -- characters of a short text, at most
 abbrev pub few_characters : ℕ
@@ -48,10 +46,10 @@ abbrev pub LineRoom : List ℕ → ℕ → Type 0
 LineRoom text n = (2 * line_spaces ≤ n) × (length (decoded text) ≤ most_characters → 2 * (length (decoded text) + line_spaces) ≤ n)
 
 -- What was asked, written into what is prepared
-abbrev pub asking : Asked → List ℕ → List ℕ
-asking a l =
+abbrev pub asking : ℕ → Choices → List ℕ → List ℕ
+asking mode a l =
     set (set (set (set l ascii_characters a.capitals) (ascii_characters + 1) a.o_ang) (ascii_characters + 2) a.readings) (ascii_characters + 3)
-    a.mode
+    mode
 
 -- What is prepared before the tables are checked: nothing behind what was asked, and room for the text
 pub record Fresh (text prepared : List ℕ) : Type 0 where
@@ -99,10 +97,10 @@ abbrev pub used_for : ℕ → ℕ
 used_for n = all_ready + 2 * (n + line_spaces)
 
 -- a text that is not refused is set up; or there is its refusal
-abbrev pub TextSet : List ℕ → List ℕ → List ℕ → List ℕ → List ℕ → SetUp → Type 0
-TextSet rules classes text before after (SetUp.Ready n) =
+abbrev pub TextSet : List ℕ → List ℕ → List ℕ → List ℕ → List ℕ → Result ℕ Refused → Type 0
+TextSet rules classes text before after (Ok n) =
     (text_refusal text ≡ none) × (n ≤ most_characters) × (used_for n ≤ length after) × TextMade rules classes text before (take (used_for n) after)
-TextSet rules classes text before after (SetUp.Refused k p) = text_refusal text ≡ some (refuse k p)
+TextSet rules classes text before after (Err r) = text_refusal text ≡ some (refusal_means r)
 
 -- The first pass has answered in a world over what was lent, with some vowel and decomposition table: the state that it leads to
 -- from no edges is kept, and nothing has overflowed; or there is its refusal
@@ -117,7 +115,7 @@ pub record FirstPassed (rules prepared vowels decompositions code slots room pla
 
 -- with all edges that it has
 pub record FirstDone (rules prepared vowels decompositions code slots room places : List ℕ) (filled : Filled) (w : World) : Type 0 where
-  pub done : FirstPassed rules prepared vowels decompositions code slots room places (Fits filled.count filled.used) w
+  pub done : FirstPassed rules prepared vowels decompositions code slots room places (Ok record { count = filled.count; used = filled.used }) w
 
 -- All is ready for the second pass: the tables are as they were checked, the text's bytes are its own, starts tell how many
 -- edges each found, and there is such a world
@@ -126,23 +124,11 @@ pub record FinishReady (rules prepared code text slots room places starts : List
   pub table : Prepared rules (ready_in prepared)
   pub own : Own text (chars_in (line_in prepared))
   pub mode : mode_in (ready_in prepared) ≤ most_mode
-  pub began : Began slots room (size_in (line_in prepared)) starts (Added.Fits filled.count filled.used)
+  pub began : Began slots room (size_in (line_in prepared)) starts (fits filled.count filled.used)
   pub vowels : List ℕ
   pub decompositions : List ℕ
   pub world : World
   pub first : FirstDone rules prepared vowels decompositions code slots room places filled world
-
--- The same with whatever the first pass has answered
-pub record ConcludeReady (rules prepared code text slots room places starts : List ℕ) (r : Grew) : Type 0 where
-  pub long : all_ready ≤ length prepared
-  pub table : Prepared rules (ready_in prepared)
-  pub own : Own text (chars_in (line_in prepared))
-  pub mode : mode_in (ready_in prepared) ≤ most_mode
-  pub began : Begins slots room (size_in (line_in prepared)) starts r
-  pub vowels : List ℕ
-  pub decompositions : List ℕ
-  pub world : World
-  pub first : FirstPassed rules prepared vowels decompositions code slots room places r world
 
 -- All is ready: the tables are as they were checked, the text's bytes are its own, and there is a world
 pub record RomanizeReady (rules prepared classes vowels decompositions text : List ℕ) : Type 0 where
@@ -168,12 +154,6 @@ Finishes rules prepared code text slots room places filled out r =
     → r ≡ accepted (given (mode_in (ready_in prepared)) w.choices rules w.classes vowels decompositions code text (length slots) (length room) out)
     (tables_of w.choices rules w.classes vowels code) w.text
 
-abbrev pub Concludes : List ℕ → List ℕ → List ℕ → List ℕ → List ℕ → List ℕ → List ℕ → Grew → ℕ → Called → Type 0
-Concludes rules prepared code text slots room places grew out r =
-    (vowels decompositions : List ℕ) (w : World) → FirstPassed rules prepared vowels decompositions code slots room places grew w
-    → r ≡ accepted (given (mode_in (ready_in prepared)) w.choices rules w.classes vowels decompositions code text (length slots) (length room) out)
-    (tables_of w.choices rules w.classes vowels code) w.text
-
 -- and the whole of an accepted call
 abbrev pub Romanizes : List ℕ → List ℕ → List ℕ → List ℕ → List ℕ → List ℕ → List ℕ → ℕ → ℕ → ℕ → Called → Type 0
 Romanizes rules prepared classes vowels decompositions code text slots room out r =
@@ -194,6 +174,6 @@ pub record Accepting (i : Inputs) (prepared : List ℕ) : Type 0 where
   pub lined : Lined (world_of i) (line_in prepared)
 
 -- or its refusal
-abbrev pub SetsUp : Inputs → List ℕ → SetUp → Type 0
-SetsUp i after (SetUp.Ready n) = (n ≤ most_characters) × (used_for n ≤ length after) × Accepting i (take (used_for n) after)
-SetsUp i after (SetUp.Refused k p) = refusal i ≡ some (refuse k p)
+abbrev pub SetsUp : Inputs → List ℕ → Result ℕ Refused → Type 0
+SetsUp i after (Ok n) = (n ≤ most_characters) × (used_for n ≤ length after) × Accepting i (take (used_for n) after)
+SetsUp i after (Err r) = refusal i ≡ some (refusal_means r)

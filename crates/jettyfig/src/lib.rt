@@ -2,30 +2,31 @@
 // one numbered refusal. Nothing is assumed of what is lent.
 #![tactic(auto)]
 
-ghost use Rattle.std.specs.Prelude.{List, ◌≡◌, ℕ, ◌+◌, ◌*◌, ◌≤◌, length, take, replicate};
+ghost use Rattle.std.specs.Prelude.{List, true, ◌≡◌, ℕ, ◌+◌, ◌-◌, ◌*◌, ◌≤◌, ◌<◌, length, take, replicate, IfOk, MatchResult};
 ghost use Rattle.std.proofs.Math.Option.{none};
-ghost use Rattle.definition.specs.Limits.{most_characters};
+ghost use Rattle.definition.specs.Limits.{most_mode, most_choice, most_characters};
 ghost use Rattle.definition.specs.Refusals.{placed};
 ghost use Rattle.definition.specs.Utf8.{decoded};
 ghost use Rattle.definition.specs.ClassRows.{class_fault};
 ghost use Rattle.definition.specs.RuleFaults.{rule_fault};
-ghost use Rattle.definition.specs.Call.{Inputs, before_text, text_refusal, uncounted, called};
+ghost use Rattle.definition.specs.Call.{Inputs, text_refusal, uncounted, called};
 ghost use Rattle.table_blocks.specs.Faults.{table_means};
-ghost use Rattle.rule_table_check.specs.Told.{rules_means};
-ghost use Rattle.utf8.specs.Read.{text_means};
 ghost use Rattle.utf8.specs.Lines.{line_spaces};
 ghost use Rattle.words.specs.Given.{size_in, form_entries, choices_in, mode_in, all_ready, line_in};
 ghost use Rattle.output.specs.Whole.{Whole};
-ghost use Rattle.jettyfig.specs.Verdicts.{verdict_means, Indexed, choose, chosen, given, returned, by_asked, by_code};
-ghost use Rattle.jettyfig.specs.Steps.{few_characters, with_kinds, LineRoom, Blank, asking, Fresh, TextReady, MadeReady, FinishReady, ConcludeReady, RomanizeReady};
-ghost use Rattle.jettyfig.specs.Steps.{Writes, Finishes, Concludes, Romanizes, TextSet, SetsUp};
+ghost use Rattle.jettyfig.specs.declared.Refusal.TheVariants as refused;
+ghost use Rattle.jettyfig.specs.Verdicts.{refusal_means, verdict_means, of_text, of_full, of_unfit, table_number, Indexed, choose, mode_number, capitals_number, o_ang_number, readings_number};
+ghost use Rattle.jettyfig.specs.Verdicts.{chosen, given, answered, returned, by_asked, by_tables, by_code};
+ghost use Rattle.jettyfig.specs.Memory.{Lent};
+ghost use Rattle.jettyfig.specs.Steps.{few_characters, with_kinds, LineRoom, Blank, asking, Fresh, TextReady, MadeReady, FinishReady, RomanizeReady};
+ghost use Rattle.jettyfig.specs.Steps.{Writes, Finishes, Romanizes, TextSet, SetsUp};
 
-use decomp::Grew;
-use edge::{Added, Filled};
+use decomp::Unfit;
+use edge::{Filled, Full};
 use output::Built;
-use rule_table_check::RulesRead;
-use table_blocks::TableRead;
-use utf8::TextRead;
+use rule_row_faults::RuleFault;
+use table_blocks::TableFault;
+use utf8::TextFault;
 
 // What is kept for a text stands in arrays, and an array is written whole: so there are two sizes of each, and a text of so many
 // characters has the smaller ones. No character has more bytes than these.
@@ -51,45 +52,8 @@ const MOST_LISTED: usize = 4294967295;
 // Of so many characters it is told whether they are letters.
 const ASCII: usize = 128;
 
-// The highest mode, the highest number of a choice, and the letters of a language code.
-const MOST_MODE: u32 = 3;
-
-const MOST_CHOICE: u32 = 1;
-
+// The letters of a language code.
 const CODE_LETTERS: usize = 3;
-
-// The numbers of refusals, as the definition names them; those of the rule table, 20 to 25, are rule_row_faults'.
-const REFUSED_MODE: u64 = 1;
-
-const REFUSED_CAPITALS: u64 = 12;
-
-const REFUSED_O_ANG: u64 = 15;
-
-const REFUSED_READINGS: u64 = 17;
-
-const REFUSED_CLASSES: u64 = 3;
-
-const REFUSED_VOWELS: u64 = 4;
-
-const REFUSED_DECOMPOSITIONS: u64 = 13;
-
-const REFUSED_CODE: u64 = 5;
-
-const REFUSED_UTF8: u64 = 6;
-
-const REFUSED_TOO_LONG: u64 = 7;
-
-const REFUSED_LEFT_OUT: u64 = 8;
-
-const REFUSED_SLOTS: u64 = 9;
-
-const REFUSED_ROOM: u64 = 10;
-
-const REFUSED_EDGE_TEXT: u64 = 14;
-
-const REFUSED_LISTING: u64 = 19;
-
-const REFUSED_OUTPUT: u64 = 11;
 
 // What a call returns: 0, the output's length and the number of edges; or a refusal's number and its place.
 #[repr(C)]
@@ -101,139 +65,342 @@ pub struct Answer {
     pub edges: u64,
 }
 
+// The tables besides the rules. Of their faults the row is told, and no kind.
+#[derive(Clone, Copy, Debug, PartialEq, Eq)]
+pub enum Table {
+    Classes,
+    Vowels,
+    Decompositions,
+}
+
+// What a call is refused for, and where; `number` and `place` say it as an answer does.
+#[derive(Clone, Copy, Debug, PartialEq, Eq)]
+pub enum Refusal {
+    // The mode, or a choice, is none that there is.
+    Mode,
+    Capitals,
+    OAng,
+    Readings,
+    // The rule table has this fault at this offset; another table's first faulty row is at this one.
+    Rules(RuleFault),
+    Table { table: Table, at: usize },
+    // The language code is neither empty nor three letters a to z.
+    Code,
+    // The text is not UTF-8 from this offset on, has too many characters, or one at this position that is left out.
+    NotUtf8 { at: usize },
+    TooLong,
+    LeftOut { at: usize },
+    // The edge that starts at this position finds no slot, or too little text room, or its text is too long.
+    NoSlot { at: usize },
+    NoRoom { at: usize },
+    EdgeText { at: usize },
+    // The listing has more rows than the length before them can tell; the output has fewer bytes than are needed.
+    Listing,
+    Output { needed: usize },
+}
+
+impl Refusal {
+    // The number of each, as the definition names them; those of the rule table, 20 to 25, are rule_row_faults'.
+    pub fn number(self) -> u64
+        ensures { result ≡ (refusal_means self).number }
+    {
+        match self {
+            Refusal::Mode => 1,
+            Refusal::Capitals => 12,
+            Refusal::OAng => 15,
+            Refusal::Readings => 17,
+            Refusal::Rules(fault) => fault.kind.number(),
+            Refusal::Table { table, at: _ } => match table {
+                Table::Classes => 3,
+                Table::Vowels => 4,
+                Table::Decompositions => 13,
+            },
+            Refusal::Code => 5,
+            Refusal::NotUtf8 { at: _ } => 6,
+            Refusal::TooLong => 7,
+            Refusal::LeftOut { at: _ } => 8,
+            Refusal::NoSlot { at: _ } => 9,
+            Refusal::NoRoom { at: _ } => 10,
+            Refusal::EdgeText { at: _ } => 14,
+            Refusal::Listing => 19,
+            Refusal::Output { needed: _ } => 11,
+        }
+    }
+
+    // Where, or how many: 0 where there is nothing to say.
+    pub fn place(self) -> u64
+        ensures { result ≡ (refusal_means self).place }
+    {
+        match self {
+            Refusal::Rules(fault) => fault.at as u64,
+            Refusal::Table { table: _, at } => at as u64,
+            Refusal::NotUtf8 { at } => at as u64,
+            Refusal::TooLong => utf8::MOST_CHARACTERS as u64,
+            Refusal::LeftOut { at } => at as u64,
+            Refusal::NoSlot { at } => at as u64,
+            Refusal::NoRoom { at } => at as u64,
+            Refusal::EdgeText { at } => at as u64,
+            Refusal::Output { needed } => needed as u64,
+            Refusal::Mode => 0,
+            Refusal::Capitals => 0,
+            Refusal::OAng => 0,
+            Refusal::Readings => 0,
+            Refusal::Code => 0,
+            Refusal::Listing => 0,
+        }
+    }
+}
+
+impl From<RuleFault> for Refusal {
+    ghost from_gives = { λ fault refusal. refusal ≡ refused.Rules fault };
+
+    fn from(fault: RuleFault) -> Refusal {
+        Refusal::Rules(fault)
+    }
+}
+
+impl From<TextFault> for Refusal {
+    ghost from_gives = { λ fault refusal. refusal ≡ of_text fault };
+
+    fn from(fault: TextFault) -> Refusal {
+        match fault {
+            TextFault::NotUtf8 { at } => Refusal::NotUtf8 { at },
+            TextFault::TooLong => Refusal::TooLong,
+            TextFault::LeftOut { at } => Refusal::LeftOut { at },
+        }
+    }
+}
+
+impl From<Full> for Refusal {
+    ghost from_gives = { λ full refusal. refusal ≡ of_full full };
+
+    fn from(full: Full) -> Refusal {
+        match full {
+            Full::Slots { at } => Refusal::NoSlot { at },
+            Full::Room { at } => Refusal::NoRoom { at },
+        }
+    }
+}
+
+impl From<Unfit> for Refusal {
+    ghost from_gives = { λ unfit refusal. refusal ≡ of_unfit unfit };
+
+    fn from(unfit: Unfit) -> Refusal {
+        match unfit {
+            Unfit::Slots { at } => Refusal::NoSlot { at },
+            Unfit::Room { at } => Refusal::NoRoom { at },
+            Unfit::TooLong { at } => Refusal::EdgeText { at },
+        }
+    }
+}
+
+// What a call that is not refused has done: so many bytes are written, of so many edges.
+#[derive(Clone, Copy, Debug, PartialEq, Eq)]
+pub struct Romanized {
+    pub length: usize,
+    pub edges: usize,
+}
+
+impl From<Result<Romanized, Refusal>> for Answer {
+    ghost from_gives = { λ called answer. answer ≡ answered called };
+
+    fn from(called: Result<Romanized, Refusal>) -> Answer {
+        match called {
+            Ok(romanized) => Answer {
+                number: 0,
+                place: 0,
+                length: romanized.length as u64,
+                edges: romanized.edges as u64,
+            },
+            Err(refusal) => Answer {
+                number: refusal.number(),
+                place: refusal.place(),
+                length: 0,
+                edges: 0,
+            },
+        }
+    }
+}
+
+// What a call shows: the path's string, a listing of the path's edges, with their alternatives, or of all edges.
+#[derive(Clone, Copy, Debug, PartialEq, Eq)]
+pub enum Mode {
+    String,
+    Path,
+    Alternatives,
+    AllEdges,
+}
+
+impl TryFrom<u8> for Mode {
+    type Error = Refusal;
+
+    ghost try_from_gives = { λ n mode. MatchResult mode (λ m. mode_number m ≡ n) (λ r. (r ≡ refused.Mode) × (most_mode < n)) };
+
+    fn try_from(n: u8) -> Result<Mode, Refusal> {
+        match n {
+            0 => Ok(Mode::String),
+            1 => Ok(Mode::Path),
+            2 => Ok(Mode::Alternatives),
+            3 => Ok(Mode::AllEdges),
+            _ => Err(Refusal::Mode),
+        }
+    }
+}
+
+// What becomes of a character's romanization in upper case before another of lower case: it stays, or only its first letter does.
+#[derive(Clone, Copy, Debug, PartialEq, Eq)]
+pub enum Capitals {
+    Stay,
+    FirstStays,
+}
+
+impl TryFrom<u8> for Capitals {
+    type Error = Refusal;
+
+    ghost try_from_gives = { λ n choice. MatchResult choice (λ c. capitals_number c ≡ n) (λ r. (r ≡ refused.Capitals) × (most_choice < n)) };
+
+    fn try_from(n: u8) -> Result<Capitals, Refusal> {
+        match n {
+            0 => Ok(Capitals::Stay),
+            1 => Ok(Capitals::FirstStays),
+            _ => Err(Refusal::Capitals),
+        }
+    }
+}
+
+// How far back a consonant is looked for before U+0E2D: to the text's start, or to the nearest space.
+#[derive(Clone, Copy, Debug, PartialEq, Eq)]
+pub enum OAng {
+    ToStart,
+    ToSpace,
+}
+
+impl TryFrom<u8> for OAng {
+    type Error = Refusal;
+
+    ghost try_from_gives = { λ n choice. MatchResult choice (λ c. o_ang_number c ≡ n) (λ r. (r ≡ refused.OAng) × (most_choice < n)) };
+
+    fn try_from(n: u8) -> Result<OAng, Refusal> {
+        match n {
+            0 => Ok(OAng::ToStart),
+            1 => Ok(OAng::ToSpace),
+            _ => Err(Refusal::OAng),
+        }
+    }
+}
+
+// Whether a rule's end-of-syllable target is an alternative where its own target was taken.
+#[derive(Clone, Copy, Debug, PartialEq, Eq)]
+pub enum Readings {
+    Unlisted,
+    Listed,
+}
+
+impl TryFrom<u8> for Readings {
+    type Error = Refusal;
+
+    ghost try_from_gives = { λ n choice. MatchResult choice (λ c. readings_number c ≡ n) (λ r. (r ≡ refused.Readings) × (most_choice < n)) };
+
+    fn try_from(n: u8) -> Result<Readings, Refusal> {
+        match n {
+            0 => Ok(Readings::Unlisted),
+            1 => Ok(Readings::Listed),
+            _ => Err(Refusal::Readings),
+        }
+    }
+}
+
 // What a call is asked besides tables and text: its mode, and its choices.
 #[derive(Clone, Copy)]
 pub struct Asked {
-    pub mode: u32,
-    pub capitals: u32,
-    pub o_ang: u32,
-    pub readings: u32,
+    pub mode: Mode,
+    pub capitals: Capitals,
+    pub o_ang: OAng,
+    pub readings: Readings,
 }
 
-// What was found of the tables and the code: nothing, or a refusal.
-#[derive(Clone, Copy)]
-pub enum Verdict {
-    Accepted,
-    Refused(u64, u64),
-}
-
-// What was found of the text too: all is ready for so many characters, or a refusal.
-#[derive(Clone, Copy)]
-pub enum SetUp {
-    Ready(usize),
-    Refused(u64, u64),
-}
-
-// The answer of a refusal.
-fn refuse(number: u64, place: u64) -> Answer
-    ensures { result ≡ record { number = number; place = place; length = 0; edges = 0 } }
-{
-    Answer {
-        number,
-        place,
-        length: 0,
-        edges: 0,
+impl Asked {
+    // The first of them that there is not is refused.
+    pub fn of(mode: u8, capitals: u8, o_ang: u8, readings: u8) -> Result<Asked, Refusal>
+        ensures verdict { verdict_means result ≡ by_asked mode (choose capitals o_ang readings) }
+        ensures ok { IfOk result (λ a. (mode_number a.mode ≡ mode) × (chosen a ≡ choose capitals o_ang readings)) }
+    {
+        let mode = Mode::try_from(mode)?;
+        let capitals = Capitals::try_from(capitals)?;
+        let o_ang = OAng::try_from(o_ang)?;
+        let readings = Readings::try_from(readings)?;
+        Ok(Asked {
+            mode,
+            capitals,
+            o_ang,
+            readings,
+        })
     }
 }
 
-// A rule table is accepted, or refused by its fault's number at the fault's place.
-fn of_rule_table(read: RulesRead) -> Verdict
-    ensures { verdict_means result ≡ rules_means read }
-{
-    match read {
-        RulesRead::Wrong(fault, at) => Verdict::Refused(
-            rule_row_faults::fault_number(fault),
-            at as u64,
-        ),
-        RulesRead::Valid => Verdict::Accepted,
-    }
+// The tables' bytes, and the language code.
+#[derive(Clone, Copy)]
+pub struct Tables<'a> {
+    pub rules: &'a [u8],
+    pub classes: &'a [u8],
+    pub vowels: &'a [u8],
+    pub decompositions: &'a [u8],
+    pub code: &'a [u8],
 }
 
-// Another table is accepted, or refused by its number at its first faulty row.
-fn of_table(number: u64, read: TableRead) -> Verdict
-    ensures { verdict_means result ≡ placed number (table_means read) }
+// What is lent to be written: slots and text room for the edges, and the output.
+#[derive(Drop)]
+pub struct Memory<'m> {
+    pub slots: &'m mut [u8],
+    pub room: &'m mut [u8],
+    pub out: &'m mut [u8],
+}
+
+// Another table is accepted, or refused at its first faulty row.
+#[tactic(auto, unfolding(table_blocks::specs::Faults::table_means, definition::specs::Refusals::placed))]
+fn of_table(table: Table, read: Result<(), TableFault>) -> Result<(), Refusal>
+    ensures { verdict_means result ≡ placed (table_number table) (table_means read) }
 {
     match read {
-        TableRead::Fault(at) => Verdict::Refused(number, at as u64),
-        TableRead::Valid => Verdict::Accepted,
+        Ok(()) => Ok(()),
+        Err(fault) => Err(Refusal::Table {
+            table,
+            at: fault.at,
+        }),
     }
 }
 
 // A language code is empty, or three letters a to z.
-fn check_code(code: &[u8]) -> Verdict
+fn check_code(code: &[u8]) -> Result<(), Refusal>
     ensures { verdict_means result ≡ by_code code.now }
 {
     if code.len() == 0 {
-        return Verdict::Accepted;
+        return Ok(());
     }
-    if code.len() == CODE_LETTERS {
-        if table_blocks::all_small(code, 0, CODE_LETTERS) {
-            return Verdict::Accepted;
-        }
-        return Verdict::Refused(REFUSED_CODE, 0);
+    if code.len() != CODE_LETTERS {
+        return Err(Refusal::Code);
     }
-    Verdict::Refused(REFUSED_CODE, 0)
+    if table_blocks::all_small(code, 0, CODE_LETTERS) {
+        return Ok(());
+    }
+    Err(Refusal::Code)
 }
 
-// What is refused of mode and choices, in this order.
-#[tactic(auto, using(crate::proofs::Told::mode_refused))]
-fn check_asked(asked: Asked) -> Verdict
-    ensures { verdict_means result ≡ by_asked asked.mode (chosen asked) }
-{
-    if MOST_MODE < asked.mode {
-        return Verdict::Refused(REFUSED_MODE, 0);
-    }
-    if MOST_CHOICE < asked.capitals {
-        return Verdict::Refused(REFUSED_CAPITALS, 0);
-    }
-    if MOST_CHOICE < asked.o_ang {
-        return Verdict::Refused(REFUSED_O_ANG, 0);
-    }
-    if MOST_CHOICE < asked.readings {
-        return Verdict::Refused(REFUSED_READINGS, 0);
-    }
-    Verdict::Accepted
-}
-
-// What is refused before the text is read, in this order. The decomposition table's index is filled by the way.
-fn check(
-    asked: Asked,
-    rules: &[u8],
-    classes: &[u8],
-    vowels: &[u8],
-    decompositions: &[u8],
-    code: &[u8],
-    index: &mut [u32],
-) -> Verdict
+// What is refused of the tables and the code, in this order. The decomposition table's index is filled by the way.
+fn check(tables: Tables, index: &mut [u32]) -> Result<(), Refusal>
     requires { index.old ≡ replicate form_entries 0 }
-    ensures verdict { verdict_means result ≡ before_text asked.mode (chosen asked) rules.now classes.now vowels.now
-        decompositions.now code.now }
-    ensures index { Indexed decompositions.now index.new result }
+    ensures verdict { verdict_means result ≡ by_tables tables.entry.rules.now tables.entry.classes.now tables.entry.vowels.now
+        tables.entry.decompositions.now tables.entry.code.now }
+    ensures index { Indexed tables.entry.decompositions.now index.new result }
 {
-    let of_asked = check_asked(asked);
-    let Verdict::Accepted = of_asked else {
-        return of_asked;
-    };
-    let of_rules = of_rule_table(rule_table_check::check_rules(rules));
-    let Verdict::Accepted = of_rules else {
-        return of_rules;
-    };
-    let of_classes = of_table(REFUSED_CLASSES, table_classes::check_classes(classes));
-    let Verdict::Accepted = of_classes else {
-        return of_classes;
-    };
-    let of_vowels = of_table(REFUSED_VOWELS, table_vowels::check_vowels(vowels));
-    let Verdict::Accepted = of_vowels else {
-        return of_vowels;
-    };
-    let of_decompositions = of_table(
-        REFUSED_DECOMPOSITIONS,
-        table_decompositions::check_decompositions(decompositions, index),
-    );
-    let Verdict::Accepted = of_decompositions else {
-        return of_decompositions;
-    };
-    check_code(code)
+    rule_table_check::check_rules(tables.rules)?;
+    let classes = table_classes::check_classes(tables.classes);
+    of_table(Table::Classes, classes)?;
+    let vowels = table_vowels::check_vowels(tables.vowels);
+    of_table(Table::Vowels, vowels)?;
+    let decompositions = table_decompositions::check_decompositions(tables.decompositions, index);
+    of_table(Table::Decompositions, decompositions)?;
+    check_code(tables.code)
 }
 
 // Is a listing of so many bytes too large for the length before its rows? Mode 0 lists nothing.
@@ -248,493 +415,254 @@ fn is_uncounted(mode: u8, needed: usize) -> bool
 
 // What the mode shows, or a refusal of a listing that is too large or an output that is too short for it.
 fn show(
-    rules: &[u8],
+    tables: Tables,
     ready: &[u32],
-    code: &[u8],
     line: &[u32],
-    slots: &[u8],
-    room: &mut [u8],
     places: &mut [u32],
     starts: &[u32],
     built: Built,
-    out: &mut [u8],
-) -> Answer
-    requires { Whole rules.now ready.now line.now slots.now room.old places.old starts.now built
-        × (out.old ≡ replicate (length out.old) 0) }
-    ensures { (i : Inputs) → i.out ≡ length out.old → i.mode ≡ built.mode → Writes i rules.now ready.now code.now
-        line.now slots.now room.old places.old built (returned result out.new) }
+    memory: &mut Memory,
+) -> Result<Romanized, Refusal>
+    requires { Whole tables.rules.now ready.now line.now memory.old.slots.now memory.old.room.now places.old starts.now built
+        × (memory.old.out.now ≡ replicate (length memory.old.out.now) 0) }
+    ensures written { (i : Inputs) → i.out ≡ length memory.old.out.now → i.mode ≡ built.mode → Writes i tables.entry.rules.now ready.now tables.entry.code.now
+        line.now memory.old.slots.now memory.old.room.now places.old built (returned (answered result) memory.new.out.now) }
+    ensures lent { Lent memory.old memory.new }
 {
+    let slots = &mut *memory.slots;
     let needed = output::put_shown(
-        rules, ready, code, line, slots, room, places, starts, built, out,
+        tables.rules,
+        ready,
+        tables.code,
+        line,
+        slots,
+        memory.room,
+        places,
+        starts,
+        built,
+        memory.out,
     );
     if is_uncounted(built.mode, needed) {
-        lent_bytes::clear(out);
-        return refuse(REFUSED_LISTING, 0);
+        memory.out.fill(0);
+        return Err(Refusal::Listing);
     }
-    if out.len() < needed {
-        lent_bytes::clear(out);
-        return refuse(REFUSED_OUTPUT, needed as u64);
+    if memory.out.len() < needed {
+        memory.out.fill(0);
+        return Err(Refusal::Output { needed });
     }
-    Answer {
-        number: 0,
-        place: 0,
-        length: needed as u64,
-        edges: built.count as u64,
-    }
+    Ok(Romanized {
+        length: needed,
+        edges: built.count,
+    })
 }
 
 // What is shown of the lattice once its first pass has found room: the fallbacks come behind its edges, or the refusal of slots
 // or text room that are too short for them.
-fn finish<'a>(
-    rules: &'a [u8],
+fn finish(
+    tables: Tables,
     prepared: &[u32],
-    code: &[u8],
-    text: &'a [u8],
-    slots: &mut [u8],
-    room: &mut [u8],
+    text: &[u8],
     places: &mut [u32],
     starts: &mut [u32],
     filled: Filled,
-    out: &mut [u8],
-) -> Answer
-    requires { FinishReady rules.now prepared.now code.now text.now slots.old room.old places.old starts.old filled
-        × (out.old ≡ replicate (length out.old) 0) }
-    ensures { Finishes rules.now prepared.now code.now text.now slots.old room.old
-        places.old filled (length out.old) (returned result out.new) }
+    memory: &mut Memory,
+) -> Result<Romanized, Refusal>
+    requires { FinishReady tables.rules.now prepared.now tables.code.now text.now memory.old.slots.now memory.old.room.now places.old starts.old filled
+        × (memory.old.out.now ≡ replicate (length memory.old.out.now) 0) }
+    ensures finished { Finishes tables.entry.rules.now prepared.now tables.entry.code.now text.now memory.old.slots.now memory.old.room.now
+        places.old filled (length memory.old.out.now) (returned (answered result) memory.new.out.now) }
+    ensures lent { Lent memory.old memory.new }
 {
     let ready = words::ready_in(prepared);
     let line = words::line_in(prepared);
-    match second_pass::add_rom_fall_back_singles(
-        rules, ready, code, text, line, slots, room, places, starts, filled,
-    ) {
-        Added::Fits { count, used } => show(
-            rules,
-            ready,
-            code,
-            line,
-            slots,
-            room,
-            places,
-            starts,
-            Built {
-                mode: words::mode_in(ready) as u8,
-                count,
-                used,
-            },
-            out,
-        ),
-        Added::NoSlot(p) => refuse(REFUSED_SLOTS, p as u64),
-        Added::NoRoom(p) => refuse(REFUSED_ROOM, p as u64),
-    }
+    let taken = second_pass::add_rom_fall_back_singles(
+        tables.rules,
+        ready,
+        tables.code,
+        text,
+        line,
+        memory.slots,
+        memory.room,
+        places,
+        starts,
+        filled,
+    )?;
+    let mode = words::mode_in(ready) as u8;
+    let built = Built {
+        mode,
+        count: taken.count,
+        used: taken.used,
+    };
+    show(tables, ready, line, places, starts, built, memory)
 }
 
-// What is shown of the lattice by what its first pass answered, or the refusal of slots or text room that were too short for it,
-// or of an edge's text that is too long.
-fn conclude<'a>(
-    rules: &'a [u8],
+// What is shown of the lattice of a text that has fewer characters than there are places, or its refusal. What is kept by position
+// and by start while it is built begins as zeros.
+fn build<const PLACES: usize>(
+    tables: Tables,
     prepared: &[u32],
-    code: &[u8],
-    text: &'a [u8],
-    slots: &mut [u8],
-    room: &mut [u8],
-    places: &mut [u32],
-    starts: &mut [u32],
-    grew: Grew,
-    out: &mut [u8],
-) -> Answer
-    requires { ConcludeReady rules.now prepared.now code.now text.now slots.old room.old places.old starts.old grew
-        × (out.old ≡ replicate (length out.old) 0) }
-    ensures { Concludes rules.now prepared.now code.now text.now slots.old room.old
-        places.old grew (length out.old) (returned result out.new) }
-{
-    match grew {
-        Grew::Fits { count, used } => finish(
-            rules,
-            prepared,
-            code,
-            text,
-            slots,
-            room,
-            places,
-            starts,
-            Filled {
-                count,
-                used,
-                since: count,
-            },
-            out,
-        ),
-        Grew::NoSlot(p) => refuse(REFUSED_SLOTS, p as u64),
-        Grew::NoRoom(p) => refuse(REFUSED_ROOM, p as u64),
-        Grew::TooLong(p) => refuse(REFUSED_EDGE_TEXT, p as u64),
-    }
-}
-
-// What is shown of the lattice of a text of few characters, or its refusal. What is kept by position and by start while it is
-// built begins as zeros.
-fn romanize_short<'a>(
-    rules: &'a [u8],
-    prepared: &[u32],
-    classes: &[u8],
-    vowels: &[u8],
-    decompositions: &[u8],
-    code: &[u8],
-    text: &'a [u8],
-    slots: &mut [u8],
-    room: &mut [u8],
-    out: &mut [u8],
-) -> Answer
-    requires { RomanizeReady rules.now prepared.now classes.now vowels.now decompositions.now text.now
-        × (out.old ≡ replicate (length out.old) 0)
-        × (size_in (line_in prepared.now) ≤ few_characters) }
-    ensures { Romanizes rules.now prepared.now classes.now vowels.now decompositions.now
-        code.now text.now (length slots.old) (length room.old) (length out.old) (returned result out.new) }
+    text: &[u8],
+    memory: &mut Memory,
+) -> Result<Romanized, Refusal>
+    requires ready { RomanizeReady tables.rules.now prepared.now tables.classes.now tables.vowels.now tables.decompositions.now text.now }
+    requires zeros { memory.old.out.now ≡ replicate (length memory.old.out.now) 0 }
+    requires places { (size_in (line_in prepared.now) < PLACES) × (PLACES ≤ most_characters + 1) }
+    ensures romanized { Romanizes tables.entry.rules.now prepared.now tables.entry.classes.now tables.entry.vowels.now tables.entry.decompositions.now
+        tables.entry.code.now text.now (length memory.old.slots.now) (length memory.old.room.now) (length memory.old.out.now)
+        (returned (answered result) memory.new.out.now) }
+    ensures lent { Lent memory.old memory.new }
 {
     let end = words::text_len(words::line_in(prepared)) + 1;
-    let mut places = [0u32; SHORT_PLACES];
-    let mut starts = [0u32; SHORT_PLACES];
-    let grew = decomp_pass::add_romanization(
-        rules,
+    let mut places = [0u32; PLACES];
+    let mut starts = [0u32; PLACES];
+    let places = &mut places[..end];
+    let starts = &mut starts[..end];
+    let taken = decomp_pass::add_romanization(
+        tables.rules,
         prepared,
-        classes,
-        vowels,
-        decompositions,
-        code,
-        slots,
-        room,
-        &mut places[..end],
-        &mut starts[..end],
-    );
-    conclude(
-        rules,
-        prepared,
-        code,
-        text,
-        slots,
-        room,
-        &mut places[..end],
-        &mut starts[..end],
-        grew,
-        out,
-    )
-}
-
-// What is shown of the lattice of a text of any number of characters, or its refusal. What is kept by position and by start while
-// it is built begins as zeros.
-fn romanize_long<'a>(
-    rules: &'a [u8],
-    prepared: &[u32],
-    classes: &[u8],
-    vowels: &[u8],
-    decompositions: &[u8],
-    code: &[u8],
-    text: &'a [u8],
-    slots: &mut [u8],
-    room: &mut [u8],
-    out: &mut [u8],
-) -> Answer
-    requires { RomanizeReady rules.now prepared.now classes.now vowels.now decompositions.now text.now
-        × (out.old ≡ replicate (length out.old) 0) }
-    ensures { Romanizes rules.now prepared.now classes.now vowels.now decompositions.now
-        code.now text.now (length slots.old) (length room.old) (length out.old) (returned result out.new) }
-{
-    let end = words::text_len(words::line_in(prepared)) + 1;
-    let mut places = [0u32; LONG_PLACES];
-    let mut starts = [0u32; LONG_PLACES];
-    let grew = decomp_pass::add_romanization(
-        rules,
-        prepared,
-        classes,
-        vowels,
-        decompositions,
-        code,
-        slots,
-        room,
-        &mut places[..end],
-        &mut starts[..end],
-    );
-    conclude(
-        rules,
-        prepared,
-        code,
-        text,
-        slots,
-        room,
-        &mut places[..end],
-        &mut starts[..end],
-        grew,
-        out,
-    )
+        tables.classes,
+        tables.vowels,
+        tables.decompositions,
+        tables.code,
+        memory.slots,
+        memory.room,
+        places,
+        starts,
+    )?;
+    let filled = Filled {
+        count: taken.count,
+        used: taken.used,
+        since: taken.count,
+    };
+    finish(tables, prepared, text, places, starts, filled, memory)
 }
 
 // What the engine asks besides the tables' rows: the ASCII letters, and the index of the rule table with what it has of the
 // line's characters.
-fn make_ready(rules: &[u8], classes: &[u8], prepared: &mut [u32])
-    requires { (rule_fault rules.now ≡ none) × (class_fault classes.now ≡ none) × ((decompositions : List ℕ) × Blank decompositions prepared.old) }
-    ensures { MadeReady rules.now classes.now prepared.old prepared.new }
+fn make_ready(tables: Tables, prepared: &mut [u32])
+    requires { (rule_fault tables.rules.now ≡ none) × (class_fault tables.classes.now ≡ none)
+        × ((decompositions : List ℕ) × Blank decompositions prepared.old) }
+    ensures { MadeReady tables.entry.rules.now tables.entry.classes.now prepared.old prepared.new }
 {
-    table_classes::classify_ascii(classes, &mut prepared[..ASCII]);
+    table_classes::classify_ascii(tables.classes, &mut prepared[..ASCII]);
     let half = (prepared.len() - words::READY) / 2;
-    rule_memo::fill(rules, &mut prepared[words::INDEX..], half);
+    rule_memo::fill(tables.rules, &mut prepared[words::INDEX..], half);
 }
 
 // The text between spaces, and behind it the class of each of its characters.
-fn lay_out(classes: &[u8], text: &[u8], line: &mut [u32]) -> TextRead
+fn lay_out(classes: &[u8], text: &[u8], line: &mut [u32]) -> Result<usize, Refusal>
     requires { (class_fault classes.now ≡ none) × LineRoom text.now (length line.old) }
-    ensures refusal { text_means result ≡ text_refusal text.now }
-    ensures line { (n : ℕ) → result ≡ TextRead.Characters n → (n ≡ length (decoded text.now)) × (n ≤ most_characters)
-        × (take (2 * (n + line_spaces)) line.new ≡ with_kinds classes.now (decoded text.now)) }
+    ensures refusal { verdict_means result ≡ text_refusal text.now }
+    ensures line { IfOk result (λ n. (n ≡ length (decoded text.now)) × (n ≤ most_characters)
+        × (take (2 * (n + line_spaces)) line.new ≡ with_kinds classes.now (decoded text.now))) }
 {
-    let read = utf8::read_line(text, line);
-    match read {
-        TextRead::Characters(n) => {
-            table_classes::classify(classes, &mut line[..2 * (n + utf8::LINE_SPACES)]);
-            read
-        }
-        TextRead::NotUtf8(_) => read,
-        TextRead::TooLong => read,
-        TextRead::LeftOut(_) => read,
-    }
+    let count = utf8::read_line(text, line)?;
+    table_classes::classify(classes, &mut line[..2 * (count + utf8::LINE_SPACES)]);
+    Ok(count)
 }
 
 // The text's refusal, or the text in what is prepared, with all that the engine asks besides the tables' rows.
-fn set_up_text(rules: &[u8], classes: &[u8], text: &[u8], prepared: &mut [u32]) -> SetUp
-    requires { TextReady rules.now classes.now text.now prepared.old }
-    ensures { TextSet rules.now classes.now text.now prepared.old prepared.new result }
+fn set_up_text(tables: Tables, text: &[u8], prepared: &mut [u32]) -> Result<usize, Refusal>
+    requires { TextReady tables.rules.now tables.classes.now text.now prepared.old }
+    ensures { TextSet tables.entry.rules.now tables.entry.classes.now text.now prepared.old prepared.new result }
 {
-    match lay_out(classes, text, &mut prepared[words::READY..]) {
-        TextRead::Characters(n) => {
-            make_ready(
-                rules,
-                classes,
-                &mut prepared[..words::READY + 2 * (n + utf8::LINE_SPACES)],
-            );
-            SetUp::Ready(n)
-        }
-        TextRead::NotUtf8(at) => SetUp::Refused(REFUSED_UTF8, at as u64),
-        TextRead::TooLong => SetUp::Refused(REFUSED_TOO_LONG, utf8::MOST_CHARACTERS as u64),
-        TextRead::LeftOut(p) => SetUp::Refused(REFUSED_LEFT_OUT, p as u64),
-    }
+    let n = lay_out(tables.classes, text, &mut prepared[words::READY..])?;
+    make_ready(
+        tables,
+        &mut prepared[..words::READY + 2 * (n + utf8::LINE_SPACES)],
+    );
+    Ok(n)
 }
 
 // What is asked is written into what is prepared, so that no check has to keep it at hand.
 fn put_asked(prepared: &mut [u32], asked: Asked)
     requires { all_ready ≤ length prepared.old }
-    ensures { prepared.new ≡ asking asked prepared.old }
+    ensures { prepared.new ≡ asking (mode_number asked.mode) (chosen asked) prepared.old }
 {
-    prepared[words::CAPITALS] = asked.capitals;
-    prepared[words::O_ANG] = asked.o_ang;
-    prepared[words::READINGS] = asked.readings;
-    prepared[words::MODE] = asked.mode;
+    prepared[words::CAPITALS] = asked.capitals as u32;
+    prepared[words::O_ANG] = asked.o_ang as u32;
+    prepared[words::READINGS] = asked.readings as u32;
+    prepared[words::MODE] = asked.mode as u32;
 }
 
-// What was asked, from what is prepared.
-fn asked_in(prepared: &[u32]) -> Asked
-    ensures { (result.mode ≡ mode_in prepared.now) × (chosen result ≡ choices_in prepared.now) }
+// What is refused of tables, code and text, or all that is needed to build edges of so many characters. What was asked stands in what
+// is prepared.
+fn set_up(tables: Tables, text: &[u8], prepared: &mut [u32]) -> Result<usize, Refusal>
+    requires { Fresh text.now prepared.old × (by_asked (mode_in prepared.old) (choices_in prepared.old) ≡ none) }
+    ensures { SetsUp (given (mode_in prepared.old) (choices_in prepared.old) tables.entry.rules.now tables.entry.classes.now
+        tables.entry.vowels.now tables.entry.decompositions.now tables.entry.code.now text.now 0 0 0) prepared.new result }
 {
-    let choices = words::choices_in(prepared);
-    Asked {
-        mode: words::mode_in(prepared),
-        capitals: choices.capitals,
-        o_ang: choices.o_ang,
-        readings: choices.readings,
-    }
+    check(tables, &mut prepared[words::FORMS..words::INDEX])?;
+    set_up_text(tables, text, prepared)
 }
 
-// What is refused before any edge is built, or all that is needed to build them. What was asked stands in what is prepared.
-fn set_up(
-    rules: &[u8],
-    classes: &[u8],
-    vowels: &[u8],
-    decompositions: &[u8],
-    code: &[u8],
+// The whole call over an output of zeros, but for what is asked and for clearing the rooms, in arrays that have room for the text. It is
+// not compiled into its caller, where a short text would take the stack of a long one's arrays.
+#[inline(never)]
+fn respond<const PREPARED: usize, const PLACES: usize>(
+    asked: Asked,
+    tables: Tables,
     text: &[u8],
-    prepared: &mut [u32],
-) -> SetUp
-    requires { Fresh text.now prepared.old }
-    ensures { SetsUp (given (mode_in prepared.old) (choices_in prepared.old) rules.now classes.now
-        vowels.now decompositions.now code.now text.now 0 0 0) prepared.new result }
+    memory: &mut Memory,
+) -> Result<Romanized, Refusal>
+    requires prepared { (PREPARED ≤ all_ready + 2 * (most_characters + line_spaces)) × (all_ready ≤ PREPARED) × LineRoom text.now (PREPARED - all_ready) }
+    requires places { (PLACES ≤ most_characters + 1) × (length (decoded text.now) ≤ most_characters → length (decoded text.now) < PLACES) }
+    requires zeros { memory.old.out.now ≡ replicate (length memory.old.out.now) 0 }
+    ensures called { returned (answered result) memory.new.out.now ≡ called (given (mode_number asked.mode) (chosen asked) tables.entry.rules.now
+        tables.entry.classes.now tables.entry.vowels.now tables.entry.decompositions.now tables.entry.code.now text.now (length memory.old.slots.now)
+        (length memory.old.room.now) (length memory.old.out.now)) }
+    ensures lent { Lent memory.old memory.new }
 {
-    match check(
-        asked_in(prepared),
-        rules,
-        classes,
-        vowels,
-        decompositions,
-        code,
-        &mut prepared[words::FORMS..words::INDEX],
-    ) {
-        Verdict::Refused(number, place) => SetUp::Refused(number, place),
-        Verdict::Accepted => set_up_text(rules, classes, text, prepared),
-    }
-}
-
-// The whole call over an output of zeros, but for clearing the rooms, in the smaller arrays: its text has few characters.
-fn respond_short<'a>(
-    asked: Asked,
-    rules: &'a [u8],
-    classes: &[u8],
-    vowels: &[u8],
-    decompositions: &[u8],
-    code: &[u8],
-    text: &'a [u8],
-    slots: &mut [u8],
-    room: &mut [u8],
-    out: &mut [u8],
-) -> Answer
-    requires { (length (decoded text.now) ≤ few_characters) × (out.old ≡ replicate (length out.old) 0) }
-    ensures { returned result out.new ≡ called (given asked.mode (chosen asked) rules.now classes.now vowels.now
-        decompositions.now code.now text.now (length slots.old) (length room.old) (length out.old)) }
-{
-    let mut prepared = [0u32; SHORT_PREPARED];
+    let mut prepared = [0u32; PREPARED];
     put_asked(&mut prepared, asked);
-    match set_up(
-        rules,
-        classes,
-        vowels,
-        decompositions,
-        code,
+    let n = set_up(tables, text, &mut prepared)?;
+    build::<PLACES>(
+        tables,
+        &prepared[..words::READY + 2 * (n + utf8::LINE_SPACES)],
         text,
-        &mut prepared,
-    ) {
-        SetUp::Refused(number, place) => refuse(number, place),
-        SetUp::Ready(n) => romanize_short(
-            rules,
-            &prepared[..words::READY + 2 * (n + utf8::LINE_SPACES)],
-            classes,
-            vowels,
-            decompositions,
-            code,
-            text,
-            slots,
-            room,
-            out,
-        ),
-    }
-}
-
-// The same in the larger ones, for any text.
-fn respond_long<'a>(
-    asked: Asked,
-    rules: &'a [u8],
-    classes: &[u8],
-    vowels: &[u8],
-    decompositions: &[u8],
-    code: &[u8],
-    text: &'a [u8],
-    slots: &mut [u8],
-    room: &mut [u8],
-    out: &mut [u8],
-) -> Answer
-    requires { out.old ≡ replicate (length out.old) 0 }
-    ensures { returned result out.new ≡ called (given asked.mode (chosen asked) rules.now classes.now vowels.now
-        decompositions.now code.now text.now (length slots.old) (length room.old) (length out.old)) }
-{
-    let mut prepared = [0u32; LONG_PREPARED];
-    put_asked(&mut prepared, asked);
-    match set_up(
-        rules,
-        classes,
-        vowels,
-        decompositions,
-        code,
-        text,
-        &mut prepared,
-    ) {
-        SetUp::Refused(number, place) => refuse(number, place),
-        SetUp::Ready(n) => romanize_long(
-            rules,
-            &prepared[..words::READY + 2 * (n + utf8::LINE_SPACES)],
-            classes,
-            vowels,
-            decompositions,
-            code,
-            text,
-            slots,
-            room,
-            out,
-        ),
-    }
-}
-
-// The whole call, but for clearing the rooms, in arrays that the text needs. Its characters are counted only where its bytes don't
-// tell enough of them.
-#[tactic(auto, using(crate::proofs::Told::few_decoded, crate::proofs::Told::length_of_zeros))]
-fn respond<'a>(
-    asked: Asked,
-    rules: &'a [u8],
-    classes: &[u8],
-    vowels: &[u8],
-    decompositions: &[u8],
-    code: &[u8],
-    text: &'a [u8],
-    slots: &mut [u8],
-    room: &mut [u8],
-    out: &mut [u8],
-) -> Answer
-    ensures { returned result out.new ≡ called (given asked.mode (chosen asked) rules.now classes.now vowels.now
-        decompositions.now code.now text.now (length slots.old) (length room.old) (length out.old)) }
-{
-    lent_bytes::clear(out);
-    if text.len() <= SHORT {
-        return respond_short(
-            asked,
-            rules,
-            classes,
-            vowels,
-            decompositions,
-            code,
-            text,
-            slots,
-            room,
-            out,
-        );
-    }
-    if MOST_CHARACTER_BYTES * SHORT < text.len() {
-        return respond_long(
-            asked,
-            rules,
-            classes,
-            vowels,
-            decompositions,
-            code,
-            text,
-            slots,
-            room,
-            out,
-        );
-    }
-    if utf8::characters(text) <= SHORT {
-        return respond_short(
-            asked,
-            rules,
-            classes,
-            vowels,
-            decompositions,
-            code,
-            text,
-            slots,
-            room,
-            out,
-        );
-    }
-    respond_long(
-        asked,
-        rules,
-        classes,
-        vowels,
-        decompositions,
-        code,
-        text,
-        slots,
-        room,
-        out,
+        memory,
     )
 }
 
+// Has the text few characters? They are counted only where its bytes don't tell.
+#[tactic(auto, using(crate::proofs::Told::few_decoded, definition::specs::Utf8Turns::decoded_few))]
+fn is_short(text: &[u8]) -> bool
+    ensures { result ≡ true → length (decoded text.now) ≤ few_characters }
+{
+    if text.len() <= SHORT {
+        return true;
+    }
+    if MOST_CHARACTER_BYTES * SHORT < text.len() {
+        return false;
+    }
+    utf8::characters(text) <= SHORT
+}
+
+// The whole call over an output of zeros, but for clearing the rooms, in arrays that the text needs.
+fn romanize(
+    mode: u8,
+    capitals: u8,
+    o_ang: u8,
+    readings: u8,
+    tables: Tables,
+    text: &[u8],
+    memory: &mut Memory,
+) -> Result<Romanized, Refusal>
+    requires { memory.old.out.now ≡ replicate (length memory.old.out.now) 0 }
+    ensures called { returned (answered result) memory.new.out.now ≡ called (given mode (choose capitals o_ang readings) tables.entry.rules.now
+        tables.entry.classes.now tables.entry.vowels.now tables.entry.decompositions.now tables.entry.code.now text.now (length memory.old.slots.now)
+        (length memory.old.room.now) (length memory.old.out.now)) }
+    ensures lent { Lent memory.old memory.new }
+{
+    let asked = Asked::of(mode, capitals, o_ang, readings)?;
+    if is_short(text) {
+        return respond::<SHORT_PREPARED, SHORT_PLACES>(asked, tables, text, memory);
+    }
+    respond::<LONG_PREPARED, LONG_PLACES>(asked, tables, text, memory)
+}
+
 // The call. Answer and output are the definition's `called`; slots and text room are zeros afterwards, whatever happened.
-#[unsafe(no_mangle)]
-pub extern "C" fn jettyfig_romanize<'a>(
+pub fn jettyfig_romanize<'a>(
     mode: u8,
     capitals: u8,
     o_ang: u8,
@@ -754,25 +682,17 @@ pub extern "C" fn jettyfig_romanize<'a>(
     ensures slots { slots.new ≡ replicate (length slots.old) 0 }
     ensures room { room.new ≡ replicate (length room.old) 0 }
 {
-    let asked = Asked {
-        mode: mode as u32,
-        capitals: capitals as u32,
-        o_ang: o_ang as u32,
-        readings: readings as u32,
-    };
-    let answered = respond(
-        asked,
+    let tables = Tables {
         rules,
         classes,
         vowels,
         decompositions,
         code,
-        text,
-        slots,
-        room,
-        out,
-    );
-    lent_bytes::clear(slots);
-    lent_bytes::clear(room);
-    answered
+    };
+    let mut memory = Memory { slots, room, out };
+    memory.out.fill(0);
+    let called = romanize(mode, capitals, o_ang, readings, tables, text, &mut memory);
+    memory.slots.fill(0);
+    memory.room.fill(0);
+    Answer::from(called)
 }

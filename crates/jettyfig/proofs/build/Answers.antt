@@ -45,7 +45,7 @@ finish-requires g c =
         first = record {
           done = first-passed c.args.tables.rules.now c.args.tables.vowels.now c.args.tables.decompositions.now c.args.tables.code.now c.args.memory.now.slots.now c.args.memory.now.room.now p.world c.args.prepared.now p.told p.lined p.forms.inherent _
               (first-came c.args.tables.rules.now c.args.tables.vowels.now c.args.tables.decompositions.now c.args.tables.code.now c.args.memory.now.slots.now c.args.memory.now.room.now p.world c.args.prepared.now p.told p.lined c.args.tables.classes.now _ _ _ _ p.same
-    (cut-zeros _ (size_in (line_in c.args.prepared.now)) _ (omega arith) (omega (arith, counts))) c.add_romanization.result c.add_romanization.ensures.built (Ok c.in_ok-taken.taken) c.in_ok-taken.was);
+              (cut-zeros _ (size_in (line_in c.args.prepared.now)) _ (omega arith) (omega (arith, counts))) c.add_romanization.result c.add_romanization.ensures.built (Ok c.in_ok-taken.taken) c.in_ok-taken.was);
         };
       },
       c.requires.zeros,

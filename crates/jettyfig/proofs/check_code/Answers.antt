@@ -7,11 +7,11 @@ use Rattle.jettyfig.proofs.check_code.Goals as goal
 pub returns-then-code-eq0 : goal.returns-then-code-eq0
 returns-then-code-eq0 c = no_code c.args.code.now (omega arith)
 
+pub returns-then-code-ne-CODE_LETTERS : goal.returns-then-code-ne-CODE_LETTERS
+returns-then-code-ne-CODE_LETTERS c = other_length c.args.code.now (λ k. omega arith) (λ k. omega arith)
+
 pub returns-then-all_small : goal.returns-then-all_small
 returns-then-all_small c = lettered-code c.args.code.now (omega arith) (sym c.all_small.ensures ∙ c.if-all_small.true)
 
-pub returns-then-code-eq-CODE_LETTERS : goal.returns-then-code-eq-CODE_LETTERS
-returns-then-code-eq-CODE_LETTERS c = other-letters c.args.code.now (omega arith) (sym c.all_small.ensures ∙ c.if-all_small.false)
-
 pub returns : goal.returns
-returns c = other_length c.args.code.now (λ k. omega arith) (λ k. omega arith)
+returns c = other-letters c.args.code.now (omega arith) (sym c.all_small.ensures ∙ c.if-all_small.false)

@@ -3,14 +3,12 @@ use mathlib.Core.Path.{◌≡◌, refl, ap, ◌∙◌, subst}
 use Prim.Native.Nat.{ℕ}
 use native.Mathlib.Omega.{arith}
 use lib.ListN.{length}
-use Rattle.definition.specs.Refusals.{refused_slots, refused_room}
+use Rattle.std.specs.Prelude.{Ok, Err}
 use Rattle.definition.specs.Call.{tables_of, accepted}
-use Rattle.edge.specs.declared.Added.{Added}
 use Rattle.words.specs.Given.{mode_in, ready_in}
-use Rattle.second_pass.specs.Starts.{Standing}
 use Rattle.second_pass.specs.SecondPass.{SecondPass}
-use Rattle.jettyfig.specs.Verdicts.{given, returned}
-use Rattle.jettyfig.proofs.Finished.{both_passes, table_ready, fall_ready, second_stops, second-whole, second-shown}
+use Rattle.jettyfig.specs.Verdicts.{given}
+use Rattle.jettyfig.proofs.Finished.{table_ready, fall_ready, second_refused, second-whole, second-shown}
 use Rattle.jettyfig.proofs.finish.Goals as goal
 
 pub add_rom_fall_back_singles-requires : goal.add_rom_fall_back_singles-requires
@@ -19,52 +17,34 @@ add_rom_fall_back_singles-requires c =
 
 pub show-requires : goal.show-requires
 show-requires c =
-    let second : (r : Added) → (e : c.add_rom_fall_back_singles.result ≡ r) → SecondPass c.args.rules.now c.ready_in-ready.result.now c.args.code.now c.line_in-line.result.now c.args.filled (c.args.slots.now, c.args.room.now, c.args.places.now) (c.add_rom_fall_back_singles.new.slots, c.add_rom_fall_back_singles.new.room, c.add_rom_fall_back_singles.new.places) r = λ r. λ e. subst (SecondPass c.args.rules.now c.ready_in-ready.result.now c.args.code.now c.line_in-line.result.now c.args.filled
-    (c.args.slots.now, c.args.room.now, c.args.places.now) (c.add_rom_fall_back_singles.new.slots, c.add_rom_fall_back_singles.new.room, c.add_rom_fall_back_singles.new.places)) e c.add_rom_fall_back_singles.ensures.built in
-    let is-mode : c.mode_in.result ≡ mode_in (ready_in c.args.prepared.now) = c.mode_in.ensures ∙ ap mode_in c.ready_in-ready.ensures in
+    let is-mode : c.mode_in-mode.result ≡ mode_in (ready_in c.args.prepared.now) = c.mode_in-mode.ensures ∙ ap mode_in c.ready_in-ready.ensures in
     let h = c.requires.0 in
     let x = c.ready_in-ready.ensures in
-    let y = c.line_in-line.ensures in
-    let starts = c.add_rom_fall_back_singles.new.starts in (
-      second-whole h.first x y (table_ready h x y) c.mode_in.result c.args.text.now (second _ c.in-Fits.is) (omega (arith, is-mode, h.mode)) starts
-          (subst (Standing c.add_rom_fall_back_singles.new.slots starts) c.in-Fits.is c.add_rom_fall_back_singles.ensures.starts)
+    let y = c.line_in-line.ensures in (
+      second-whole h.first x y (table_ready h x y) c.mode_in-mode.result c.args.text.now
+          {c = c.in_ok-taken.taken.count} {u = c.in_ok-taken.taken.used} c.in_ok-taken.ensures.built (omega (arith, is-mode, h.mode))
+          c.add_rom_fall_back_singles.new.starts c.in_ok-taken.ensures.starts
           (omega (arith, c.add_rom_fall_back_singles.auto.starts, h.began.2, ap length y)),
       c.requires.1,
     )
 
-pub returns-in-Fits : goal.returns-in-Fits
-returns-in-Fits c =
-    let second : (r : Added) → (e : c.add_rom_fall_back_singles.result ≡ r) → SecondPass c.args.rules.now c.ready_in-ready.result.now c.args.code.now c.line_in-line.result.now c.args.filled (c.args.slots.now, c.args.room.now, c.args.places.now) (c.add_rom_fall_back_singles.new.slots, c.add_rom_fall_back_singles.new.room, c.add_rom_fall_back_singles.new.places) r = λ r. λ e. subst (SecondPass c.args.rules.now c.ready_in-ready.result.now c.args.code.now c.line_in-line.result.now c.args.filled
-    (c.args.slots.now, c.args.room.now, c.args.places.now) (c.add_rom_fall_back_singles.new.slots, c.add_rom_fall_back_singles.new.room, c.add_rom_fall_back_singles.new.places)) e c.add_rom_fall_back_singles.ensures.built in
-    let is-mode : c.mode_in.result ≡ mode_in (ready_in c.args.prepared.now) = c.mode_in.ensures ∙ ap mode_in c.ready_in-ready.ensures in
+pub returns-in_err-taken-clause-finished : goal.returns-in_err-taken-clause-finished
+returns-in_err-taken-clause-finished c = λ vowels bytes w f.
+    let x = c.ready_in-ready.ensures in
+    let y = c.line_in-line.ensures in
+    second_refused f x y (table_ready c.requires.0 x y) (mode_in (ready_in c.args.prepared.now)) c.args.text.now c.args.memory.now.out.now c.requires.1
+    c.in_err-taken.field-0.0 c.in_err-taken.ensures.built _ c.from_residual.ensures.1
+
+pub returns-clause-finished : goal.returns-clause-finished
+returns-clause-finished c =
+    let is-mode : c.mode_in-mode.result ≡ mode_in (ready_in c.args.prepared.now) = c.mode_in-mode.ensures ∙ ap mode_in c.ready_in-ready.ensures in
     let h = c.requires.0 in
     let x = c.ready_in-ready.ensures in
     let y = c.line_in-line.ensures in
     λ vowels bytes w f.
-    let i = given c.mode_in.result w.choices c.args.rules.now w.classes vowels bytes c.args.code.now c.args.text.now
-    (length c.args.slots.now) (length c.args.room.now) (length c.args.out.now) in
-    second-shown f x y (table_ready h x y) c.mode_in.result c.args.text.now (second _ c.in-Fits.is) (length c.args.out.now) _ (c.show.ensures i refl refl)
-    ∙ ap (λ (n : ℕ). accepted (given n w.choices c.args.rules.now w.classes vowels bytes c.args.code.now c.args.text.now
-    (length c.args.slots.now) (length c.args.room.now) (length c.args.out.now)) (tables_of w.choices c.args.rules.now w.classes vowels c.args.code.now) w.text) (is-mode)
-
-pub returns-in-NoSlot : goal.returns-in-NoSlot
-returns-in-NoSlot c =
-    let second : (r : Added) → (e : c.add_rom_fall_back_singles.result ≡ r) → SecondPass c.args.rules.now c.ready_in-ready.result.now c.args.code.now c.line_in-line.result.now c.args.filled (c.args.slots.now, c.args.room.now, c.args.places.now) (c.add_rom_fall_back_singles.new.slots, c.add_rom_fall_back_singles.new.room, c.add_rom_fall_back_singles.new.places) r = λ r. λ e. subst (SecondPass c.args.rules.now c.ready_in-ready.result.now c.args.code.now c.line_in-line.result.now c.args.filled
-    (c.args.slots.now, c.args.room.now, c.args.places.now) (c.add_rom_fall_back_singles.new.slots, c.add_rom_fall_back_singles.new.room, c.add_rom_fall_back_singles.new.places)) e c.add_rom_fall_back_singles.ensures.built in
-    let x = c.ready_in-ready.ensures in
-    let y = c.line_in-line.ensures in
-    λ vowels bytes w f.
-    ap (λ r. returned r c.args.out.now) c.refuse.ensures
-    ∙ second_stops f x y (table_ready c.requires.0 x y) (mode_in (ready_in c.args.prepared.now)) c.args.text.now c.args.out.now c.requires.1 refused_slots c.in-NoSlot.p
-    (both_passes f x y _ (second _ c.in-NoSlot.is)).came
-
-pub returns-in-NoRoom : goal.returns-in-NoRoom
-returns-in-NoRoom c =
-    let second : (r : Added) → (e : c.add_rom_fall_back_singles.result ≡ r) → SecondPass c.args.rules.now c.ready_in-ready.result.now c.args.code.now c.line_in-line.result.now c.args.filled (c.args.slots.now, c.args.room.now, c.args.places.now) (c.add_rom_fall_back_singles.new.slots, c.add_rom_fall_back_singles.new.room, c.add_rom_fall_back_singles.new.places) r = λ r. λ e. subst (SecondPass c.args.rules.now c.ready_in-ready.result.now c.args.code.now c.line_in-line.result.now c.args.filled
-    (c.args.slots.now, c.args.room.now, c.args.places.now) (c.add_rom_fall_back_singles.new.slots, c.add_rom_fall_back_singles.new.room, c.add_rom_fall_back_singles.new.places)) e c.add_rom_fall_back_singles.ensures.built in
-    let x = c.ready_in-ready.ensures in
-    let y = c.line_in-line.ensures in
-    λ vowels bytes w f.
-    ap (λ r. returned r c.args.out.now) c.refuse-in-NoRoom.ensures
-    ∙ second_stops f x y (table_ready c.requires.0 x y) (mode_in (ready_in c.args.prepared.now)) c.args.text.now c.args.out.now c.requires.1 refused_room c.in-NoRoom.p
-    (both_passes f x y _ (second _ c.in-NoRoom.is)).came
+    let i = given c.mode_in-mode.result w.choices c.args.tables.rules.now w.classes vowels bytes c.args.tables.code.now c.args.text.now
+    (length c.args.memory.now.slots.now) (length c.args.memory.now.room.now) (length c.args.memory.now.out.now) in
+    second-shown f x y (table_ready h x y) c.mode_in-mode.result c.args.text.now {c = c.in_ok-taken.taken.count} {u = c.in_ok-taken.taken.used}
+    c.in_ok-taken.ensures.built (length c.args.memory.now.out.now) _ (c.show.ensures.written i refl refl)
+    ∙ ap (λ (n : ℕ). accepted (given n w.choices c.args.tables.rules.now w.classes vowels bytes c.args.tables.code.now c.args.text.now
+    (length c.args.memory.now.slots.now) (length c.args.memory.now.room.now) (length c.args.memory.now.out.now)) (tables_of w.choices c.args.tables.rules.now w.classes vowels c.args.tables.code.now) w.text) is-mode

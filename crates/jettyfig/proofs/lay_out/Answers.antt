@@ -1,63 +1,75 @@
 -- `jettyfig::lay_out`: an accepted text's line, whose part of twice its length is lent and comes back with the classes.
 use Prim.Native.Nat.{ℕ, ◌+◌, ◌*◌, ◌≤◌}
-use mathlib.Core.List.{◌++◌}
-use mathlib.Core.Path.{◌≡◌, sym, ap, ◌∙◌, subst}
+use mathlib.Core.Option.{Option, some}
+use mathlib.Core.List.{List}
+use mathlib.Core.Path.{◌≡◌, refl, sym, ap, ◌∙◌}
 use native.Mathlib.Omega.{arith}
-use lib.ListN.{length, take, drop}
+use lib.ListN.{length}
+use Rattle.std.specs.Prelude.{Result, Ok, Err, IsErrAnd}
 use Rattle.definition.specs.Limits.{most_characters}
+use Rattle.definition.specs.Refusals.{Refusal}
 use Rattle.definition.specs.Utf8.{decoded}
+use Rattle.definition.specs.Call.{text_refusal}
+use Rattle.utf8.specs.declared.TextFault.{TextFault}
+use Rattle.utf8.specs.declared.TextFault.TheVariants as TextFault
 use Rattle.utf8.specs.Read.{text_means, few_read}
+use Rattle.jettyfig.specs.declared.Refusal.{Refusal as Refused}
+use Rattle.jettyfig.specs.Verdicts.{refusal_means, verdict_means, of_text, passed_on}
 use Rattle.jettyfig.proofs.Parts.{lent_length, laid_out}
 use Rattle.jettyfig.proofs.lay_out.Goals as goal
 
-pub overflow_add-n : goal.overflow_add-n
-overflow_add-n c =
-    let counted : (c.in-Characters.n) ≡ length (decoded c.args.text.now) = c.read_line-read.ensures.count c.in-Characters.n c.in-Characters.is in
-    let few : (c.in-Characters.n) ≤ most_characters = omega (arith, (counted), few_read c.args.text.now c.read_line-read.result c.in-Characters.n c.in-Characters.is c.read_line-read.ensures.refusal) in
-    omega (arith, few)
+-- a text's fault is its refusal
+told : (f : TextFault) → some (refusal_means (of_text f)) ≡ text_means (Err f)
+unfolding text_means
+told (TextFault.NotUtf8 at) = refl
+told TextFault.TooLong = refl
+told (TextFault.LeftOut at) = refl
 
-pub overflow_mul-n : goal.overflow_mul-n
-overflow_mul-n c =
-    let counted : (c.in-Characters.n) ≡ length (decoded c.args.text.now) = c.read_line-read.ensures.count c.in-Characters.n c.in-Characters.is in
-    let few : (c.in-Characters.n) ≤ most_characters = omega (arith, (counted), few_read c.args.text.now c.read_line-read.result c.in-Characters.n c.in-Characters.is c.read_line-read.ensures.refusal) in
-    omega (arith, few)
+few : (s : List ℕ) (n : ℕ) → text_means (Ok n) ≡ text_refusal s → n ≡ length (decoded s) → n ≤ most_characters
+few s n e k = omega (arith, k, few_read s (Ok n) n refl e)
+
+full : (s line old : List ℕ) (n : ℕ) → text_means (Ok n) ≡ text_refusal s → n ≡ length (decoded s) → length line ≡ length old
+    → (length (decoded s) ≤ most_characters → 2 * (length (decoded s) + 3) ≤ length old) → 2 * (n + 3) ≤ length line
+full s line old n e k l r = let h = few s n e k in omega (arith, k, l, r (omega (arith, k, h)))
+
+pub overflow_add-count : goal.overflow_add-count
+overflow_add-count c = let e = c.in_ok-count.ensures in let h = few c.args.text.now c.in_ok-count.count e.refusal e.count in omega (arith, h)
+
+pub overflow_mul-count : goal.overflow_mul-count
+overflow_mul-count c = let e = c.in_ok-count.ensures in let h = few c.args.text.now c.in_ok-count.count e.refusal e.count in omega (arith, h)
 
 pub slice_bounds-classify-end : goal.slice_bounds-classify-end
 slice_bounds-classify-end c =
-    let counted : (c.in-Characters.n) ≡ length (decoded c.args.text.now) = c.read_line-read.ensures.count c.in-Characters.n c.in-Characters.is in
-    let few : (c.in-Characters.n) ≤ most_characters = omega (arith, (counted), few_read c.args.text.now c.read_line-read.result c.in-Characters.n c.in-Characters.is c.read_line-read.ensures.refusal) in
-    let full : 2 * (c.in-Characters.n + 3) ≤ length (c.read_line-read.new.line) = omega (arith, (counted), c.read_line-read.auto.line, c.requires.1.1 (omega (arith, (counted), (few)))) in
-    omega (arith, few, full)
+    let e = c.in_ok-count.ensures in
+    full c.args.text.now c.read_line.new.line c.args.line.now c.in_ok-count.count e.refusal e.count c.read_line.auto.line c.requires.1.1
 
-pub slice_bounds-classify-end-in-Characters : goal.slice_bounds-classify-end-in-Characters
-slice_bounds-classify-end-in-Characters c =
-    let counted : (c.in-Characters.n) ≡ length (decoded c.args.text.now) = c.read_line-read.ensures.count c.in-Characters.n c.in-Characters.is in
-    let few : (c.in-Characters.n) ≤ most_characters = omega (arith, (counted), few_read c.args.text.now c.read_line-read.result c.in-Characters.n c.in-Characters.is c.read_line-read.ensures.refusal) in
-    let full : 2 * (c.in-Characters.n + 3) ≤ length (c.read_line-read.new.line) = omega (arith, (counted), c.read_line-read.auto.line, c.requires.1.1 (omega (arith, (counted), (few)))) in
-    let lent : length (take (2 * (c.in-Characters.n + 3)) c.read_line-read.new.line) ≡ 2 * (c.in-Characters.n + 3) = lent_length c.read_line-read.new.line (decoded c.args.text.now) c.in-Characters.n (full) (c.read_line-read.ensures.line c.in-Characters.n c.in-Characters.is) in
-    sym (lent)
+pub slice_bounds-classify-end-2 : goal.slice_bounds-classify-end-2
+slice_bounds-classify-end-2 c =
+    let e = c.in_ok-count.ensures in
+    sym (lent_length c.read_line.new.line (decoded c.args.text.now) c.in_ok-count.count
+    (full c.args.text.now c.read_line.new.line c.args.line.now c.in_ok-count.count e.refusal e.count c.read_line.auto.line c.requires.1.1) e.line)
 
 pub classify-requires : goal.classify-requires
 classify-requires c =
-    let counted : (c.in-Characters.n) ≡ length (decoded c.args.text.now) = c.read_line-read.ensures.count c.in-Characters.n c.in-Characters.is in
-    let few : (c.in-Characters.n) ≤ most_characters = omega (arith, (counted), few_read c.args.text.now c.read_line-read.result c.in-Characters.n c.in-Characters.is c.read_line-read.ensures.refusal) in
-    let full : 2 * (c.in-Characters.n + 3) ≤ length (c.read_line-read.new.line) = omega (arith, (counted), c.read_line-read.auto.line, c.requires.1.1 (omega (arith, (counted), (few)))) in
-    let lent : length (take (2 * (c.in-Characters.n + 3)) c.read_line-read.new.line) ≡ 2 * (c.in-Characters.n + 3) = lent_length c.read_line-read.new.line (decoded c.args.text.now) c.in-Characters.n (full) (c.read_line-read.ensures.line c.in-Characters.n c.in-Characters.is) in
+    let e = c.in_ok-count.ensures in
+    let lent = lent_length c.read_line.new.line (decoded c.args.text.now) c.in_ok-count.count
+    (full c.args.text.now c.read_line.new.line c.args.line.now c.in_ok-count.count e.refusal e.count c.read_line.auto.line c.requires.1.1) e.line in
     (c.requires.0, omega (arith, lent))
 
-pub returns-in-Characters : goal.returns-in-Characters
+pub returns-in_err-count-clause-refusal : goal.returns-in_err-count-clause-refusal
+returns-in_err-count-clause-refusal c =
+    passed_on _ _ c.from_residual.ensures.1 ∙ told c.in_err-count.field-0.0 ∙ c.in_err-count.ensures.refusal
+
+pub returns-clause-refusal : goal.returns-clause-refusal
 unfolding text_means
-returns-in-Characters c =
-    let counted : (c.in-Characters.n) ≡ length (decoded c.args.text.now) = c.read_line-read.ensures.count c.in-Characters.n c.in-Characters.is in
-    let few : (c.in-Characters.n) ≤ most_characters = omega (arith, (counted), few_read c.args.text.now c.read_line-read.result c.in-Characters.n c.in-Characters.is c.read_line-read.ensures.refusal) in
-    let full : 2 * (c.in-Characters.n + 3) ≤ length (c.read_line-read.new.line) = omega (arith, (counted), c.read_line-read.auto.line, c.requires.1.1 (omega (arith, (counted), (few)))) in
-    let classes = c.args.classes.now in record {
-      refusal = ap text_means (sym c.in-Characters.is) ∙ c.read_line-read.ensures.refusal;
-      line = λ m q.
-          let j : c.in-Characters.n ≡ m = cc in (
-            sym j ∙ counted,
-            subst (λ (i : ℕ). i ≤ most_characters) j (few),
-            ap (λ (i : ℕ). take (2 * (i + 3)) (c.classify.new.line ++ drop (2 * (c.in-Characters.n + 3)) c.read_line-read.new.line)) (sym j)
-                ∙ laid_out c.read_line-read.new.line (decoded c.args.text.now) c.in-Characters.n (full) (c.read_line-read.ensures.line c.in-Characters.n c.in-Characters.is) classes c.classify.new.line c.classify.ensures,
-          );
-    }
+returns-clause-refusal c = c.in_ok-count.ensures.refusal
+
+pub returns-clause-line : goal.returns-clause-line
+returns-clause-line c =
+    let e = c.in_ok-count.ensures in (
+      e.count,
+      few c.args.text.now c.in_ok-count.count e.refusal e.count,
+      laid_out c.read_line.new.line (decoded c.args.text.now) c.in_ok-count.count
+          (full c.args.text.now c.read_line.new.line c.args.line.now c.in_ok-count.count e.refusal e.count c.read_line.auto.line c.requires.1.1)
+          e.line c.args.classes.now c.classify.new.line c.classify.ensures,
+    )

@@ -4,31 +4,33 @@ use mathlib.Core.List.{List}
 use mathlib.Core.Path.{◌≡◌, sym, ap, ◌∙◌}
 use Prim.Native.Nat.{ℕ}
 use native.Mathlib.Omega.{arith}
+use lib.ListN.{length, replicate}
+use Rattle.std.proofs.Common.{rules}
 use Rattle.definition.specs.Call.{Inputs, uncounted}
 use Rattle.output.specs.Shows.{Shows}
-use Rattle.jettyfig.specs.Verdicts.{returned}
 use Rattle.jettyfig.specs.Calls.{shown_large, shown-fits, shown_misses}
 use Rattle.jettyfig.proofs.show.Goals as goal
 
-pub returns-then-is_uncounted : goal.returns-then-is_uncounted
-returns-then-is_uncounted c =
-    let large : (w : List ℕ) → (out : List ℕ) → (out' : List ℕ) → (s : Shows w out out' c.put_shown-needed.result) → (i : Inputs) → (m : i.mode ≡ c.args.built.mode) → (b : Bool) → (e : c.is_uncounted.result ≡ b) → uncounted i.mode w ≡ b = λ w. λ out. λ out'. λ s. λ i. λ m. λ b. λ e. ap (λ (n : ℕ). uncounted n w) m ∙ sym (c.is_uncounted.ensures w s.needed) ∙ e in
-    λ i l m vowels w told lent e.
-    let s = c.put_shown-needed.ensures vowels w told lent e in
-    ap (λ r. returned r c.clear.new.s) c.refuse.ensures
-    ∙ shown_large _ _ _ _ s c.requires.1 i l c.args.built.count _ c.clear.ensures (large _ _ _ s i m _ c.if-is_uncounted.true)
+-- a listing that is told to be too large, or not, is so
+large : (w : List ℕ) (b : Bool) (m n : ℕ) → m ≡ n → b ≡ uncounted n w → (t : Bool) → b ≡ t → uncounted m w ≡ t
+large w b m n e h t k = ap (λ (i : ℕ). uncounted i w) e ∙ sym h ∙ k
 
-pub returns-then-out-needed : goal.returns-then-out-needed
-returns-then-out-needed c =
-    let large : (w : List ℕ) → (out : List ℕ) → (out' : List ℕ) → (s : Shows w out out' c.put_shown-needed.result) → (i : Inputs) → (m : i.mode ≡ c.args.built.mode) → (b : Bool) → (e : c.is_uncounted.result ≡ b) → uncounted i.mode w ≡ b = λ w. λ out. λ out'. λ s. λ i. λ m. λ b. λ e. ap (λ (n : ℕ). uncounted n w) m ∙ sym (c.is_uncounted.ensures w s.needed) ∙ e in
-    λ i l m vowels w told lent e.
+pub returns-then-is_uncounted-clause-written : goal.returns-then-is_uncounted-clause-written
+returns-then-is_uncounted-clause-written c = λ i l m vowels w told lent e.
     let s = c.put_shown-needed.ensures vowels w told lent e in
-    ap (λ r. returned r c.clear-then-out-needed.new.s) c.refuse-then-out-needed.ensures
-    ∙ shown_misses _ _ _ _ s c.requires.1 i l c.args.built.count _ c.clear-then-out-needed.ensures (large _ _ _ s i m _ c.if-is_uncounted.false) (omega (arith, c.if-out-needed.true))
+    let z : c.fill.new.self ≡ replicate (length c.put_shown-needed.new.out) 0 = search rules in
+    shown_large _ _ _ _ s c.requires.1 i l c.args.built.count _ z
+    (large _ c.is_uncounted.result i.mode c.args.built.mode m (c.is_uncounted.ensures _ s.needed) _ c.if-is_uncounted.true)
 
-pub returns : goal.returns
-returns c =
-    let large : (w : List ℕ) → (out : List ℕ) → (out' : List ℕ) → (s : Shows w out out' c.put_shown-needed.result) → (i : Inputs) → (m : i.mode ≡ c.args.built.mode) → (b : Bool) → (e : c.is_uncounted.result ≡ b) → uncounted i.mode w ≡ b = λ w. λ out. λ out'. λ s. λ i. λ m. λ b. λ e. ap (λ (n : ℕ). uncounted n w) m ∙ sym (c.is_uncounted.ensures w s.needed) ∙ e in
-    λ i l m vowels w told lent e.
+pub returns-then-memory-needed-clause-written : goal.returns-then-memory-needed-clause-written
+returns-then-memory-needed-clause-written c = λ i l m vowels w told lent e.
     let s = c.put_shown-needed.ensures vowels w told lent e in
-    shown-fits _ _ _ _ s c.requires.1 i l c.args.built.count (large _ _ _ s i m _ c.if-is_uncounted.false) (omega arith)
+    let z : c.fill-then-memory-needed.new.self ≡ replicate (length c.put_shown-needed.new.out) 0 = search rules in
+    shown_misses _ _ _ _ s c.requires.1 i l c.args.built.count _ z
+    (large _ c.is_uncounted.result i.mode c.args.built.mode m (c.is_uncounted.ensures _ s.needed) _ c.if-is_uncounted.false) (omega arith)
+
+pub returns-clause-written : goal.returns-clause-written
+returns-clause-written c = λ i l m vowels w told lent e.
+    let s = c.put_shown-needed.ensures vowels w told lent e in
+    shown-fits _ _ _ _ s c.requires.1 i l c.args.built.count
+    (large _ c.is_uncounted.result i.mode c.args.built.mode m (c.is_uncounted.ensures _ s.needed) _ c.if-is_uncounted.false) (omega arith)
