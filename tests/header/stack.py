@@ -14,8 +14,8 @@ ROOT = pathlib.Path(__file__).resolve().parents[2]
 HEADER = ROOT / "include" / "jettyfig.h"
 OBJDUMP = [ROOT / "tests" / "x86_64", "objdump", "-dr", "--no-show-raw-insn"]
 ENTRY = "jettyfig_romanize"
-# what a call with a text of few characters doesn't enter
-LONG_TEXTS = "jettyfig::respond_long"
+# the function that has the arrays, once for each size; a call with a text of few characters doesn't enter the larger one
+ARRAYS = re.compile(r"jettyfig::respond::<=(\d+),=\d+>$")
 # what the C library's functions may take: little themselves, but where they are bound at their first call the dynamic linker
 # runs there, with all vector registers saved (3,144 bytes with AVX-512)
 OUTSIDE = {"memcpy": 4096, "memmove": 4096, "memset": 4096}
@@ -155,10 +155,12 @@ def told(walked, macro, left_out):
 def main(library):
     listing = subprocess.run([*OBJDUMP, library], capture_output=True, text=True, check=True).stdout
     walked = {name: walk(name, probed(name, code)) for name, code in functions(listing).items()}
-    if LONG_TEXTS not in walked:
-        sys.exit("%s is not in the library: it was compiled into what calls it, and short texts take as much stack as long ones" % LONG_TEXTS)
+    sizes = sorted((int(ARRAYS.match(name).group(1)), name) for name in walked if ARRAYS.match(name))
+    if len(sizes) != 2:
+        sys.exit("%d functions have the arrays, and not one for each size: one that is compiled into what calls it makes short texts take as "
+                 "much stack as long ones" % len(sizes))
     wrong = told(walked, "JETTYFIG_STACK", ())
-    return told(walked, "JETTYFIG_SHORT_STACK", (LONG_TEXTS,)) or wrong
+    return told(walked, "JETTYFIG_SHORT_STACK", (sizes[1][1],)) or wrong
 
 
 
