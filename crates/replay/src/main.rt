@@ -157,6 +157,7 @@ fn run_all(input: &[u8]) -> Tally
     let mut at: usize = 0;
     let mut calls: u64 = 0;
     let mut differ: u64 = 0;
+    // a `while`: each turn moves by the bytes of the call that was run
     while at < input.len() {
         let ran = run_one(input, at, &mut slots, &mut room, &mut out);
         if !ran.right {

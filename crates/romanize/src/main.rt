@@ -306,6 +306,7 @@ fn print_edges<W: Write>(out: &mut W, listing: &[u8]) -> io::Result<()>
     requires { length listing.now < 16777216 }
 {
     let mut at: usize = 5;
+    // a `while`: each turn moves by the row's own size
     while at < listing.len() {
         let len = base::two(listing, at, 0) as usize;
         print_edge(out, listing, at, len)?;

@@ -74,6 +74,7 @@ pub fn fill_index(rules: &[u8], index: &mut [u32])
 {
     let mut at: usize = 5;
     let mut n: usize = 0;
+    // a `while`: each turn moves by the row's own size
     while at < rules.len() {
         if index.len() <= n / INDEX_STEP {
             return;
@@ -167,6 +168,7 @@ fn past_lower(rules: &[u8], from: usize, w: &[u32]) -> usize
     let mut at = from;
     if 0 < w.len() {
         let sought = w[0];
+        // a `while`: each turn moves by the row's own size
         while at < rules.len() {
             let Some(first) = first_of(rules, at) else {
                 return at;
@@ -187,6 +189,7 @@ fn seek(rules: &[u8], index: &[u32], w: &[u32]) -> usize
 {
     let start = walk_start(rules, index, w);
     let mut at = past_lower(rules, start, w);
+    // a `while`: each turn moves by the row's own size
     while at < rules.len() {
         if !is_below(rules, at, w) {
             return at;
@@ -222,6 +225,7 @@ pub fn look_up(rules: &[u8], index: &[u32], w: &[u32]) -> Found
     let first = seek(rules, index, w);
     let mut at = first;
     let mut count: usize = 0;
+    // a `while`: each turn moves by the row's own size
     while at < rules.len() {
         if !is_equal(rules, at, w) {
             let more = starts_with(rules, at, w);

@@ -103,7 +103,7 @@ fn first_wrong(table: &[u8]) -> Result<(), TableFault>
     let mut at = table_blocks::HEAD_BYTES;
     let mut left = table_blocks::MOST_ROWS;
     let mut low = 0;
-    // a `while`, as in the walks below: each turn moves by the row's own size
+    // a `while`: each turn moves by the row's own size
     while at < table.len() {
         if left == 0 || !is_right(table, at, low) {
             return Err(TableFault { at });
@@ -134,6 +134,7 @@ pub fn fill_index(table: &[u8], index: &mut [u32])
 {
     let mut at = table_blocks::HEAD_BYTES;
     let mut n = 0;
+    // a `while`: each turn moves by the row's own size
     while at < table.len() {
         if index.len() <= n / rule_table::INDEX_STEP {
             return;
@@ -186,6 +187,7 @@ pub fn row_of(table: &[u8], index: &[u32], c: u32) -> usize
         return 0;
     }
     let mut at = walk_start(table, index, c);
+    // a `while`: each turn moves by the row's own size
     while at < table.len() {
         let d = base::three(table, at, 0);
         if d == c {
@@ -235,6 +237,7 @@ fn first_nested(table: &[u8], index: &[u32]) -> Result<(), TableFault>
     ensures { table_means result ≡ nested_fault table.now }
 {
     let mut at = table_blocks::HEAD_BYTES;
+    // a `while`: each turn moves by the row's own size
     while at < table.len() {
         if is_nested(table, index, at) {
             return Err(TableFault { at });
@@ -298,6 +301,7 @@ fn gap_of(table: &[u8], index: &[u32], c: u32) -> Gap
 {
     let mut at = walk_start(table, index, c);
     let mut first = low_of(table, at);
+    // a `while`: each turn moves by the row's own size
     while at < table.len() {
         let d = base::three(table, at, 0);
         if c < d {
