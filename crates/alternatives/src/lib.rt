@@ -24,7 +24,7 @@ ghost use Rattle.alternatives.specs.Written.{Offering, Offered, EdgeReady, PathR
 
 use edge::Numbers;
 use offers::Asked;
-use words::Span;
+use words::{Dicts, Span};
 
 // An edge with fewer rows than this is offered so little that no filter is kept.
 const FEW_ROWS: usize = 8;
@@ -43,8 +43,7 @@ pub struct Listed {
 // Was a text offered that is number `k` of what a row offers: by the rows before, or by this one?
 #[tactic(auto, using(base::specs::ListLaws::any_append))]
 fn is_offered(
-    rules: &[u8],
-    code: &[u8],
+    dicts: &Dicts,
     asked: Asked,
     before: usize,
     row: usize,
@@ -53,19 +52,18 @@ fn is_offered(
     k: usize,
     w: &[u8],
 ) -> bool
-    requires { Rows rules.now asked.first before × Row (drop row rules.now) × Spoken e text.now }
-    ensures { result ≡ any (same w.now) (offered (edge_by e text.now) code.now asked rules.now before
-        ++ row_offered (edge_by e text.now) asked rules.now row k) }
+    requires { Rows dicts.now.rules.now asked.first before × Row (drop row dicts.now.rules.now) × Spoken e text.now }
+    ensures { result ≡ any (same w.now) (offered (edge_by e text.now) dicts.now.code.now asked dicts.now.rules.now before
+        ++ row_offered (edge_by e text.now) asked dicts.now.rules.now row k) }
 {
-    offers::rows_offer(rules, code, asked, before, e, text, w)
-        || offers::row_offers(rules, row, asked.readings, e, text, k, w)
+    offers::rows_offer(dicts.rules, dicts.code, asked, before, e, text, w)
+        || offers::row_offers(dicts.rules, row, asked.readings, e, text, k, w)
 }
 
 // Is a text that a row offers new: not the edge's own, and not offered before? What the filter surely doesn't hold was not offered.
 #[tactic(auto, using(lent_bytes::specs::Library::same_texts, crate::proofs::Turns::own_again))]
 fn is_new(
-    rules: &[u8],
-    code: &[u8],
+    dicts: &Dicts,
     asked: Asked,
     before: usize,
     row: usize,
@@ -75,15 +73,15 @@ fn is_new(
     k: usize,
     w: &[u8],
 ) -> bool
-    requires { Rows rules.now asked.first before × Row (drop row rules.now) × Spoken e text.now × All Low w.now
-        × Marked (offered (edge_by e text.now) code.now asked rules.now before ++ row_offered (edge_by e text.now) asked rules.now row k) cells.now }
-    ensures { result ≡ not (any (same w.now) (earlier (edge_by e text.now) code.now asked rules.now before
-        ++ row_offered (edge_by e text.now) asked rules.now row k)) }
+    requires { Rows dicts.now.rules.now asked.first before × Row (drop row dicts.now.rules.now) × Spoken e text.now × All Low w.now
+        × Marked (offered (edge_by e text.now) dicts.now.code.now asked dicts.now.rules.now before ++ row_offered (edge_by e text.now) asked dicts.now.rules.now row k) cells.now }
+    ensures { result ≡ not (any (same w.now) (earlier (edge_by e text.now) dicts.now.code.now asked dicts.now.rules.now before
+        ++ row_offered (edge_by e text.now) asked dicts.now.rules.now row k)) }
 {
     if w == text {
         return false;
     }
-    !(marks::may_hold(cells, w) && is_offered(rules, code, asked, before, row, e, text, k, w))
+    !(marks::may_hold(cells, w) && is_offered(dicts, asked, before, row, e, text, k, w))
 }
 
 // The row of an alternative, which has its edge's span, where it is new.
@@ -108,8 +106,7 @@ fn put_new(out: &mut [u8], at: usize, new: bool, e: Numbers, note: u8, w: &[u8])
 fn put_offers(
     out: &mut [u8],
     at: usize,
-    rules: &[u8],
-    code: &[u8],
+    dicts: &Dicts,
     asked: Asked,
     before: usize,
     row: usize,
@@ -117,18 +114,18 @@ fn put_offers(
     text: &[u8],
     cells: &mut [u8],
 ) -> usize
-    requires { Offering rules.now code.now asked before row e text.now at cells.old }
-    ensures { Offered rules.now code.now asked before (edge_by e text.now)
-        (offers asked.readings (edge_by e text.now) (rule_of (drop row rules.now)))
+    requires { Offering dicts.now.rules.now dicts.now.code.now asked before row e text.now at cells.old }
+    ensures { Offered dicts.now.rules.now dicts.now.code.now asked before (edge_by e text.now)
+        (offers asked.readings (edge_by e text.now) (rule_of (drop row dicts.now.rules.now)))
         (at, out.old) (result, out.new) cells.new }
 {
-    let o = offers::offers_of(rules, row, asked.readings, e, text);
+    let o = offers::offers_of(dicts.rules, row, asked.readings, e, text);
     let mut bytes = [0u8; offers::MOST_OFFER];
     let mut to = at;
     for k in 0..o.count() {
-        let len = offers::put_offer(&mut bytes, rules, row, o, e, text, k);
+        let len = offers::put_offer(&mut bytes, dicts.rules, row, o, e, text, k);
         let w = &bytes[..len];
-        let new = is_new(rules, code, asked, before, row, e, text, cells, k, w);
+        let new = is_new(dicts, asked, before, row, e, text, cells, k, w);
         to = put_new(out, to, new, e, o.offer(k).note(), w);
         marks::mark(cells, w);
     }
@@ -139,8 +136,7 @@ fn put_offers(
 fn put_holding(
     out: &mut [u8],
     at: usize,
-    rules: &[u8],
-    code: &[u8],
+    dicts: &Dicts,
     asked: Asked,
     before: usize,
     row: usize,
@@ -148,15 +144,15 @@ fn put_holding(
     text: &[u8],
     cells: &mut [u8],
 ) -> usize
-    requires { Offering rules.now code.now asked before row e text.now at cells.old }
-    ensures { Offered rules.now code.now asked before (edge_by e text.now)
-        (holding_offers (edge_by e text.now) code.now asked (rule_of (drop row rules.now)))
+    requires { Offering dicts.now.rules.now dicts.now.code.now asked before row e text.now at cells.old }
+    ensures { Offered dicts.now.rules.now dicts.now.code.now asked before (edge_by e text.now)
+        (holding_offers (edge_by e text.now) dicts.now.code.now asked (rule_of (drop row dicts.now.rules.now)))
         (at, out.old) (result, out.new) cells.new }
 {
-    if offers::may_offer(rules, row)
-        && rule_choice::holds(rules, code, row, asked.start, asked.end)
+    if offers::may_offer(dicts.rules, row)
+        && rule_choice::holds(dicts.rules, dicts.code, row, asked.start, asked.end)
     {
-        put_offers(out, at, rules, code, asked, before, row, e, text, cells)
+        put_offers(out, at, dicts, asked, before, row, e, text, cells)
     } else {
         at
     }
@@ -167,24 +163,23 @@ fn put_holding(
 fn put_rows(
     out: &mut [u8],
     at: usize,
-    rules: &[u8],
-    code: &[u8],
+    dicts: &Dicts,
     asked: Asked,
     rows: usize,
     e: Numbers,
     text: &[u8],
     cells: &mut [u8],
 ) -> usize
-    requires { Rows rules.now asked.first rows × (rows ≤ most_rows) × Spoken e text.now × Countable at edge_bytes × Blank cells.old }
+    requires { Rows dicts.now.rules.now asked.first rows × (rows ≤ most_rows) × Spoken e text.now × Countable at edge_bytes × Blank cells.old }
     ensures { Puts true (found_by asked.readings (edge_by e text.now)
-        (holding code.now asked.start asked.end rules.now asked.first rows)) edge_bytes
+        (holding dicts.now.code.now asked.start asked.end dicts.now.rules.now asked.first rows)) edge_bytes
         (at, out.old) (result, out.new) }
 {
     let mut to = at;
     let mut row = asked.first;
     for before in 0..rows {
-        to = put_holding(out, to, rules, code, asked, before, row, e, text, cells);
-        row += rule_row::size(rules, row);
+        to = put_holding(out, to, dicts, asked, before, row, e, text, cells);
+        row += rule_row::size(dicts.rules, row);
     }
     to
 }
@@ -193,21 +188,20 @@ fn put_rows(
 fn put_filtered(
     out: &mut [u8],
     at: usize,
-    rules: &[u8],
-    code: &[u8],
+    dicts: &Dicts,
     asked: Asked,
     rows: usize,
     e: Numbers,
     text: &[u8],
     cells: &mut [u8],
 ) -> usize
-    requires { Rows rules.now asked.first rows × (rows ≤ most_rows) × Spoken e text.now × Countable at edge_bytes }
+    requires { Rows dicts.now.rules.now asked.first rows × (rows ≤ most_rows) × Spoken e text.now × Countable at edge_bytes }
     ensures { Puts true (found_by asked.readings (edge_by e text.now)
-        (holding code.now asked.start asked.end rules.now asked.first rows)) edge_bytes
+        (holding dicts.now.code.now asked.start asked.end dicts.now.rules.now asked.first rows)) edge_bytes
         (at, out.old) (result, out.new) }
 {
     cells.fill(0);
-    put_rows(out, at, rules, code, asked, rows, e, text, cells)
+    put_rows(out, at, dicts, asked, rows, e, text, cells)
 }
 
 // How many of so many free bytes the filter gets.
@@ -226,28 +220,25 @@ fn filter_len(rows: usize, free: usize) -> usize
 fn put_edge_alternatives(
     out: &mut [u8],
     at: usize,
-    rules: &[u8],
-    ready: &[u32],
-    code: &[u8],
+    dicts: &Dicts,
     line: &[u32],
     places: &mut [u32],
     free: &mut [u8],
     e: Numbers,
     text: &[u8],
 ) -> usize
-    requires { Prepared rules.now ready.now × Spoken e text.now × (e.from < e.to) × (e.to ≤ size_in line.now)
-        × Countable at edge_bytes }
-    ensures { Alternatives rules.now ready.now code.now line.now places.old places.new
+    requires { Spoken e text.now × (e.from < e.to) × (e.to ≤ size_in line.now) × Countable at edge_bytes }
+    ensures { Alternatives dicts.now.rules.now dicts.now.ready.now dicts.now.code.now line.now places.old places.new
         (edge_by e text.now ∷ []) (at, out.old) (result, out.new) × (result ≤ at + edge_bytes) }
 {
-    let choices = words::choices_in(ready);
+    let choices = words::choices_in(dicts.ready);
     let start = words::is_at_start_of_word(line, places, e.from);
-    let end = words::is_at_end_of_word(rules, ready, line, e.to);
+    let end = words::is_at_end_of_word(dicts, line, e.to);
     let span = Span {
         from: e.from,
         to: e.to,
     };
-    let look = words::look_up(rules, ready, line, span);
+    let look = words::look_up(dicts, line, span);
     let asked = Asked {
         start,
         end,
@@ -258,8 +249,7 @@ fn put_edge_alternatives(
     put_filtered(
         out,
         at,
-        rules,
-        code,
+        dicts,
         asked,
         look.found.count,
         e,
@@ -271,9 +261,7 @@ fn put_edge_alternatives(
 // The alternatives of the edge that the path has found, if any. Its text is copied, so that the room behind the texts can be lent.
 fn put_best_alternatives(
     out: &mut [u8],
-    rules: &[u8],
-    ready: &[u32],
-    code: &[u8],
+    dicts: &Dicts,
     line: &[u32],
     slots: &[u8],
     room: &mut [u8],
@@ -281,8 +269,8 @@ fn put_best_alternatives(
     listed: Listed,
     best: Option<usize>,
 ) -> usize
-    requires { EdgeReady rules.now ready.now line.now slots.now room.old listed best }
-    ensures { Alternatives rules.now ready.now code.now line.now places.old places.new
+    requires { EdgeReady dicts.now.rules.now dicts.now.ready.now line.now slots.now room.old listed best }
+    ensures { Alternatives dicts.now.rules.now dicts.now.ready.now dicts.now.code.now line.now places.old places.new
         (join (best_means room.old slots.now best) []) (listed.at, out.old) (result, out.new) × (result ≤ listed.at + edge_bytes)
         × (take listed.used room.new ≡ take listed.used room.old) }
 {
@@ -297,9 +285,7 @@ fn put_best_alternatives(
     put_edge_alternatives(
         out,
         listed.at,
-        rules,
-        ready,
-        code,
+        dicts,
         line,
         places,
         &mut room[listed.used..],
@@ -311,9 +297,7 @@ fn put_best_alternatives(
 // The alternatives of the path, edge by edge.
 pub fn put_alternatives(
     out: &mut [u8],
-    rules: &[u8],
-    ready: &[u32],
-    code: &[u8],
+    dicts: &Dicts,
     line: &[u32],
     slots: &[u8],
     room: &mut [u8],
@@ -321,8 +305,8 @@ pub fn put_alternatives(
     starts: &[u32],
     listed: Listed,
 ) -> usize
-    requires { PathReady rules.now ready.now line.now slots.now room.old starts.now listed }
-    ensures { PathAlternatives rules.now ready.now code.now line.now places.old
+    requires { PathReady dicts.now.rules.now dicts.now.ready.now line.now slots.now room.old starts.now listed }
+    ensures { PathAlternatives dicts.now.rules.now dicts.now.ready.now dicts.now.code.now line.now places.old
         (edges_of room.old listed.count slots.now) (listed.at, out.old) (result, out.new) }
 {
     let n = words::text_len(line);
@@ -332,9 +316,7 @@ pub fn put_alternatives(
     while p < n {
         let best = standing::best_right_neighbor_edge(slots, starts, p);
         let here = Listed { at: to, ..listed };
-        to = put_best_alternatives(
-            out, rules, ready, code, line, slots, room, places, here, best,
-        );
+        to = put_best_alternatives(out, dicts, line, slots, room, places, here, best);
         p = paths::next_from(slots, best, p);
     }
     to

@@ -39,7 +39,7 @@ fn is_lower_at(line: &[u32], i: usize) -> bool
 
 // Do the later letters of a span's text become small? Behind the line's text stands a space, which is not lower case.
 pub fn makes_small(line: &[u32], choices: Choices, text: &[u8], span: Span) -> bool
-    requires { (span.to ≤ size_in line.now) × (span.from < span.to) }
+    requires { span.to ≤ size_in line.now }
     ensures { (x : World) → Lined x line.now → result ≡ capitalizes (choices_of choices) (kinds x) x.text (over span text.now) }
 {
     if choices.capitals != 1 || span.from + 1 != span.to {

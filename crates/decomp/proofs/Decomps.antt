@@ -30,6 +30,7 @@ use Rattle.edge.specs.Answers.{Answer}
 use Rattle.edge.specs.Stored.{edge_count}
 use Rattle.noting.specs.Keeps.{Keeps}
 use Rattle.words.specs.Given.{World, kinds, size, choices_in}
+use Rattle.words.specs.declared.given.Dicts.{Dicts}
 use Rattle.passes.specs.Reached.{Over, over_keeps, state_of, Reached, reached_since}
 use Rattle.decomp_text.specs.declared.Beside.{Beside}
 use Rattle.decomp_text.specs.declared.Spelling.{Spelling}
@@ -53,15 +54,16 @@ module _ {b : List ℕ} {c row : ℕ} (f : EdgeFound b c row) where
   stands_some l = sym f.means ∙ rw (ne_eqb row 0 (λ z. omega arith)) refl
 
 -- A world over what was lent, of which nothing has overflowed, and no character from `p` on has its edge yet
-module _ (rules ready line classes vowels decompositions code S R P : List ℕ) (filled : Filled) (p : ℕ) (w : World) (same : w.classes ≡ classes)
-    (o : Over w ready line S R P filled)
-    (held : overflow (tables_of w.choices rules w.classes vowels code) (decompositions_of decompositions) w.text (length S / slot_bytes) (length R) w.edges ≡ none)
+module _ (dicts : Dicts) (code line S R P : List ℕ) (filled : Filled) (p : ℕ) (w : World) (same : w.classes ≡ dicts.classes.now)
+    (o : Over w dicts.ready.now line S R P filled)
+    (held : overflow (tables_of w.choices dicts.rules.now w.classes dicts.vowels.now code) (decompositions_of dicts.decompositions.now) w.text
+    (length S / slot_bytes) (length R) w.edges ≡ none)
     (before : Before p w.edges) where
   abbrev D : Tables
-  D = tables_of w.choices rules w.classes vowels code
+  D = tables_of w.choices dicts.rules.now w.classes dicts.vowels.now code
 
   abbrev ds : List Decomposition
-  ds = decompositions_of decompositions
+  ds = decompositions_of dicts.decompositions.now
 
   abbrev most : ℕ
   most = filled.used + most_bytes
@@ -78,12 +80,12 @@ module _ (rules ready line classes vowels decompositions code S R P : List ℕ) 
       (k-is : k ≡ length S - filled.count * slot_bytes) (r-is : r ≡ length R - filled.used) (bytes_read : List ℕ) where
     -- the tables that it was read by are those of the text, without their code
     abbrev inner : Tables
-    inner = tables_of (choices_in ready) rules classes vowels []
+    inner = tables_of (choices_in dicts.ready.now) dicts.rules.now dicts.classes.now dicts.vowels.now []
 
-    uncoded-is : inner ≡ tables_of w.choices rules w.classes vowels []
+    uncoded-is : inner ≡ tables_of w.choices dicts.rules.now w.classes dicts.vowels.now []
     uncoded-is =
-        ap (λ (c : Choices). tables_of c rules classes vowels []) o.told.choices
-        ∙ ap (λ (l : List ℕ). tables_of w.choices rules l vowels []) (sym same)
+        ap (λ (c : Choices). tables_of c dicts.rules.now dicts.classes.now dicts.vowels.now []) o.told.choices
+        ∙ ap (λ (l : List ℕ). tables_of w.choices dicts.rules.now l dicts.vowels.now []) (sym same)
 
     -- slots and room that were free are what its edges leave
     free : misfit (k / slot_bytes) r (inner_lattice D into).0 ≡ misfit (length S / slot_bytes - length w.edges) (length R - all_bytes w.edges) (inner_lattice D into).0
@@ -102,7 +104,7 @@ module _ (rules ready line classes vowels decompositions code S R P : List ℕ) 
     inner-fits x q = sym free ∙ ap (λ (E : Tables). misfit (k / slot_bytes) r (rule_lattice E into).0) (sym uncoded-is) ∙ q
 
     module _ (S₁ R₁ : List ℕ) (a : length S₁ ≡ length S) (c : length R₁ ≡ length R) where
-      pub leads_lacks : (f : Full) → RowRead rules (choices_in ready) classes vowels into b k r bytes_read (Err f) → Leads S₁ R₁ P (Err (unfit_at f p))
+      pub leads_lacks : (f : Full) → RowRead dicts.rules.now (choices_in dicts.ready.now) dicts.classes.now dicts.vowels.now into b k r bytes_read (Err f) → Leads S₁ R₁ P (Err (unfit_at f p))
       leads_lacks (full.Slots q) h =
           step-slot D ds w.text (kinds w) (size w) S R P filled.count filled.used p most (state_of w P) (over_keeps o) held before into e S₁ R₁ P a c
           q (inner-fits (some (refuse refused_slots q)) h)
@@ -111,7 +113,7 @@ module _ (rules ready line classes vowels decompositions code S R P : List ℕ) 
           q (inner-fits (some (refuse refused_room q)) h)
 
     -- all fits: the text is told, and added unless it is too long
-    module _ (spelling : Spelling) (h : RowRead rules (choices_in ready) classes vowels into b k r bytes_read (Ok spelling)) where
+    module _ (spelling : Spelling) (h : RowRead dicts.rules.now (choices_in dicts.ready.now) dicts.classes.now dicts.vowels.now into b k r bytes_read (Ok spelling)) where
       spelled : Spells (kinds w) bytes_read spelling (decomp_text D w.text p into)
       unfolding inner_string inner_lattice tables_of
       spelled =

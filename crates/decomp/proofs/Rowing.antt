@@ -23,7 +23,6 @@ use Rattle.utf8.specs.Lines.{spaced}
 use Rattle.utf8.specs.Encodings.{Scalars}
 use Rattle.table_classes.specs.Told.{kinds_of}
 use Rattle.table_decompositions.specs.Told.{Placed}
-use Rattle.table_vowels.specs.Told.{FineVowels}
 use Rattle.edge.specs.declared.Taken.{Taken}
 use Rattle.edge.specs.declared.Full.{Full}
 use Rattle.edge.specs.declared.Full.TheVariants.{Slots, Room}
@@ -32,7 +31,8 @@ use Rattle.edge.specs.Slots.{edges_of}
 use Rattle.edge.specs.Asked.{stored_readable}
 use Rattle.standing.specs.Starts.{end_of}
 use Rattle.standing.specs.Stands.{Stands}
-use Rattle.words.specs.Given.{World, kinds, size, size_in, choices_in, Prepared, Told, Lined, lined, line-size}
+use Rattle.words.specs.Given.{World, kinds, size, size_in, choices_in, Told, Lined, lined, line-size}
+use Rattle.words.specs.declared.given.Dicts.{Dicts}
 use Rattle.passes.specs.Reached.{nothing, Over, Reached}
 use Rattle.second_pass.specs.Fallback.{chars_are}
 use Rattle.lattice.specs.Lattice.{Lattice}
@@ -45,12 +45,13 @@ use Rattle.decomp_text.specs.Walking.{Lying}
 use Rattle.decomp.specs.First.{first-over}
 use Rattle.decomp.specs.Rows.{Formable, RowRead, LineReady}
 use Rattle.decomp.specs.Steps.{reached-fits}
+use Rattle.table_vowels.specs.Told.{FineVowels}
 
 -- The lattice of a world without edges, built in slots and room
-module _ {rules ready line S R P : List ℕ} (vowels : List ℕ) (w : World) (o : Over w ready line S R P nothing) (table : Prepared rules ready) (inherent : FineVowels vowels)
-    (S' R' P' : List ℕ) (a : Answer) (built : Lattice rules ready vowels [] line (S, R, P) (S', R', P') a) where
+module _ (dicts : Dicts) (inherent : FineVowels dicts.vowels.now) {line S R P : List ℕ} (w : World) (o : Over w dicts.ready.now line S R P nothing)
+    (S' R' P' : List ℕ) (a : Answer) (built : Lattice dicts.rules.now dicts.ready.now dicts.vowels.now [] line (S, R, P) (S', R', P') a) where
   abbrev D : Tables
-  D = tables_of w.choices rules w.classes vowels []
+  D = tables_of w.choices dicts.rules.now w.classes dicts.vowels.now []
 
   abbrev lattice_of : State
   lattice_of = rule_lattice D w.text
@@ -65,7 +66,7 @@ module _ {rules ready line S R P : List ℕ} (vowels : List ℕ) (w : World) (o 
   lined_so = o.lent.text
 
   ok : Bounded D
-  ok = tables-bounded w.choices rules w.classes vowels [] table.table.accepted lined_so.fine inherent
+  ok = tables-bounded w.choices dicts.rules.now w.classes dicts.vowels.now [] dicts.prepared.table.accepted lined_so.fine inherent
 
   module _ (t : Taken) (e : a ≡ Ok t) where
     fits : Told_of (Ok t)
@@ -88,9 +89,9 @@ module _ {rules ready line S R P : List ℕ} (vowels : List ℕ) (w : World) (o 
 
       -- all fits: the text is spelled
       pub line_read : (b : Beside) (bytes : List ℕ) (s : Spelling) → Held bytes s
-          → ((v : World) (count : ℕ) → Told v ready → Lined v line → Stands S' starts count → All (Ruled v.text) (edges_of R' count S')
+          → ((v : World) (count : ℕ) → Told v dicts.ready.now → Lined v line → Stands S' starts count → All (Ruled v.text) (edges_of R' count S')
           → Spells (kinds v) bytes s (read_as b (joined (path_from (end_of starts) 0 (edges_of R' count S')))))
-          → RowRead rules w.choices w.classes vowels w.text b (length S) (length R) bytes (Ok s)
+          → RowRead dicts.rules.now w.choices w.classes dicts.vowels.now w.text b (length S) (length R) bytes (Ok s)
       unfolding path_of
       line_read b bytes s held h = (
         subst (λ (es : List Edge). Spells (kinds w) bytes s (read_as b (joined (path_from (size w) 0 es)))) fits.came.0.edges
@@ -101,36 +102,36 @@ module _ {rules ready line S R P : List ℕ} (vowels : List ℕ) (w : World) (o 
       )
 
   -- or there is too little
-  pub line-lacks : (b : Beside) (bytes : List ℕ) (f : Full) → a ≡ Err f → RowRead rules w.choices w.classes vowels w.text b (length S) (length R) bytes (Err f)
+  pub line-lacks : (b : Beside) (bytes : List ℕ) (f : Full) → a ≡ Err f → RowRead dicts.rules.now w.choices w.classes dicts.vowels.now w.text b (length S) (length R) bytes (Err f)
   line-lacks b bytes (Slots q) e = (subst Told_of e came).came
   line-lacks b bytes (Room q) e = (subst Told_of e came).came
 
 -- The line that a row's characters were laid out as
-module _ {rules ready classes vowels decompositions : List ℕ} (f : Formable rules ready classes vowels decompositions) (row : ℕ) (p : Placed decompositions row)
-    (line : List ℕ) (is : line ≡ spaced (decomposition_into (drop row decompositions)) ++ kinds_of classes (spaced (decomposition_into (drop row decompositions)))) where
+module _ (dicts : Dicts) (f : Formable dicts) (row : ℕ) (p : Placed dicts.decompositions.now row) (line : List ℕ)
+    (is : line ≡ spaced (decomposition_into (drop row dicts.decompositions.now)) ++ kinds_of dicts.classes.now (spaced (decomposition_into (drop row dicts.decompositions.now)))) where
   abbrev into : Text
-  into = decomposition_into (drop row decompositions)
+  into = decomposition_into (drop row dicts.decompositions.now)
 
   -- its world
   abbrev pub own : World
-  own = record { classes = classes; choices = choices_in ready; text = into; edges = [] }
+  own = record { classes = dicts.classes.now; choices = choices_in dicts.ready.now; text = into; edges = [] }
 
   few : length into ≤ most_into
-  few = omega (arith, into_few p, into-length (drop row decompositions))
+  few = omega (arith, into_few p, into-length (drop row dicts.decompositions.now))
 
   pub own_lined : Lined own line
   own_lined = subst (Lined own) (sym is) (lined own f.kinds (omega (arith, few)))
 
-  pub own-told : Told own ready
+  pub own-told : Told own dicts.ready.now
   own-told = record { letters = f.letters; choices = refl }
 
-  pub own-size : size_in line ≡ decomposition_count (drop row decompositions)
-  own-size = line-size own_lined ∙ into-length (drop row decompositions)
+  pub own-size : size_in line ≡ decomposition_count (drop row dicts.decompositions.now)
+  own-size = line-size own_lined ∙ into-length (drop row dicts.decompositions.now)
 
-  pub own_ready : (bytes S R starts : List ℕ) → bytes ≡ encoded into → starts ≡ replicate (size_in line + 1) 0 → LineReady rules ready vowels bytes line S R starts
+  pub own_ready : (bytes S R starts : List ℕ) → bytes ≡ encoded into → starts ≡ replicate (size_in line + 1) 0 → LineReady dicts bytes line S R starts
   own_ready bytes S R starts e y = (
     (
-      f.table,
+      dicts.prepared,
       f.inherent,
       record { bytes = e ∙ ap encoded (sym (chars_are own_lined)); scalars = subst Scalars (sym (chars_are own_lined)) (into-scalars p) },
       record { world = own; over = first-over own-told own_lined S R (replicate (size_in line + 1) 0) refl },

@@ -1,8 +1,9 @@
 -- Edges stay where only what lies behind them has changed, in slots and room.
 use Rattle.std.specs.Prelude.{ℕ, ◌-◌, ◌*◌, ◌≤◌, List, [], ◌≡◌, length, take}
 use Rattle.std.proofs.Common.{append-nil, sym, ap, ◌∙◌, arith, length-append, take_at, length-take-le}
-use borrow.Rule.Slice.PartMut.{put_mid}
-use Rattle.base.specs.Loans.{back_end}
+use lib.ListN.{length-drop}
+use borrow.Rule.Slice.PartMut.{put_mid, mid_of}
+use Rattle.base.specs.Loans.{back_end, lent-end}
 use Rattle.definition.specs.Limits.{slot_bytes}
 use Rattle.definition.specs.Tables.{Class}
 use Rattle.definition.specs.Edges.{State}
@@ -39,3 +40,31 @@ module _ {S R : List ℕ} (S' R' : List ℕ) {c u : ℕ} (st : Stored S R c u) (
 
   pub fresh_stay : {s since : ℕ} → Fresh s S R (record { count = c; used = u; since = since }) → Fresh s S' R' (record { count = c; used = u; since = since })
   fresh_stay f = fresh-later f S' R' c u (record { more = []; is = sym edges_stay ∙ sym (append-nil (edges_of R c S)); all = tt })
+
+-- as many as are free
+pub free-length : (xs : List ℕ) (a : ℕ) → length (mid_of a (length xs - a) xs) ≡ length xs - a
+free-length xs a = ap length (lent-end xs a) ∙ length-drop a xs
+
+-- what lies behind the edges was lent, and has come back
+module _ {S R : List ℕ} {c u : ℕ} (st : Stored S R c u) (X Y : List ℕ) (e : length X ≡ length S - c * slot_bytes) (f : length Y ≡ length R - u) where
+  abbrev pub slots_back : List ℕ
+  slots_back = put_mid (c * slot_bytes) (length S - c * slot_bytes) S X
+
+  abbrev pub room_back : List ℕ
+  room_back = put_mid u (length R - u) R Y
+
+  pub slots_long : length slots_back ≡ length S
+  slots_long = back-length S X (c * slot_bytes) st.slot e
+
+  pub room_long : length room_back ≡ length R
+  room_long = back-length R Y u st.within f
+
+  pub stored_back : Stored slots_back room_back c u
+  stored_back = stored_stay slots_back room_back st (sym (back-front S X (c * slot_bytes) st.slot)) (sym (back-front R Y u st.within)) slots_long room_long
+
+  pub keeps_back : {ks : List Class} {n : ℕ} {P : List ℕ} {state : State} → Keeps ks n S R P c u state → Keeps ks n slots_back room_back P c u state
+  keeps_back = keeps_stay slots_back room_back st (sym (back-front S X (c * slot_bytes) st.slot)) (sym (back-front R Y u st.within)) slots_long room_long
+
+  pub fresh_back : {s since : ℕ} → Fresh s S R (record { count = c; used = u; since = since })
+      → Fresh s slots_back room_back (record { count = c; used = u; since = since })
+  fresh_back = fresh_stay slots_back room_back st (sym (back-front S X (c * slot_bytes) st.slot)) (sym (back-front R Y u st.within)) slots_long room_long

@@ -20,7 +20,8 @@ use Rattle.definition.proofs.Decomposed.{overflow-after, overflow-ruled}
 use Rattle.definition.specs.Call.{tables_of}
 use Rattle.edge.specs.declared.Filled.{Filled}
 use Rattle.noting.specs.Keeps.{Keeps}
-use Rattle.words.specs.Given.{World, kinds, size, ready_in, line_in}
+use Rattle.words.specs.Given.{World, kinds, size}
+use Rattle.words.specs.declared.given.Dicts.{Dicts}
 use Rattle.passes.specs.Reached.{Over, Rooms, state_of}
 use Rattle.decomp.specs.declared.Unfit.TheVariants.{Slots, Room, TooLong}
 use Rattle.decomp.specs.Answers.{Grew}
@@ -46,16 +47,15 @@ Before p es = All (λ x. x.note ≡ note_decomp → x.from < p) es
 
 -- What a step at the start `p` promises: of every world over what was lent, of which nothing has overflowed and no character
 -- from `p` on has its edge yet, it reaches where the definition's step `f` leads
-abbrev pub GrowsAt : List ℕ → List ℕ → List ℕ → List ℕ → List ℕ → List ℕ → Rooms → Rooms → Filled → ℕ → ℕ
-    → (Tables → List Decomposition → Text → State → State) → Grew → Type 0
-GrowsAt rules prepared classes vowels decompositions code before after filled p most f r =
-    (w : World) → w.classes ≡ classes → Over w (ready_in prepared) (line_in prepared) before.0 before.1 before.2 filled
-    → overflow (tables_of w.choices rules w.classes vowels code) (decompositions_of decompositions) w.text
+abbrev pub GrowsAt : Dicts → List ℕ → List ℕ → Rooms → Rooms → Filled → ℕ → ℕ → (Tables → List Decomposition → Text → State → State) → Grew → Type 0
+GrowsAt dicts code line before after filled p most f r =
+    (w : World) → w.classes ≡ dicts.classes.now → Over w dicts.ready.now line before.0 before.1 before.2 filled
+    → overflow (tables_of w.choices dicts.rules.now w.classes dicts.vowels.now code) (decompositions_of dicts.decompositions.now) w.text
     (length before.0 / slot_bytes) (length before.1) w.edges ≡ none
     → Before p w.edges
-    → GrewTo (tables_of w.choices rules w.classes vowels code) (decompositions_of decompositions) w.text (kinds w) (size w)
+    → GrewTo (tables_of w.choices dicts.rules.now w.classes dicts.vowels.now code) (decompositions_of dicts.decompositions.now) w.text (kinds w) (size w)
     before.0 before.1 after.0 after.1 after.2 most
-    (f (tables_of w.choices rules w.classes vowels code) (decompositions_of decompositions) w.text (state_of w before.2)) r
+    (f (tables_of w.choices dicts.rules.now w.classes dicts.vowels.now code) (decompositions_of dicts.decompositions.now) w.text (state_of w before.2)) r
 
 -- Behind edges that fit
 module _ (D : Tables) (ds : List Decomposition) (t : Text) (k r : ℕ) (es : List Edge) (h : overflow D ds t k r es ≡ none) (f : misfit k r es ≡ none) where

@@ -13,7 +13,8 @@ use Rattle.definition.specs.Call.{tables_of}
 use Rattle.table_classes.specs.Told.{Fine, alphas_of}
 use Rattle.table_vowels.specs.Told.{FineVowels}
 use Rattle.table_decompositions.specs.Index.{Ready}
-use Rattle.words.specs.Given.{World, size_in, letters_in, forms_in, Prepared, Told, Lined}
+use Rattle.words.specs.Given.{World, size_in, letters_in, forms_in, Told, Lined}
+use Rattle.words.specs.declared.given.Dicts.{Dicts}
 use Rattle.lattice.specs.Lattice.{Buildable}
 use Rattle.edge.specs.declared.Full.{Full}
 use Rattle.edge.specs.declared.Full.TheVariants.{Slots, Room}
@@ -23,12 +24,11 @@ use Rattle.decomp_text.specs.Spelling.{Spells, Held}
 use Rattle.decomp_text.specs.Reading.{read_as}
 
 -- The tables are as they were checked, and what was made ready is theirs
-pub record Formable (rules ready classes vowels decompositions : List ℕ) : Type 0 where
-  pub table : Prepared rules ready
-  pub inherent : FineVowels vowels
-  pub kinds : Fine classes
-  pub letters : letters_in ready ≡ alphas_of classes
-  pub forms : Ready decompositions (forms_in ready)
+pub record Formable (dicts : Dicts) : Type 0 where
+  pub inherent : FineVowels dicts.vowels.now
+  pub kinds : Fine dicts.classes.now
+  pub letters : letters_in dicts.ready.now ≡ alphas_of dicts.classes.now
+  pub forms : Ready dicts.decompositions.now (forms_in dicts.ready.now)
 
 -- A text in an array: the string of the lattice of its characters, with no language code, in slots and room of these lengths
 module _ (rules : List ℕ) (choices : Choices) (classes vowels : List ℕ) (into : Text) (b : Beside) (slots room : ℕ) (bytes : List ℕ) where
@@ -47,11 +47,11 @@ module _ (rules : List ℕ) (choices : Choices) (classes vowels : List ℕ) (int
   RowRead (Err (Room q)) = lost ≡ some (refuse refused_room q)
 
 -- What reading a line needs: a lattice can be built of it, by entries that are all zeros, and it has no more characters than a row
-abbrev pub LineReady : List ℕ → List ℕ → List ℕ → List ℕ → List ℕ → List ℕ → List ℕ → List ℕ → Type 0
-LineReady rules ready vowels text line slots room starts =
-    Buildable rules ready vowels text line slots room (replicate (size_in line + 1) 0) starts × (size_in line ≤ most_into)
+abbrev pub LineReady : Dicts → List ℕ → List ℕ → List ℕ → List ℕ → List ℕ → Type 0
+LineReady dicts text line slots room starts =
+    Buildable dicts.rules.now dicts.ready.now dicts.vowels.now text line slots room (replicate (size_in line + 1) 0) starts × (size_in line ≤ most_into)
 
 -- What is read of it: the text of every world that stands there
-abbrev pub LineRead : List ℕ → List ℕ → List ℕ → List ℕ → Beside → ℕ → ℕ → List ℕ → Result Spelling Full → Type 0
-LineRead rules ready vowels line b slots room bytes r =
-    (w : World) → Told w ready → Lined w line → RowRead rules w.choices w.classes vowels w.text b slots room bytes r
+abbrev pub LineRead : Dicts → List ℕ → Beside → ℕ → ℕ → List ℕ → Result Spelling Full → Type 0
+LineRead dicts line b slots room bytes r =
+    (w : World) → Told w dicts.ready.now → Lined w line → RowRead dicts.rules.now w.choices w.classes dicts.vowels.now w.text b slots room bytes r

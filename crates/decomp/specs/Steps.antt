@@ -24,24 +24,24 @@ use Rattle.edge.specs.Answers.{Answer}
 use Rattle.edge.specs.Slots.{edges_of}
 use Rattle.edge.specs.Fitting.{stored_fits}
 use Rattle.noting.specs.Keeps.{Keeps}
-use Rattle.words.specs.Given.{size_in, ready_in, line_in, all_ready}
+use Rattle.words.specs.Given.{size_in}
+use Rattle.words.specs.declared.given.Dicts.{Dicts}
 use Rattle.passes.specs.Reached.{addressable, Somewhere, Reached}
 use Rattle.first_pass.specs.Fresh.{Fresh}
-use Rattle.decomp.specs.Rows.{Formable}
 use Rattle.decomp.specs.declared.Unfit.TheVariants.{Slots, Room, TooLong}
 use Rattle.decomp.specs.Answers.{as_grew}
 use Rattle.decomp.specs.Grown.{Before, GrewTo, overflow-one, overflow-before}
+use Rattle.decomp.specs.Rows.{Formable}
 
 -- the definition's step
 abbrev pub put_decomp : ℕ → Tables → List Decomposition → Text → State → State
 put_decomp p D ds t st = (add st.0 (decomp_edge D ds t p), st.1)
 
 -- what it needs of what is lent
-pub record AddReady (rules prepared classes vowels decompositions slots room places : List ℕ) (filled : Filled) (p : ℕ) : Type 0 where
-  pub long : all_ready ≤ length prepared
-  pub forms : Formable rules (ready_in prepared) classes vowels decompositions
-  pub somewhere : Somewhere (ready_in prepared) (line_in prepared) slots room places filled
-  pub inside : p < size_in (line_in prepared)
+pub record AddReady (dicts : Dicts) (line slots room places : List ℕ) (filled : Filled) (p : ℕ) : Type 0 where
+  pub forms : Formable dicts
+  pub somewhere : Somewhere dicts.ready.now line slots room places filled
+  pub inside : p < size_in line
   pub fresh : Fresh p slots room filled
   pub offset : filled.used + most_bytes < addressable
 

@@ -18,6 +18,7 @@ ghost use Rattle.decomp.specs.Adding.{TextReady, TextAdded};
 
 use decomp_text::{Beside, Spelling};
 use edge::{Filled, Full, Numbers, Taken};
+use words::Dicts;
 
 // What is prepared for a row of the most characters: these between spaces with their classes, their bytes, and an entry for
 // each position, its end too.
@@ -76,11 +77,9 @@ fn beside(line: &[u32], p: usize) -> Beside
 
 // The text of a line, put into an array: the string of its characters' lattice, which is built in slots and room. It has no
 // language code.
-fn read_line<'a>(
-    rules: &'a [u8],
-    ready: &[u32],
-    vowels: &[u8],
-    text: &'a [u8],
+fn read_line(
+    dicts: &Dicts,
+    text: &[u8],
     line: &[u32],
     slots: &mut [u8],
     room: &mut [u8],
@@ -88,57 +87,52 @@ fn read_line<'a>(
     beside: Beside,
     bytes: &mut [u8],
 ) -> Result<Spelling, Full>
-    requires { LineReady rules.now ready.now vowels.now text.now line.now slots.old room.old starts.old × (length bytes.old ≡ most_bytes) }
-    ensures { LineRead rules.now ready.now vowels.now line.now beside
-        (length slots.old) (length room.old) bytes.new result }
+    requires { LineReady dicts.now text.now line.now slots.old room.old starts.old × (length bytes.old ≡ most_bytes) }
+    ensures { LineRead dicts.now line.now beside (length slots.old) (length room.old) bytes.new result }
 {
     let mut places = [0u32; PLACES];
     let end = starts.len();
-    lattice::build_lattice(
-        rules,
-        ready,
-        vowels,
-        b"",
-        text,
-        line,
-        slots,
-        room,
-        &mut places[..end],
-        starts,
-    )?;
-    Ok(decomp_text::spell(ready, line, slots, room, starts, beside, bytes))
+    // every field by name: `..` does not fill a struct with ghost fields
+    let plain = Dicts {
+        rules: dicts.rules,
+        classes: dicts.classes,
+        vowels: dicts.vowels,
+        decompositions: dicts.decompositions,
+        code: b"",
+        ready: dicts.ready,
+    };
+    lattice::build_lattice(&plain, text, line, slots, room, &mut places[..end], starts)?;
+    Ok(decomp_text::spell(dicts.ready, line, slots, room, starts, beside, bytes))
 }
 
 // The text of a row, put into an array: its characters are laid out as a line of their own.
 fn read_row(
-    rules: &[u8],
-    ready: &[u32],
-    classes: &[u8],
-    vowels: &[u8],
-    decompositions: &[u8],
+    dicts: &Dicts,
     row: usize,
     beside: Beside,
     slots: &mut [u8],
     room: &mut [u8],
     text: &mut [u8],
 ) -> Result<Spelling, Full>
-    requires { Formable rules.now ready.now classes.now vowels.now decompositions.now × Placed decompositions.now row
-        × (length text.old ≡ most_bytes) }
-    ensures { RowRead rules.now (choices_in ready.now) classes.now vowels.now
-        (decomposition_into (drop row decompositions.now)) beside (length slots.old) (length room.old) text.new result }
+    requires { Formable dicts.now × Placed dicts.now.decompositions.now row × (length text.old ≡ most_bytes) }
+    ensures { RowRead dicts.now.rules.now (choices_in dicts.now.ready.now) dicts.now.classes.now dicts.now.vowels.now
+        (decomposition_into (drop row dicts.now.decompositions.now)) beside (length slots.old) (length room.old) text.new result }
 {
     let mut line = [0u32; LINE];
     let mut bytes = [0u8; BYTES];
     let mut starts = [0u32; PLACES];
-    let n = table_decompositions::count(decompositions, row);
+    let n = table_decompositions::count(dicts.decompositions, row);
     let half = n + 3;
     let end = n + 1;
-    decomp_line::lay_out(classes, decompositions, row, &mut line[..2 * half]);
-    let len = decomp_line::put_bytes(decompositions, row, &mut bytes);
+    decomp_line::lay_out(
+        dicts.classes,
+        dicts.decompositions,
+        row,
+        &mut line[..2 * half],
+    );
+    let len = decomp_line::put_bytes(dicts.decompositions, row, &mut bytes);
     read_line(
-        rules,
-        ready,
-        vowels,
+        dicts,
         &bytes[..len],
         &line[..2 * half],
         slots,
@@ -192,27 +186,22 @@ fn unfit_at(full: Full, p: usize) -> Unfit
 // The edge of the character at a position, where it stands for others. Its string's edges lie behind those that are there,
 // and are gone when it is told.
 pub fn add_decomp(
-    rules: &[u8],
-    prepared: &[u32],
-    classes: &[u8],
-    vowels: &[u8],
-    decompositions: &[u8],
+    dicts: &Dicts,
+    line: &[u32],
     slots: &mut [u8],
     room: &mut [u8],
     places: &mut [u32],
     filled: Filled,
     p: usize,
 ) -> Result<Taken, Unfit>
-    requires { AddReady rules.now prepared.now classes.now vowels.now decompositions.now slots.old room.old places.old filled p }
-    ensures { (code : List ℕ) → GrowsAt rules.now prepared.now classes.now vowels.now decompositions.now code
+    requires { AddReady dicts.now line.now slots.old room.old places.old filled p }
+    ensures { (code : List ℕ) → GrowsAt dicts.now code line.now
         (slots.old, room.old, places.old) (slots.new, room.new, places.new)
         filled p (filled.used + most_bytes) (put_decomp p) result }
 {
-    let ready = words::ready_in(prepared);
-    let line = words::line_in(prepared);
     let row = table_decompositions::edge_row_of(
-        decompositions,
-        words::forms_in(ready),
+        dicts.decompositions,
+        words::forms_in(dicts.ready),
         words::number_at(line, p + 1),
     );
     if row == 0 {
@@ -225,11 +214,7 @@ pub fn add_decomp(
     let used = filled.used;
     let mut text = [0u8; rom::MOST_BYTES];
     let read = read_row(
-        rules,
-        ready,
-        classes,
-        vowels,
-        decompositions,
+        dicts,
         row,
         beside(line, p),
         &mut slots[from..],

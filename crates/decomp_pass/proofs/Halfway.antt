@@ -25,7 +25,8 @@ use Rattle.edge.specs.Slots.{edges_of}
 use Rattle.standing.specs.Starts.{begun as begun-at}
 use Rattle.standing.specs.Begun.{Begun}
 use Rattle.standing.specs.Stands.{Ahead}
-use Rattle.words.specs.Given.{World, kinds, size, size_in, ready_in, line_in, line-size}
+use Rattle.words.specs.Given.{World, kinds, size, size_in, line-size}
+use Rattle.words.specs.declared.given.Dicts.{Dicts}
 use Rattle.passes.specs.Reached.{nothing, Over, state_of, with_edges}
 use Rattle.passes.proofs.Passing.{kept, going_lent}
 use Rattle.first_pass.specs.declared.Stretch.{Stretch}
@@ -39,50 +40,42 @@ use Rattle.decomp_pass.proofs.Passing.{Underway, underway_first, underway_over}
 use Rattle.decomp_pass.proofs.Between.{turn_rest, next_off}
 use Rattle.table_decompositions.specs.Next.{next_form}
 
--- what is true of two lists that were lent is true of what they are
-pub lent_as : (P : List ℕ → List ℕ → Type 0) {a b c d : List ℕ} → a ≡ b → c ≡ d → P a c → P b d
-lent_as P {a} {b} {c} {d} e f x = subst (λ (l : List ℕ). P l d) e (subst (P a) f x)
+-- the tables of a world
+abbrev pub tables : Dicts → World → Tables
+tables dicts w = tables_of w.choices dicts.rules.now w.classes dicts.vowels.now dicts.code.now
 
--- the text's characters, and the tables of a world
-abbrev pub number : List ℕ → ℕ
-number prepared = size_in (line_in prepared)
-
-abbrev pub tables : List ℕ → List ℕ → List ℕ → World → Tables
-tables rules vowels code w = tables_of w.choices rules w.classes vowels code
-
-module _ (rules prepared classes vowels decompositions code S₀ R₀ P₀ : List ℕ) where
+module _ (dicts : Dicts) (line S₀ R₀ P₀ : List ℕ) where
   abbrev ds : List Decomposition
-  ds = decompositions_of decompositions
+  ds = decompositions_of dicts.decompositions.now
 
   -- it is underway, with `rest` left
   abbrev pub On : (Tables → Text → State → State) → List ℕ → List ℕ → List ℕ → ℕ → ℕ → ℕ → Type 0
   On rest S R P c u s =
-      (w : World) → w.classes ≡ classes → Over w (ready_in prepared) (line_in prepared) S₀ R₀ P₀ nothing
-      → Underway (tables rules vowels code w) ds w.text (kinds w) (size w) S₀ R₀ (each (start (tables rules vowels code w) ds w.text) (size w) 0 (state_of w P₀))
-      (rest (tables rules vowels code w) w.text) S R P c u s
+      (w : World) → w.classes ≡ dicts.classes.now → Over w dicts.ready.now line S₀ R₀ P₀ nothing
+      → Underway (tables dicts w) ds w.text (kinds w) (size w) S₀ R₀ (each (start (tables dicts w) ds w.text) (size w) 0 (state_of w P₀))
+      (rest (tables dicts w) w.text) S R P c u s
 
   pub record Halfway (S R P starts : List ℕ) (c u s : ℕ) : Type 0 where
-    pub on : On (λ D t. each (start D ds t) (number prepared - s) s) S R P c u s
+    pub on : On (λ D t. each (start D ds t) (size_in line - s) s) S R P c u s
     pub begun : Begun (edges_of R c S) s (set starts s c)
-    pub sized : length starts ≡ number prepared + 1
-    pub ahead : All (λ x. Ahead (number prepared) x.from x.to) (edges_of R c S)
+    pub sized : length starts ≡ size_in line + 1
+    pub ahead : All (λ x. Ahead (size_in line) x.from x.to) (edges_of R c S)
     pub few : c ≤ s * most_edges
     pub little : u ≤ s * (most_edges * most_bytes)
-    pub inside : s ≤ number prepared
+    pub inside : s ≤ size_in line
 
-module _ (code : List ℕ) {rules prepared classes vowels decompositions S₀ R₀ P₀ noted : List ℕ}
-    (pre : PassReady rules prepared classes vowels decompositions S₀ R₀ P₀ noted) where
+module _ {dicts : Dicts} {line S₀ R₀ P₀ noted : List ℕ} (pre : PassReady dicts line S₀ R₀ P₀ noted) where
   abbrev n : ℕ
-  n = number prepared
+  n = size_in line
 
   abbrev forms : List Decomposition
-  forms = decompositions_of decompositions
+  forms = decompositions_of dicts.decompositions.now
 
   abbrev D : World → Tables
-  D = tables rules vowels code
+  D = tables dicts
 
   abbrev Half : List ℕ → List ℕ → List ℕ → List ℕ → ℕ → ℕ → ℕ → Type 0
-  Half = Halfway rules prepared classes vowels decompositions code S₀ R₀ P₀
+  Half = Halfway dicts line S₀ R₀ P₀
 
   -- it begins with no edges
   pub halfway_first : Half S₀ R₀ P₀ noted 0 0 0
@@ -102,12 +95,12 @@ module _ (code : List ℕ) {rules prepared classes vowels decompositions S₀ R�
     abbrev pub stretch : Stretch
     stretch = record { count = c; used = u; from = s; to = to }
 
-    pub stretch_ready : first.PassReady rules (ready_in prepared) vowels (line_in prepared) S R P starts stretch
+    pub stretch_ready : first.PassReady dicts.rules.now dicts.ready.now dicts.vowels.now line S R P starts stretch
     stretch_ready =
         let w = pre.somewhere.world in
         let o = pre.somewhere.over in
         record {
-          table = pre.forms.table;
+          table = dicts.prepared;
           inherent = pre.forms.inherent;
           forward = l;
           inside = m;
@@ -120,8 +113,8 @@ module _ (code : List ℕ) {rules prepared classes vowels decompositions S₀ R�
         }
 
     -- what it answers, in a world
-    module _ (S' R' P' : List ℕ) (a : Answer) (built : first.FirstPass rules (ready_in prepared) vowels code (line_in prepared) (S, R, P) (S', R', P') stretch a)
-        (w : World) (same : w.classes ≡ classes) (o : Over w (ready_in prepared) (line_in prepared) S₀ R₀ P₀ nothing) where
+    module _ (S' R' P' : List ℕ) (a : Answer) (built : first.FirstPass dicts.rules.now dicts.ready.now dicts.vowels.now dicts.code.now line (S, R, P) (S', R', P') stretch a)
+        (w : World) (same : w.classes ≡ dicts.classes.now) (o : Over w dicts.ready.now line S₀ R₀ P₀ nothing) where
       abbrev pub st : State
       st = kept (size w) S R P c
 
@@ -129,7 +122,7 @@ module _ (code : List ℕ) {rules prepared classes vowels decompositions S₀ R�
       spans = each (build (D w) w.text) (to - s) s
 
       ok : Bounded (D w)
-      ok = tables-bounded w.choices rules w.classes vowels code pre.forms.table.table.accepted o.lent.text.fine pre.forms.inherent
+      ok = tables-bounded w.choices dicts.rules.now w.classes dicts.vowels.now dicts.code.now dicts.prepared.table.accepted o.lent.text.fine pre.forms.inherent
 
       more : Added (Ruled w.text) st.0 (spans st).0
       more = each-added (size w) (build (D w) w.text) (build-ruled (D w) ok w.text) (to - s) s st (omega (arith, l, m, line-size o.lent.text))
@@ -146,14 +139,14 @@ module _ (code : List ℕ) {rules prepared classes vowels decompositions S₀ R�
           spans-before (D w) forms w.text st (spans st) r.going.keeps r.held more s e q r.before
 
   -- The rest, where no character stands for others: its answer is the whole pass's
-  module _ {S R P starts : List ℕ} {c u s : ℕ} (h : Half S R P starts c u s) (f : n ≡ next_form forms (line_in prepared) (n - s) s)
+  module _ {S R P starts : List ℕ} {c u s : ℕ} (h : Half S R P starts c u s) (f : n ≡ next_form forms line (n - s) s)
       (to : ℕ) (e : to ≡ n) (S' R' P' : List ℕ) (a : Answer) where
-    pub rest_passes : first.FirstPass rules (ready_in prepared) vowels code (line_in prepared) (S, R, P) (S', R', P') (record { count = c; used = u; from = s; to = to }) a
-        → Passes rules prepared classes vowels decompositions code (S₀, R₀, P₀) (S', R', P') (as_grew a)
+    pub rest_passes : first.FirstPass dicts.rules.now dicts.ready.now dicts.vowels.now dicts.code.now line (S, R, P) (S', R', P') (record { count = c; used = u; from = s; to = to }) a
+        → Passes dicts line (S₀, R₀, P₀) (S', R', P') (as_grew a)
     rest_passes built w same o held before =
         let t = w.text in
         let l = h.inside in
-        let whole = subst (λ (m : ℕ). first.FirstPass rules (ready_in prepared) vowels code (line_in prepared) (S, R, P) (S', R', P')
+        let whole = subst (λ (m : ℕ). first.FirstPass dicts.rules.now dicts.ready.now dicts.vowels.now dicts.code.now line (S, R, P) (S', R', P')
         (record { count = c; used = u; from = s; to = m }) a) e built in
         underway_over (h.on w same o) (each (build (D w) t) (n - s) s) (λ (x : State). x)
         (turn_rest (D w) forms t n s (kept (size w) S R P c) (next_off o.lent.text (D w) forms n s (line-size o.lent.text) l n f) l)

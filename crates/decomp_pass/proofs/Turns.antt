@@ -19,7 +19,8 @@ use Rattle.edge.specs.Stored.{edge_count}
 use Rattle.standing.specs.Starts.{since_in}
 use Rattle.standing.specs.Begun.{Begun}
 use Rattle.standing.specs.Stands.{Ahead}
-use Rattle.words.specs.Given.{World, kinds, size, ready_in, line_in, line-size}
+use Rattle.words.specs.Given.{World, kinds, size, size_in, line-size}
+use Rattle.words.specs.declared.given.Dicts.{Dicts}
 use Rattle.passes.specs.Reached.{nothing, Over, with_edges}
 use Rattle.passes.proofs.Passing.{kept, going_lent}
 use Rattle.first_pass.specs.FirstPass as first
@@ -32,30 +33,29 @@ use Rattle.decomp_pass.specs.Passes.{PassReady, Passes}
 use Rattle.decomp_pass.proofs.Onward.{Refused}
 use Rattle.decomp_pass.proofs.Passing.{underway_refused, underway_edges, underway_used, underway_next}
 use Rattle.decomp_pass.proofs.Between.{turn_form, next_off, next-inside}
-use Rattle.decomp_pass.proofs.Halfway.{number, tables, On, Halfway, stretch-grew, stretch-before}
+use Rattle.decomp_pass.proofs.Halfway.{tables, On, Halfway, stretch-grew, stretch-before}
 use Rattle.decomp_pass.proofs.Forms.{begun_still, form-begun, form_ahead, form-before, starts-added}
 
-module _ (code : List ℕ) {rules prepared classes vowels decompositions S₀ R₀ P₀ noted : List ℕ}
-    (pre : PassReady rules prepared classes vowels decompositions S₀ R₀ P₀ noted) where
+module _ {dicts : Dicts} {line S₀ R₀ P₀ noted : List ℕ} (pre : PassReady dicts line S₀ R₀ P₀ noted) where
   abbrev n : ℕ
-  n = number prepared
+  n = size_in line
 
   abbrev ds : List Decomposition
-  ds = decompositions_of decompositions
+  ds = decompositions_of dicts.decompositions.now
 
   abbrev tab : World → Tables
-  tab = tables rules vowels code
+  tab = tables dicts
 
   -- The stretch has answered
-  module _ {S R P starts : List ℕ} {c u s : ℕ} (h : Halfway rules prepared classes vowels decompositions code S₀ R₀ P₀ S R P starts c u s)
-      (at : ℕ) (f : at ≡ next_form ds (line_in prepared) (n - s) s) (l : at < n) (S' R' P' starts' : List ℕ) (a : Answer)
-      (built : first.FirstPass rules (ready_in prepared) vowels code (line_in prepared) (S, R, P) (S', R', P') (record { count = c; used = u; from = s; to = at + 1 }) a)
+  module _ {S R P starts : List ℕ} {c u s : ℕ} (h : Halfway dicts line S₀ R₀ P₀ S R P starts c u s)
+      (at : ℕ) (f : at ≡ next_form ds line (n - s) s) (l : at < n) (S' R' P' starts' : List ℕ) (a : Answer)
+      (built : first.FirstPass dicts.rules.now dicts.ready.now dicts.vowels.now dicts.code.now line (S, R, P) (S', R', P') (record { count = c; used = u; from = s; to = at + 1 }) a)
       (begins : first.BeganTo S' R' n starts' (record { count = c; used = u; from = s; to = at + 1 }) a) where
     behind : s ≤ at
-    behind = (next-inside ds (line_in prepared) n s at h.inside f).0
+    behind = (next-inside ds line n s at h.inside f).0
 
     -- in a world
-    module _ (w : World) (same : w.classes ≡ classes) (o : Over w (ready_in prepared) (line_in prepared) S₀ R₀ P₀ nothing) where
+    module _ (w : World) (same : w.classes ≡ dicts.classes.now) (o : Over w dicts.ready.now line S₀ R₀ P₀ nothing) where
       abbrev st : State
       st = kept (size w) S R P c
 
@@ -74,10 +74,10 @@ module _ (code : List ℕ) {rules prepared classes vowels decompositions S₀ R�
           (next_off o.lent.text (tab w) ds n s (line-size o.lent.text) h.inside at f) behind l
 
       grew : GrewTo (tab w) ds w.text (kinds w) (size w) S R S' R' P' (u + (at + 1 - s) * (most_source * most_bytes)) (spans st) (as_grew a)
-      grew = stretch-grew code pre h (at + 1) (omega (arith, behind)) (omega (arith, l)) S' R' P' a built w same o
+      grew = stretch-grew pre h (at + 1) (omega (arith, behind)) (omega (arith, l)) S' R' P' a built w same o
 
     -- a refusal is the whole pass's
-    pub stretch-refused : Refused (as_grew a) → Passes rules prepared classes vowels decompositions code (S₀, R₀, P₀) (S', R', P') (as_grew a)
+    pub stretch-refused : Refused (as_grew a) → Passes dicts line (S₀, R₀, P₀) (S', R', P') (as_grew a)
     stretch-refused q w same o held before =
         underway_refused (h.on w same o) (spans w same o) (left w same o) (turn w same o) (as_grew a) (grew w same o)
         (added_twice (add-grown (spans w same o (st w same o)).0 (decomp_edge (tab w) ds w.text at)).added
@@ -93,11 +93,11 @@ module _ (code : List ℕ) {rules prepared classes vowels decompositions S₀ R�
       began = subst (first.BeganTo S' R' n starts' (record { count = c; used = u; from = s; to = at + 1 })) e begins
 
       -- it is underway, and the character's edge is next
-      mid : On rules prepared classes vowels decompositions code S₀ R₀ P₀
+      mid : On dicts line S₀ R₀ P₀
           (λ D t x. each (start D ds t) (n - (at + 1)) (at + 1) (put_decomp at D ds t x)) S' R' P' c' u' at
       mid w same o =
           underway_next (h.on w same o) (spans w same o) (left w same o) (turn w same o) (as_grew a) (grew w same o) c' u' (ap as_grew e) at
-          (stretch-before code pre h (at + 1) (omega (arith, behind)) (omega (arith, l)) S' R' P' a built w same o
+          (stretch-before pre h (at + 1) (omega (arith, behind)) (omega (arith, l)) S' R' P' a built w same o
           at behind)
 
       begun-here : Begun es at starts'
@@ -110,12 +110,11 @@ module _ (code : List ℕ) {rules prepared classes vowels decompositions S₀ R�
           underway_used (h.on w pre.same o) (spans w pre.same o) (left w pre.same o) (turn w pre.same o) (as_grew a) (grew w pre.same o) c' u' (ap as_grew e)
 
       pub form_ready : (since : ℕ) → since ≡ since_in starts' at
-          → AddReady rules prepared classes vowels decompositions S' R' P' (record { count = c'; used = u'; since = since }) at
+          → AddReady dicts line S' R' P' (record { count = c'; used = u'; since = since }) at
       form_ready since q =
           let w = pre.somewhere.world in
           let o = pre.somewhere.over in
           record {
-            long = pre.long;
             forms = pre.forms;
             somewhere = record { world = with_edges w es; over = going_lent o since (mid w pre.same o).going };
             inside = l;
@@ -125,23 +124,23 @@ module _ (code : List ℕ) {rules prepared classes vowels decompositions S₀ R�
 
       -- The character's edge has answered
       module _ (since : ℕ) (S'' R'' P'' : List ℕ) (r : Grew)
-          (grows : GrowsAt rules prepared classes vowels decompositions code (S', R', P') (S'', R'', P'') (record { count = c'; used = u'; since = since }) at (u' + most_bytes)
+          (grows : GrowsAt dicts dicts.code.now line (S', R', P') (S'', R'', P'') (record { count = c'; used = u'; since = since }) at (u' + most_bytes)
           (put_decomp at) r) where
-        module _ (w : World) (same : w.classes ≡ classes) (o : Over w (ready_in prepared) (line_in prepared) S₀ R₀ P₀ nothing) where
+        module _ (w : World) (same : w.classes ≡ dicts.classes.now) (o : Over w dicts.ready.now line S₀ R₀ P₀ nothing) where
           own : GrewTo (tab w) ds w.text (kinds w) (size w) S' R' S'' R'' P'' (u' + most_bytes) (put_decomp at (tab w) ds w.text (kept (size w) S' R' P' c')) r
           own =
               let x = mid w same o in
               grows (with_edges w es) same (going_lent o since x.going) x.held x.before
 
         -- a refusal is the whole pass's
-        pub form-refused : Refused r → Passes rules prepared classes vowels decompositions code (S₀, R₀, P₀) (S'', R'', P'') r
+        pub form-refused : Refused r → Passes dicts line (S₀, R₀, P₀) (S'', R'', P'') r
         form-refused q w same o held before =
             underway_refused (mid w same o) (put_decomp at (tab w) ds w.text) (later w same o) refl r (own w same o)
             (starts-added (tab w) ds w.text (n - (at + 1)) (at + 1) (put_decomp at (tab w) ds w.text (kept (size w) S' R' P' c')))
             (n * (most_edges * most_bytes)) q
 
         -- or it goes on behind it
-        pub form-next : (k v : ℕ) → r ≡ Ok record { count = k; used = v } → Halfway rules prepared classes vowels decompositions code S₀ R₀ P₀ S'' R'' P'' starts' k v (at + 1)
+        pub form-next : (k v : ℕ) → r ≡ Ok record { count = k; used = v } → Halfway dicts line S₀ R₀ P₀ S'' R'' P'' starts' k v (at + 1)
         form-next k v q =
             let w = pre.somewhere.world in
             let o = pre.somewhere.over in

@@ -2,40 +2,34 @@
 // its spans, then the edge of its character. The first edge that finds no slot or no room, or is too long, ends it.
 #![tactic(auto)]
 
-ghost use Rattle.words.specs.Given.{size_in, line_in};
+ghost use Rattle.words.specs.Given.{size_in};
 ghost use Rattle.decomp_pass.specs.Passes.{PassReady, Passes, Begins};
 
 use decomp::Unfit;
 use edge::{Filled, Taken};
 use first_pass::Stretch;
+use words::Dicts;
 
 // From every start, with no edge before. The starts up to the next character that stands for others go at once, then comes its
 // edge. Of each start it is kept how many edges there were when the search came to it.
 pub fn add_romanization(
-    rules: &[u8],
-    prepared: &[u32],
-    classes: &[u8],
-    vowels: &[u8],
-    decompositions: &[u8],
-    code: &[u8],
+    dicts: &Dicts,
+    line: &[u32],
     slots: &mut [u8],
     room: &mut [u8],
     places: &mut [u32],
     starts: &mut [u32],
 ) -> Result<Taken, Unfit>
-    requires { PassReady rules.now prepared.now classes.now vowels.now decompositions.now slots.old room.old places.old starts.old }
-    ensures built { Passes rules.now prepared.now classes.now vowels.now decompositions.now code.now
-        (slots.old, room.old, places.old) (slots.new, room.new, places.new) result }
-    ensures starts { Begins slots.new room.new (size_in (line_in prepared.now)) starts.new result }
+    requires { PassReady dicts.now line.now slots.old room.old places.old starts.old }
+    ensures built { Passes dicts.now line.now (slots.old, room.old, places.old) (slots.new, room.new, places.new) result }
+    ensures starts { Begins slots.new room.new (size_in line.now) starts.new result }
 {
-    let ready = words::ready_in(prepared);
-    let line = words::line_in(prepared);
     let n = words::text_len(line);
     let mut taken = Taken { count: 0, used: 0 };
     let mut s: usize = 0;
     let mut at = table_decompositions::next_form(
-        decompositions,
-        words::forms_in(ready),
+        dicts.decompositions,
+        words::forms_in(dicts.ready),
         line,
         n,
         0,
@@ -48,27 +42,22 @@ pub fn add_romanization(
             to: at + 1,
         };
         let spans = first_pass::add_romanization(
-            rules, ready, vowels, code, line, slots, room, places, starts, stretch,
+            dicts, line, slots, room, places, starts, stretch,
         )?;
         let filled = Filled {
             count: spans.count,
             used: spans.used,
             since: standing::since(starts, at),
         };
-        taken = decomp::add_decomp(
-            rules,
-            prepared,
-            classes,
-            vowels,
-            decompositions,
-            slots,
-            room,
-            places,
-            filled,
-            at,
-        )?;
+        taken = decomp::add_decomp(dicts, line, slots, room, places, filled, at)?;
         s = at + 1;
-        at = table_decompositions::next_form(decompositions, words::forms_in(ready), line, n, s);
+        at = table_decompositions::next_form(
+            dicts.decompositions,
+            words::forms_in(dicts.ready),
+            line,
+            n,
+            s,
+        );
     }
     let rest = Stretch {
         count: taken.count,
@@ -76,8 +65,6 @@ pub fn add_romanization(
         from: s,
         to: n,
     };
-    let all = first_pass::add_romanization(
-        rules, ready, vowels, code, line, slots, room, places, starts, rest,
-    )?;
+    let all = first_pass::add_romanization(dicts, line, slots, room, places, starts, rest)?;
     Ok(all)
 }

@@ -27,7 +27,7 @@ use steps::{Growing, Work};
 use words::characters::{
     GRAVE, HIRAGANA_YA, HIRAGANA_YO, HIRAGANA_YU, KATAKANA_YA, KATAKANA_YO, KATAKANA_YU,
 };
-use words::{Choices, Span};
+use words::{Choices, Dicts, Span};
 
 // Does a grave stand over a Coptic character, the last before `to`? None does past the text.
 fn has_grave(line: &[u32], to: usize) -> bool
@@ -40,21 +40,11 @@ fn has_grave(line: &[u32], to: usize) -> bool
 }
 
 // Does a rule have a span? What a search answers is not asked.
-fn is_ruled(
-    rules: &[u8],
-    ready: &[u32],
-    code: &[u8],
-    line: &[u32],
-    places: &mut [u32],
-    span: Span,
-) -> bool
-    requires { Prepared rules.now ready.now × (span.from < span.to) }
-    ensures { Answers rules.now ready.now code.now line.now places.old places.new
+fn is_ruled(dicts: &Dicts, line: &[u32], places: &mut [u32], span: Span) -> bool
+    ensures { Answers dicts.now line.now places.old places.new
         (λ L t v. ruled L t v span.from span.to) result }
 {
-    rule_choice::simple_top_romanization_candidate_for_span(
-        rules, ready, code, line, places, span,
-    ).is_some()
+    rule_choice::simple_top_romanization_candidate_for_span(dicts, line, places, span).is_some()
 }
 
 // An e put in front, over the grave after the span, up to `to`.
@@ -74,17 +64,15 @@ fn put_grave(bytes: &mut [u8], g: Growing, to: usize) -> Growing
 
 // Coptic: a grave puts an e in front, unless a rule has both from the first start `o`.
 fn grave(
-    rules: &[u8],
-    ready: &[u32],
-    code: &[u8],
+    dicts: &Dicts,
     line: &[u32],
     places: &mut [u32],
     bytes: &mut [u8],
     o: usize,
     g: Growing,
 ) -> Growing
-    requires { Prepared rules.now ready.now × Held bytes.old g × (g.len < most_bytes) × (o ≤ g.to) × (0 < g.to) × (g.to ≤ size_in line.now) }
-    ensures { Answers rules.now ready.now code.now line.now places.old places.new
+    requires { Held bytes.old g × (g.len < most_bytes) × (o ≤ g.to) × (0 < g.to) × (g.to ≤ size_in line.now) }
+    ensures { Answers dicts.now line.now places.old places.new
         (λ L t v. grave L t v o (work_in bytes.old g)) (work_in bytes.new result)
         × Held bytes.new result × (result.len ≤ g.len + 1) × (result.from ≡ g.from) × (g.to ≤ result.to) × (result.to ≤ size_in line.now) }
 {
@@ -92,7 +80,7 @@ fn grave(
         return g;
     }
     let to = g.to + 1;
-    if is_ruled(rules, ready, code, line, places, Span { from: o, to }) {
+    if is_ruled(dicts, line, places, Span { from: o, to }) {
         return g;
     }
     put_grave(bytes, g, to)
@@ -129,21 +117,15 @@ fn ends_in_i(text: &[u8]) -> bool
 }
 
 // What stands in the i's place: the first rule of the small ya.
-fn small_target(
-    rules: &[u8],
-    ready: &[u32],
-    line: &[u32],
-    text: &[u8],
-    g: Growing,
-) -> Option<Target>
-    requires { Prepared rules.now ready.now × (0 < g.to) × (g.to ≤ size_in line.now) }
+fn small_target(dicts: &Dicts, line: &[u32], text: &[u8], g: Growing) -> Option<Target>
+    requires { (0 < g.to) × (g.to ≤ size_in line.now) }
     ensures { ((x : World) → Lined x line.now
-        → chosen_means rules.now result ≡ small_target (rules_of rules.now) (kinds x) x.text (work text.now g.from g.to g.note))
-        × Said rules.now result × (has (chosen_means rules.now result) ≡ true → (g.to < size_in line.now) × (0 < length text.now)) }
+        → chosen_means dicts.now.rules.now result ≡ small_target (rules_of dicts.now.rules.now) (kinds x) x.text (work text.now g.from g.to g.note))
+        × Said dicts.now.rules.now result × (has (chosen_means dicts.now.rules.now result) ≡ true → (g.to < size_in line.now) × (0 < length text.now)) }
 {
     if is_small_next(line, g.to) && ends_in_i(text) {
         let small = words::number_at(line, g.to + 1);
-        return rule_choice::romanization_by_first_rule(rules, ready, &[small]);
+        return rule_choice::romanization_by_first_rule(dicts, &[small]);
     }
     None
 }
@@ -174,75 +156,70 @@ fn put_small(
 // Small ya, unless a rule has it too, from the first start or from where the span starts now.
 #[tactic(auto, using(steps::proofs::Letters::held_within, steps::proofs::Letters::held_long))]
 fn small_y(
-    rules: &[u8],
-    ready: &[u32],
-    code: &[u8],
+    dicts: &Dicts,
     line: &[u32],
     places: &mut [u32],
     bytes: &mut [u8],
     o: usize,
     g: Growing,
 ) -> Growing
-    requires { Workable (g.len + most_target ≤ most_bytes) rules.now ready.now line.now o bytes.old g }
-    ensures { Answers rules.now ready.now code.now line.now places.old places.new
+    requires { Workable (g.len + most_target ≤ most_bytes) dicts.now.rules.now dicts.now.ready.now line.now o bytes.old g }
+    ensures { Answers dicts.now line.now places.old places.new
         (λ L t v. small_y L t v o (work_in bytes.old g)) (work_in bytes.new result)
         × Held bytes.new result × (result.len < most_bytes) × (result.from ≡ g.from) × (g.to ≤ result.to) × (result.to ≤ size_in line.now) }
 {
-    let target = small_target(rules, ready, line, &bytes[..g.len], g);
+    let target = small_target(dicts, line, &bytes[..g.len], g);
     if target.is_none() {
         return g;
     }
     let from = g.from;
     let to = g.to + 1;
-    if is_ruled(rules, ready, code, line, places, Span { from: o, to }) {
+    if is_ruled(dicts, line, places, Span { from: o, to }) {
         return g;
     }
-    if is_ruled(rules, ready, code, line, places, Span { from, to }) {
+    if is_ruled(dicts, line, places, Span { from, to }) {
         return g;
     }
-    put_small(rules, target, bytes, g, to)
+    put_small(dicts.rules, target, bytes, g, to)
 }
 
 // Grave and small ya, and what ends the expansion.
 fn rest(
-    rules: &[u8],
-    ready: &[u32],
-    code: &[u8],
+    dicts: &Dicts,
     line: &[u32],
     places: &mut [u32],
     bytes: &mut [u8],
     o: usize,
     g: Growing,
 ) -> Growing
-    requires { Workable (g.len + most_target < most_bytes) rules.now ready.now line.now o bytes.old g }
-    ensures { Answers rules.now ready.now code.now line.now places.old places.new
+    requires { Workable (g.len + most_target < most_bytes) dicts.now.rules.now dicts.now.ready.now line.now o bytes.old g }
+    ensures { Answers dicts.now line.now places.old places.new
         (λ L t v. rest L t v o (work_in bytes.old g)) (work_in bytes.new result) × Held bytes.new result }
 {
-    let u = grave(rules, ready, code, line, places, bytes, o, g);
-    let x = small_y(rules, ready, code, line, places, bytes, o, u);
+    let u = grave(dicts, line, places, bytes, o, g);
+    let x = small_y(dicts, line, places, bytes, o, u);
     steps::ending(line, bytes, x)
 }
 
 // Thai: the pattern ends the expansion; else comes the vowel written before, and then a silent O ang is deleted, which ends it too.
 fn thai(
     choices: Choices,
-    rules: &[u8],
-    ready: &[u32],
+    dicts: &Dicts,
     line: &[u32],
     places: &[u32],
     bytes: &mut [u8],
     o: usize,
     g: Growing,
 ) -> ControlFlow<Growing, Growing>
-    requires { Workable (g.len + most_target + most_target < most_bytes) rules.now ready.now line.now o bytes.old g }
-    ensures { Opens rules.now ready.now line.now places.now o
+    requires { Workable (g.len + most_target + most_target < most_bytes) dicts.now.rules.now dicts.now.ready.now line.now o bytes.old g }
+    ensures { Opens dicts.now.rules.now dicts.now.ready.now line.now places.now o
         (λ L t v. thai L t v (choices_of choices) o (work_in bytes.old g)) bytes.new result }
 {
-    if let Some(pattern) = steps::vowel_around(rules, ready, line, bytes, g) {
+    if let Some(pattern) = steps::vowel_around(dicts, line, bytes, g) {
         return ControlFlow::Break(pattern);
     }
-    let u = steps::vowel_before(rules, ready, line, bytes, g);
-    if o_ang::is_silent(choices, rules, ready, line, places, o, u) {
+    let u = steps::vowel_before(dicts, line, bytes, g);
+    if o_ang::is_silent(choices, dicts, line, places, o, u) {
         return ControlFlow::Break(Growing {
             len: rom::keep(bytes, u.len, 0, 0),
             note: edge::DELETED,
@@ -255,28 +232,27 @@ fn thai(
 // What the script of the span's first character, at `o`, asks for before the rest.
 fn by_script(
     choices: Choices,
-    rules: &[u8],
-    ready: &[u32],
+    dicts: &Dicts,
     line: &[u32],
     places: &[u32],
     bytes: &mut [u8],
     o: usize,
     g: Growing,
 ) -> ControlFlow<Growing, Growing>
-    requires { Workable (g.len + most_target + most_target < most_bytes) rules.now ready.now line.now o bytes.old g }
-    ensures { Opens rules.now ready.now line.now places.now o
+    requires { Workable (g.len + most_target + most_target < most_bytes) dicts.now.rules.now dicts.now.ready.now line.now o bytes.old g }
+    ensures { Opens dicts.now.rules.now dicts.now.ready.now line.now places.now o
         (λ L t v. by_script L t v (choices_of choices) o (work_in bytes.old g)) bytes.new result }
 {
     if table_classes::script(words::kind_at(line, o + 1)) != table_classes::THAI {
         return ControlFlow::Continue(g);
     }
-    thai(choices, rules, ready, line, places, bytes, o, g)
+    thai(choices, dicts, line, places, bytes, o, g)
 }
 
 // The first steps: capitals, or else doubling. A romanization in upper case begins with no letter that is doubled.
 #[tactic(auto, using(steps::proofs::Letters::held_within, steps::proofs::Letters::held_long))]
 fn first_steps(line: &[u32], choices: Choices, bytes: &mut [u8], n: usize, span: Span) -> Growing
-    requires { Clean (held bytes.old n) × (n < most_bytes) × (span.from < span.to) × (span.to ≤ size_in line.now) }
+    requires { Clean (held bytes.old n) × (n < most_bytes) × (span.to ≤ size_in line.now) }
     ensures { ((x : World) → Lined x line.now → work_in bytes.new result
         ≡ double (kinds x) x.text span.from (capitalize (choices_of choices) (kinds x) x.text (over span (take n bytes.old))))
         × Held bytes.new result × (result.len ≤ n + 1) × (result.from ≤ span.from) × (result.to ≡ span.to) }
@@ -297,18 +273,15 @@ fn first_steps(line: &[u32], choices: Choices, bytes: &mut [u8], n: usize, span:
 // All steps, on the first `n` bytes of an array. No bytes are not expanded.
 fn all_steps(
     choices: Choices,
-    rules: &[u8],
-    ready: &[u32],
-    code: &[u8],
+    dicts: &Dicts,
     line: &[u32],
     places: &mut [u32],
     bytes: &mut [u8],
     n: usize,
     span: Span,
 ) -> Growing
-    requires { Prepared rules.now ready.now × Clean (held bytes.old n) × (n ≤ most_target + most_vowel)
-        × (span.from < span.to) × (span.to ≤ size_in line.now) }
-    ensures { Answers rules.now ready.now code.now line.now places.old places.new
+    requires { Clean (held bytes.old n) × (n ≤ most_target + most_vowel) × (span.to ≤ size_in line.now) }
+    ensures { Answers dicts.now line.now places.old places.new
         (λ L t v. expand L t v (choices_of choices) (take n bytes.old) span.from span.to) (work_in bytes.new result)
         × Held bytes.new result }
 {
@@ -321,41 +294,28 @@ fn all_steps(
         };
     }
     let g = first_steps(line, choices, bytes, n, span);
-    match by_script(choices, rules, ready, line, places, bytes, span.from, g) {
+    match by_script(choices, dicts, line, places, bytes, span.from, g) {
         ControlFlow::Break(done) => done,
-        ControlFlow::Continue(u) => rest(rules, ready, code, line, places, bytes, span.from, u),
+        ControlFlow::Continue(u) => rest(dicts, line, places, bytes, span.from, u),
     }
 }
 
 // A romanization over its span through the expansion.
 pub fn expand_rom_with_special_chars(
     choices: Choices,
-    rules: &[u8],
-    ready: &[u32],
-    code: &[u8],
+    dicts: &Dicts,
     line: &[u32],
     places: &mut [u32],
     r: Rom,
     span: Span,
 ) -> Work
-    requires { Prepared rules.now ready.now × Clean r × (r.len ≤ most_target + most_vowel)
-        × (span.from < span.to) × (span.to ≤ size_in line.now) }
-    ensures { Answers rules.now ready.now code.now line.now places.old places.new
+    requires { Clean r × (r.len ≤ most_target + most_vowel) × (span.to ≤ size_in line.now) }
+    ensures { Answers dicts.now line.now places.old places.new
         (λ L t v. expand L t v (choices_of choices) (text r) span.from span.to) (work_of result) × Clean result.rom }
 {
     let mut rom = r;
     let n = rom.len;
-    let g = all_steps(
-        choices,
-        rules,
-        ready,
-        code,
-        line,
-        places,
-        &mut rom.bytes,
-        n,
-        span,
-    );
+    let g = all_steps(choices, dicts, line, places, &mut rom.bytes, n, span);
     rom.len = g.len;
     Work {
         rom,

@@ -11,7 +11,7 @@ ghost use Rattle.first_pass.specs.Rises.{put_span};
 ghost use Rattle.first_pass.specs.FirstPass.{SpanReady, StartReady, PassReady, FirstPass, BeganTo};
 
 use edge::{Filled, Full, Taken};
-use words::{Look, Span};
+use words::{Dicts, Look, Span};
 
 // Ends of a start, at most: no source is longer.
 const MOST_SOURCE: usize = rule_row::MOST_SOURCE as usize;
@@ -25,10 +25,7 @@ fn is_known(look: Look) -> bool
 
 // The edge of one span, where it has one, is added.
 fn add_span(
-    rules: &[u8],
-    ready: &[u32],
-    vowels: &[u8],
-    code: &[u8],
+    dicts: &Dicts,
     line: &[u32],
     slots: &mut [u8],
     room: &mut [u8],
@@ -36,16 +33,16 @@ fn add_span(
     filled: Filled,
     look: Look,
 ) -> Result<Taken, Full>
-    requires { SpanReady rules.now ready.now vowels.now line.now slots.old room.old places.old filled look }
-    ensures { Reaches rules.now ready.now vowels.now code.now line.now
+    requires { SpanReady dicts.now.rules.now dicts.now.ready.now dicts.now.vowels.now line.now slots.old room.old places.old filled look }
+    ensures { Reaches dicts.now.rules.now dicts.now.ready.now dicts.now.vowels.now dicts.now.code.now line.now
         (slots.old, room.old, places.old) (slots.new, room.new, places.new)
         filled (filled.used + most_bytes) (λ D t. put_span D t look.span.from look.span.to) result }
 {
     let mut bytes = [0u8; rom::MOST_BYTES];
-    match spans::put_span_edge(rules, ready, vowels, code, line, places, look, &mut bytes) {
+    match spans::put_span_edge(dicts, line, places, look, &mut bytes) {
         Some(found) => {
             let text = &bytes[..found.len];
-            let end = noting::ending_of(text, passes::ends_in_letter(ready, text));
+            let end = noting::ending_of(text, passes::ends_in_letter(dicts.ready, text));
             noting::add_edge(slots, room, places, filled, found.numbers, text, end)
         }
         None => Ok(Taken {
@@ -57,10 +54,7 @@ fn add_span(
 
 // `add_romanization` from one start: its ends rise while the span is a prefix of a source.
 fn add_from(
-    rules: &[u8],
-    ready: &[u32],
-    vowels: &[u8],
-    code: &[u8],
+    dicts: &Dicts,
     line: &[u32],
     slots: &mut [u8],
     room: &mut [u8],
@@ -68,8 +62,8 @@ fn add_from(
     filled: Filled,
     s: usize,
 ) -> Result<Taken, Full>
-    requires { StartReady rules.now ready.now vowels.now line.now slots.old room.old places.old filled s }
-    ensures { Reaches rules.now ready.now vowels.now code.now line.now
+    requires { StartReady dicts.now.rules.now dicts.now.ready.now dicts.now.vowels.now line.now slots.old room.old places.old filled s }
+    ensures { Reaches dicts.now.rules.now dicts.now.ready.now dicts.now.vowels.now dicts.now.code.now line.now
         (slots.old, room.old, places.old) (slots.new, room.new, places.new)
         filled (filled.used + most_source * most_bytes) (λ D t. build D t s) result }
 {
@@ -82,7 +76,7 @@ fn add_from(
         if n < e {
             return Ok(taken);
         }
-        let look = words::look_up(rules, ready, line, Span { from: s, to: e });
+        let look = words::look_up(dicts, line, Span { from: s, to: e });
         if !is_known(look) {
             return Ok(taken);
         }
@@ -91,9 +85,7 @@ fn add_from(
             used: taken.used,
             since: filled.since,
         };
-        taken = add_span(
-            rules, ready, vowels, code, line, slots, room, places, so_far, look,
-        )?;
+        taken = add_span(dicts, line, slots, room, places, so_far, look)?;
         // no longer source: the next span is none's start
         if !look.found.more {
             return Ok(taken);
@@ -114,10 +106,7 @@ pub struct Stretch {
 // From every start of a stretch. Of each start, and of the one behind the last, it is kept how many edges there were when the
 // search came to it.
 pub fn add_romanization(
-    rules: &[u8],
-    ready: &[u32],
-    vowels: &[u8],
-    code: &[u8],
+    dicts: &Dicts,
     line: &[u32],
     slots: &mut [u8],
     room: &mut [u8],
@@ -125,8 +114,8 @@ pub fn add_romanization(
     starts: &mut [u32],
     stretch: Stretch,
 ) -> Result<Taken, Full>
-    requires { PassReady rules.now ready.now vowels.now line.now slots.old room.old places.old starts.old stretch }
-    ensures built { FirstPass rules.now ready.now vowels.now code.now line.now
+    requires { PassReady dicts.now.rules.now dicts.now.ready.now dicts.now.vowels.now line.now slots.old room.old places.old starts.old stretch }
+    ensures built { FirstPass dicts.now.rules.now dicts.now.ready.now dicts.now.vowels.now dicts.now.code.now line.now
         (slots.old, room.old, places.old) (slots.new, room.new, places.new) stretch result }
     ensures starts { BeganTo slots.new room.new (size_in line.now) starts.new stretch result }
 {
@@ -141,9 +130,7 @@ pub fn add_romanization(
             used: taken.used,
             since: standing::since(starts, s),
         };
-        taken = add_from(
-            rules, ready, vowels, code, line, slots, room, places, filled, s,
-        )?;
+        taken = add_from(dicts, line, slots, room, places, filled, s)?;
     }
     standing::begin_at(starts, stretch.to, taken.count);
     Ok(taken)

@@ -1,8 +1,8 @@
 -- The second pass behind a first one that is done: what it needs, and that it makes the whole lattice or its refusal.
-use Prim.Native.Nat.{ℕ, ◌+◌, ◌*◌, ◌/◌, ◌≤◌, ◌<◌}
+use Prim.Native.Nat.{ℕ, ◌+◌, ◌*◌, ◌/◌, ◌≤◌}
 use mathlib.Core.List.{List, []}
 use mathlib.Core.Option.{none, some}
-use mathlib.Core.Path.{◌≡◌, refl, sym, ap, ◌∙◌, subst}
+use mathlib.Core.Path.{◌≡◌, refl, ap, ◌∙◌, subst}
 use native.Mathlib.Omega.{arith}
 use lib.ListN.{length, replicate}
 use Rattle.definition.specs.Limits.{slot_bytes, most_bytes}
@@ -18,15 +18,14 @@ use Rattle.definition.specs.Capacity.{misfit, overflow}
 use Rattle.definition.specs.DecompositionRows.{decompositions_of}
 use Rattle.definition.specs.Call.{Called, tables_of, decompositions, accepted}
 use Rattle.edge.specs.declared.Filled.{Filled}
-use Rattle.std.specs.Prelude.{Result, Ok, Err, IsErrAnd}
+use Rattle.std.specs.Prelude.{Result, Err, IsErrAnd}
 use Rattle.edge.specs.Answers.{Answer, fits}
 use Rattle.edge.specs.declared.Full.{Full}
 use Rattle.edge.specs.declared.Full.TheVariants.{Slots, Room}
 use Rattle.standing.specs.Stands.{Stands}
-use Rattle.words.specs.Given.{World, kinds, size, size_in, ready_in, line_in, Prepared, Told, Lined, line-size}
-use Rattle.passes.specs.Reached.{addressable, Over, with_edges, told_with, over_now, Reached, reached_as}
-use Rattle.passes.specs.Starts.{Began}
-use Rattle.second_pass.specs.Fallback.{Own, chars_in}
+use Rattle.words.specs.Given.{World, kinds, size, size_in, Prepared, line-size}
+use Rattle.words.specs.declared.given.Dicts.{Dicts}
+use Rattle.passes.specs.Reached.{Over, with_edges, told_with, over_now, Reached, reached_as}
 use Rattle.second_pass.specs.SecondPass.{FallReady, SecondPass}
 use Rattle.decomp.specs.Steps.{reached-fits}
 use Rattle.decomp_pass.specs.Both.{lattice-is, second_asks, grew-fits}
@@ -44,9 +43,9 @@ stopped : {ks : List Class} {n : ℕ} {S R S' R' P' : List ℕ} {most : ℕ} {st
 stopped (Slots p) r = r.came
 stopped (Room p) r = r.came
 
--- In a world that the first pass is done in, with what was made ready and the line cut apart
-module _ {rules prepared vowels bytes code S R P : List ℕ} {filled : Filled} {w : World} (f : FirstDone rules prepared vowels bytes code S R P filled w)
-    {ready line : List ℕ} (x : ready ≡ ready_in prepared) (y : line ≡ line_in prepared) where
+-- In a world that the first pass is done in
+module _ {rules ready line vowels bytes code S R P : List ℕ} {filled : Filled} {w : World}
+    (f : FirstDone rules ready line vowels bytes code S R P filled w) where
   abbrev D : Tables
   D = tables_of w.choices rules w.classes vowels code
 
@@ -59,15 +58,9 @@ module _ {rules prepared vowels bytes code S R P : List ℕ} {filled : Filled} {
   abbrev first : State
   first = each (start D ds t) (length t) 0 ([], replicate (length t) 0)
 
-  told : Told w ready
-  told = subst (Told w) (sym x) f.done.told
-
-  lined : Lined w line
-  lined = subst (Lined w) (sym y) f.done.lined
-
   -- the second pass is lent its edges
   pub first-lent : Over (with_edges w first.0) ready line S R P filled
-  first-lent = over_now told lined S R P filled first f.done.grew.came.0
+  first-lent = over_now f.done.told f.done.lined S R P filled first f.done.grew.came.0
 
   -- and goes on from them to the lattice
   pub both_passes : {S' R' P' : List ℕ} (r : Answer) → SecondPass rules ready code line filled (S, R, P) (S', R', P') r
@@ -80,7 +73,7 @@ module _ {rules prepared vowels bytes code S R P : List ℕ} {filled : Filled} {
     -- behind edges that fit, fallbacks ask slots and room alone
     asks_room : overflow D ds t (length S / slot_bytes) (length R) (lattice D ds t).0 ≡ misfit (length S / slot_bytes) (length R) (lattice D ds t).0
     asks_room =
-        let ok : Bounded D = tables-bounded w.choices rules w.classes vowels code table.table.accepted lined.fine f.done.fine in
+        let ok : Bounded D = tables-bounded w.choices rules w.classes vowels code table.table.accepted f.done.lined.fine f.done.fine in
         subst (λ (s : State). overflow D ds t (length S / slot_bytes) (length R) s.0 ≡ misfit (length S / slot_bytes) (length R) s.0) (lattice-is D ds t)
         (second_asks D ds t (length S / slot_bytes) (length R) first ok f.done.grew.came.2 (reached-fits (grew-fits f.done.grew)))
 
@@ -111,7 +104,7 @@ module _ {rules prepared vowels bytes code S R P : List ℕ} {filled : Filled} {
 
         pub second-whole : mode ≤ 3 → (starts : List ℕ) → Stands S' starts c → length starts ≡ size_in line + 1
             → Whole rules ready line S' R' P' starts (record { mode = mode; count = c; used = u })
-        second-whole = built-whole rules vowels code ds told lined table f.done.fine reached held mode
+        second-whole = built-whole rules vowels code ds f.done.told f.done.lined table f.done.fine reached held mode
 
         pub second-shown : (out : ℕ) (r : Called)
             → Writes (given mode w.choices rules w.classes vowels bytes code text (length S) (length R) out) rules ready code line S' R' P'
@@ -119,22 +112,18 @@ module _ {rules prepared vowels bytes code S R P : List ℕ} {filled : Filled} {
             → r ≡ accepted (given mode w.choices rules w.classes vowels bytes code text (length S) (length R) out) D t
         second-shown out r writes =
             let l = (lattice D ds t).0 in
-            built-written rules vowels code ds told lined table f.done.fine reached held mode out bytes text refl r
-            (writes vowels (with_edges w l) (told_with told l) (built-lent rules vowels code ds told lined table f.done.fine reached held) reached.came.0.edges)
+            built-written rules vowels code ds f.done.told f.done.lined table f.done.fine reached held mode out bytes text refl r
+            (writes vowels (with_edges w l) (told_with f.done.told l) (built-lent rules vowels code ds f.done.told f.done.lined table f.done.fine reached held) reached.came.0.edges)
 
 -- What the second pass needs
-module _ {rules prepared code text S R P starts : List ℕ} {filled : Filled} (h : FinishReady rules prepared code text S R P starts filled)
-    {ready line : List ℕ} (x : ready ≡ ready_in prepared) (y : line ≡ line_in prepared) where
-  pub table_ready : Prepared rules ready
-  table_ready = subst (Prepared rules) (sym x) h.table
-
-  pub fall_ready : FallReady rules ready text line S R P starts filled
-  fall_ready =
-      let l = h.first.done.lined in
-      let used = h.first.done.grew.came.1 in (
-        table_ready,
-        subst (λ (l : List ℕ). Own text (chars_in l)) (sym y) h.own,
-        subst (λ (l : List ℕ). filled.used + size_in l * most_bytes < addressable) (sym y) (omega (arith, used, l.few, line-size l)),
-        record { world = with_edges h.world _; over = first-lent h.first x y },
-        subst (λ (l : List ℕ). Began S R (size_in l) starts (fits filled.count filled.used)) (sym y) h.began,
-      )
+pub fall_ready : {dicts : Dicts} {line text S R P starts : List ℕ} {filled : Filled} → FinishReady dicts line text S R P starts filled
+    → FallReady dicts.rules.now dicts.ready.now text line S R P starts filled
+fall_ready {dicts} h =
+    let l = h.first.done.lined in
+    let used = h.first.done.grew.came.1 in (
+      dicts.prepared,
+      h.own,
+      omega (arith, used, l.few, line-size l),
+      record { world = with_edges h.world _; over = first-lent h.first },
+      h.began,
+    )

@@ -10,13 +10,9 @@ use Rattle.definition.specs.Limits.{most_mode, most_choice}
 use Rattle.definition.specs.Tables.{Choices}
 use Rattle.definition.specs.Refusals.{Refusal, refuse, when, refused_mode, refused_capitals, refused_o_ang, refused_readings}
 use Rattle.jettyfig.specs.declared.Mode.{Mode}
-use Rattle.jettyfig.specs.declared.Mode.TheVariants as Mode
 use Rattle.jettyfig.specs.declared.Capitals.{Capitals}
-use Rattle.jettyfig.specs.declared.Capitals.TheVariants as Capitals
 use Rattle.jettyfig.specs.declared.OAng.{OAng}
-use Rattle.jettyfig.specs.declared.OAng.TheVariants as OAng
 use Rattle.jettyfig.specs.declared.Readings.{Readings}
-use Rattle.jettyfig.specs.declared.Readings.TheVariants as Readings
 use Rattle.jettyfig.specs.declared.Asked.{Asked}
 use Rattle.jettyfig.specs.Verdicts.{mode_number, capitals_number, o_ang_number, readings_number, chosen, by_asked, above, not_above}
 

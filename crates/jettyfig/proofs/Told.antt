@@ -1,18 +1,12 @@
 -- What a mode past the highest is refused by, and that a text has few characters and the output is zeros still: named on
 -- `check_asked` and `respond`, so that no answer there hangs on the words of a condition.
-use Prim.Native.Nat.{ℕ, ◌<◌, ◌≤◌}
-use mathlib.Core.List.{List, [], ◌∷◌}
-use mathlib.Core.Option.{some}
-use mathlib.Core.Path.{◌≡◌, sym}
-use lib.Dec.{ltb}
+use Prim.Native.Nat.{ℕ, ◌≤◌}
+use mathlib.Core.List.{List}
+use mathlib.Core.Path.{◌≡◌}
 use native.Mathlib.Omega.{arith}
 use lib.ListN.{length, replicate, length-replicate}
-use Rattle.definition.specs.Limits.{most_mode, most_choice}
-use Rattle.definition.specs.Refusals.{refuse, when, refused_mode, refused_capitals, refused_o_ang, refused_readings}
 use Rattle.definition.specs.Utf8.{decoded}
 use Rattle.utf8.specs.Beginnings.{beginnings, few_beginnings}
-use Rattle.jettyfig.specs.declared.Asked.{Asked}
-use Rattle.jettyfig.specs.Verdicts.{by_asked, chosen, above}
 
 pub few_decoded : (s : List ℕ) (n : ℕ) → beginnings s ≤ n → length (decoded s) ≤ n
 few_decoded s n h = omega (arith, few_beginnings s)

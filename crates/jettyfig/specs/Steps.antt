@@ -8,14 +8,13 @@ use Rattle.definition.specs.Decomposing.{start}
 use Rattle.definition.specs.DecompositionRows.{decompositions_of}
 use Rattle.definition.specs.Listing.{shown}
 use Rattle.definition.specs.Utf8.{decoded}
-use Rattle.definition.specs.Refusals.{refuse}
 use Rattle.definition.specs.ClassRows.{class_fault}
 use Rattle.definition.specs.RuleFaults.{rule_fault}
 use Rattle.definition.specs.Call.{Inputs, Called, tables_of, written, accepted, text_refusal, refusal}
 use Rattle.utf8.specs.Lines.{line_spaces, spaced}
-use Rattle.table_classes.specs.Told.{kinds_of, alphas_of}
+use Rattle.table_classes.specs.Told.{Fine, kinds_of, alphas_of}
 use Rattle.table_vowels.specs.Told.{FineVowels}
-use Rattle.table_decompositions.specs.Index.{index_of}
+use Rattle.table_decompositions.specs.Index.{Ready, index_of}
 use Rattle.rule_memo.specs.Kept.{all_places, Kept}
 use Rattle.edge.specs.declared.Filled.{Filled}
 use Rattle.edge.specs.Answers.{fits}
@@ -23,10 +22,10 @@ use Rattle.edge.specs.Slots.{edges_of}
 use Rattle.edge_places.specs.Shows.{memory}
 use Rattle.words.specs.Given.{World, kinds, size, size_in, letters_in, choices_in, mode_in, form_entries, forms_from, forms_in, index_from, all_ready, ready_in, line_in}
 use Rattle.words.specs.Given.{Prepared, Told, Lined, Lent}
+use Rattle.words.specs.declared.given.Dicts.{Dicts}
 use Rattle.passes.specs.Starts.{Began}
 use Rattle.second_pass.specs.Fallback.{Own, chars_in}
 use Rattle.decomp.specs.Answers.{Grew}
-use Rattle.decomp.specs.Rows.{Formable}
 use Rattle.decomp.specs.Grown.{GrewTo}
 use Rattle.output.specs.declared.Built.{Built}
 use Rattle.jettyfig.specs.declared.Refusal.{Refusal as Refused}
@@ -104,36 +103,39 @@ TextSet rules classes text before after (Err r) = text_refusal text ≡ some (re
 
 -- The first pass has answered in a world over what was lent, with some vowel and decomposition table: the state that it leads to
 -- from no edges is kept, and nothing has overflowed; or there is its refusal
-pub record FirstPassed (rules prepared vowels decompositions code slots room places : List ℕ) (r : Grew) (w : World) : Type 0 where
-  pub told : Told w (ready_in prepared)
-  pub lined : Lined w (line_in prepared)
+pub record FirstPassed (rules ready line vowels decompositions code slots room places : List ℕ) (r : Grew) (w : World) : Type 0 where
+  pub told : Told w ready
+  pub lined : Lined w line
   pub fine : FineVowels vowels
   pub grew : GrewTo (tables_of w.choices rules w.classes vowels code) (decompositions_of decompositions) w.text (kinds w) (size w)
-      slots room slots room places (size_in (line_in prepared) * (most_edges * most_bytes))
+      slots room slots room places (size_in line * (most_edges * most_bytes))
       (each (start (tables_of w.choices rules w.classes vowels code) (decompositions_of decompositions) w.text) (size w) 0 ([], replicate (size w) 0))
       r
 
 -- with all edges that it has
-pub record FirstDone (rules prepared vowels decompositions code slots room places : List ℕ) (filled : Filled) (w : World) : Type 0 where
-  pub done : FirstPassed rules prepared vowels decompositions code slots room places (Ok record { count = filled.count; used = filled.used }) w
+pub record FirstDone (rules ready line vowels decompositions code slots room places : List ℕ) (filled : Filled) (w : World) : Type 0 where
+  pub done : FirstPassed rules ready line vowels decompositions code slots room places (Ok record { count = filled.count; used = filled.used }) w
 
--- All is ready for the second pass: the tables are as they were checked, the text's bytes are its own, starts tell how many
--- edges each found, and there is such a world
-pub record FinishReady (rules prepared code text slots room places starts : List ℕ) (filled : Filled) : Type 0 where
-  pub long : all_ready ≤ length prepared
-  pub table : Prepared rules (ready_in prepared)
-  pub own : Own text (chars_in (line_in prepared))
-  pub mode : mode_in (ready_in prepared) ≤ most_mode
-  pub began : Began slots room (size_in (line_in prepared)) starts (fits filled.count filled.used)
+-- All is ready for the second pass: the text's bytes are its own, the mode is one that there is, starts tell how many edges each
+-- found, and there is such a world
+pub record FinishReady (dicts : Dicts) (line text slots room places starts : List ℕ) (filled : Filled) : Type 0 where
+  pub own : Own text (chars_in line)
+  pub mode : mode_in dicts.ready.now ≤ most_mode
+  pub began : Began slots room (size_in line) starts (fits filled.count filled.used)
   pub vowels : List ℕ
   pub decompositions : List ℕ
   pub world : World
-  pub first : FirstDone rules prepared vowels decompositions code slots room places filled world
+  pub first : FirstDone dicts.rules.now dicts.ready.now line vowels decompositions dicts.code.now slots room places filled world
 
--- All is ready: the tables are as they were checked, the text's bytes are its own, and there is a world
+-- All is ready: the tables are as they were checked and what was made ready is theirs, the text's bytes are its own, and there is
+-- a world
 pub record RomanizeReady (rules prepared classes vowels decompositions text : List ℕ) : Type 0 where
   pub long : all_ready ≤ length prepared
-  pub forms : Formable rules (ready_in prepared) classes vowels decompositions
+  pub table : Prepared rules (ready_in prepared)
+  pub inherent : FineVowels vowels
+  pub kinds : Fine classes
+  pub letters : letters_in (ready_in prepared) ≡ alphas_of classes
+  pub forms : Ready decompositions (forms_in (ready_in prepared))
   pub own : Own text (chars_in (line_in prepared))
   pub mode : mode_in (ready_in prepared) ≤ most_mode
   pub world : World
@@ -148,11 +150,12 @@ Writes i rules ready code line slots room places built r =
     → r ≡ written i built.count (shown (tables_of w.choices rules w.classes vowels code) w.text built.mode (w.edges, memory (size w) places))
 
 -- what is left of an accepted call after its first pass, whatever tables and world that was done in
-abbrev pub Finishes : List ℕ → List ℕ → List ℕ → List ℕ → List ℕ → List ℕ → List ℕ → Filled → ℕ → Called → Type 0
-Finishes rules prepared code text slots room places filled out r =
-    (vowels decompositions : List ℕ) (w : World) → FirstDone rules prepared vowels decompositions code slots room places filled w
-    → r ≡ accepted (given (mode_in (ready_in prepared)) w.choices rules w.classes vowels decompositions code text (length slots) (length room) out)
-    (tables_of w.choices rules w.classes vowels code) w.text
+abbrev pub Finishes : Dicts → List ℕ → List ℕ → List ℕ → List ℕ → List ℕ → Filled → ℕ → Called → Type 0
+Finishes dicts line text slots room places filled out r =
+    (vowels decompositions : List ℕ) (w : World)
+    → FirstDone dicts.rules.now dicts.ready.now line vowels decompositions dicts.code.now slots room places filled w
+    → r ≡ accepted (given (mode_in dicts.ready.now) w.choices dicts.rules.now w.classes vowels decompositions dicts.code.now text
+    (length slots) (length room) out) (tables_of w.choices dicts.rules.now w.classes vowels dicts.code.now) w.text
 
 -- and the whole of an accepted call
 abbrev pub Romanizes : List ℕ → List ℕ → List ℕ → List ℕ → List ℕ → List ℕ → List ℕ → ℕ → ℕ → ℕ → Called → Type 0

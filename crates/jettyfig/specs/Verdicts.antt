@@ -26,23 +26,15 @@ use Rattle.table_decompositions.specs.Index.{index_of}
 use Rattle.table_decompositions.specs.Told.{checked_ready}
 use Rattle.rule_row_faults.specs.Kinds.{fault_number}
 use Rattle.utf8.specs.declared.TextFault.{TextFault}
-use Rattle.utf8.specs.declared.TextFault.TheVariants as TextFault
 use Rattle.edge.specs.declared.Full.{Full}
-use Rattle.edge.specs.declared.Full.TheVariants as Full
 use Rattle.decomp.specs.declared.Unfit.{Unfit}
-use Rattle.decomp.specs.declared.Unfit.TheVariants as Unfit
 use Rattle.jettyfig.specs.declared.Answer.{Answer}
 use Rattle.jettyfig.specs.declared.Asked.{Asked}
 use Rattle.jettyfig.specs.declared.Mode.{Mode}
-use Rattle.jettyfig.specs.declared.Mode.TheVariants as Mode
 use Rattle.jettyfig.specs.declared.Capitals.{Capitals}
-use Rattle.jettyfig.specs.declared.Capitals.TheVariants as Capitals
 use Rattle.jettyfig.specs.declared.OAng.{OAng}
-use Rattle.jettyfig.specs.declared.OAng.TheVariants as OAng
 use Rattle.jettyfig.specs.declared.Readings.{Readings}
-use Rattle.jettyfig.specs.declared.Readings.TheVariants as Readings
 use Rattle.jettyfig.specs.declared.Table.{Table}
-use Rattle.jettyfig.specs.declared.Table.TheVariants as Table
 use Rattle.jettyfig.specs.declared.Refusal.{Refusal as Refused}
 use Rattle.jettyfig.specs.declared.Refusal.TheVariants as refused
 use Rattle.jettyfig.specs.declared.Romanized.{Romanized}
@@ -59,7 +51,7 @@ refusal_means refused.Mode = refuse refused_mode 0
 refusal_means refused.Capitals = refuse refused_capitals 0
 refusal_means refused.OAng = refuse refused_o_ang 0
 refusal_means refused.Readings = refuse refused_readings 0
-refusal_means (refused.Rules fault) = refuse (fault_number fault.kind) fault.at
+refusal_means (refused.Rules kind at) = refuse (fault_number kind) at
 refusal_means (refused.Table table at) = refuse (table_number table) at
 refusal_means refused.Code = refuse refused_code 0
 refusal_means (refused.NotUtf8 at) = refuse refused_utf8 at

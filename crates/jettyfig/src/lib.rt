@@ -24,9 +24,10 @@ ghost use Rattle.jettyfig.specs.Steps.{Writes, Finishes, Romanizes, TextSet, Set
 use decomp::Unfit;
 use edge::{Filled, Full};
 use output::Built;
-use rule_row_faults::RuleFault;
+use rule_row_faults::{Fault, RuleFault};
 use table_blocks::TableFault;
 use utf8::TextFault;
+use words::Dicts;
 
 // What is kept for a text stands in arrays, and an array is written whole: so there are two sizes of each, and a text of so many
 // characters has the smaller ones. No character has more bytes than these.
@@ -82,7 +83,7 @@ pub enum Refusal {
     OAng,
     Readings,
     // The rule table has this fault at this offset; another table's first faulty row is at this one.
-    Rules(RuleFault),
+    Rules { kind: Fault, at: usize },
     Table { table: Table, at: usize },
     // The language code is neither empty nor three letters a to z.
     Code,
@@ -109,7 +110,7 @@ impl Refusal {
             Refusal::Capitals => 12,
             Refusal::OAng => 15,
             Refusal::Readings => 17,
-            Refusal::Rules(fault) => fault.kind.number(),
+            Refusal::Rules { kind, at: _ } => kind.number(),
             Refusal::Table { table, at: _ } => match table {
                 Table::Classes => 3,
                 Table::Vowels => 4,
@@ -132,7 +133,7 @@ impl Refusal {
         ensures { result ≡ (refusal_means self).place }
     {
         match self {
-            Refusal::Rules(fault) => fault.at as u64,
+            Refusal::Rules { kind: _, at } => at as u64,
             Refusal::Table { table: _, at } => at as u64,
             Refusal::NotUtf8 { at } => at as u64,
             Refusal::TooLong => utf8::MOST_CHARACTERS as u64,
@@ -152,10 +153,13 @@ impl Refusal {
 }
 
 impl From<RuleFault> for Refusal {
-    ghost from_gives = { λ fault refusal. refusal ≡ refused.Rules fault };
+    ghost from_gives = { λ fault refusal. refusal ≡ refused.Rules fault.kind fault.at };
 
     fn from(fault: RuleFault) -> Refusal {
-        Refusal::Rules(fault)
+        Refusal::Rules {
+            kind: fault.kind,
+            at: fault.at,
+        }
     }
 }
 
@@ -387,11 +391,11 @@ fn check_code(code: &[u8]) -> Result<(), Refusal>
 }
 
 // What is refused of the tables and the code, in this order. The decomposition table's index is filled by the way.
-fn check(tables: Tables, index: &mut [u32]) -> Result<(), Refusal>
+fn check(tables: &Tables, index: &mut [u32]) -> Result<(), Refusal>
     requires { index.old ≡ replicate form_entries 0 }
-    ensures verdict { verdict_means result ≡ by_tables tables.entry.rules.now tables.entry.classes.now tables.entry.vowels.now
-        tables.entry.decompositions.now tables.entry.code.now }
-    ensures index { Indexed tables.entry.decompositions.now index.new result }
+    ensures verdict { verdict_means result ≡ by_tables tables.now.rules.now tables.now.classes.now tables.now.vowels.now
+        tables.now.decompositions.now tables.now.code.now }
+    ensures index { Indexed tables.now.decompositions.now index.new result }
 {
     rule_table_check::check_rules(tables.rules)?;
     let classes = table_classes::check_classes(tables.classes);
@@ -415,25 +419,23 @@ fn is_uncounted(mode: u8, needed: usize) -> bool
 
 // What the mode shows, or a refusal of a listing that is too large or an output that is too short for it.
 fn show(
-    tables: Tables,
-    ready: &[u32],
+    dicts: &Dicts,
     line: &[u32],
     places: &mut [u32],
     starts: &[u32],
     built: Built,
     memory: &mut Memory,
 ) -> Result<Romanized, Refusal>
-    requires { Whole tables.rules.now ready.now line.now memory.old.slots.now memory.old.room.now places.old starts.now built
+    requires { Whole dicts.now.rules.now dicts.now.ready.now line.now memory.old.slots.now memory.old.room.now places.old starts.now built
         × (memory.old.out.now ≡ replicate (length memory.old.out.now) 0) }
-    ensures written { (i : Inputs) → i.out ≡ length memory.old.out.now → i.mode ≡ built.mode → Writes i tables.entry.rules.now ready.now tables.entry.code.now
-        line.now memory.old.slots.now memory.old.room.now places.old built (returned (answered result) memory.new.out.now) }
+    ensures written { (i : Inputs) → i.out ≡ length memory.old.out.now → i.mode ≡ built.mode
+        → Writes i dicts.now.rules.now dicts.now.ready.now dicts.now.code.now line.now
+        memory.old.slots.now memory.old.room.now places.old built (returned (answered result) memory.new.out.now) }
     ensures lent { Lent memory.old memory.new }
 {
     let slots = &mut *memory.slots;
     let needed = output::put_shown(
-        tables.rules,
-        ready,
-        tables.code,
+        dicts,
         line,
         slots,
         memory.room,
@@ -458,27 +460,23 @@ fn show(
 
 // What is shown of the lattice once its first pass has found room: the fallbacks come behind its edges, or the refusal of slots
 // or text room that are too short for them.
-fn finish(
-    tables: Tables,
-    prepared: &[u32],
-    text: &[u8],
+fn finish<'a>(
+    dicts: &Dicts<'a>,
+    line: &[u32],
+    text: &'a [u8],
     places: &mut [u32],
     starts: &mut [u32],
     filled: Filled,
     memory: &mut Memory,
 ) -> Result<Romanized, Refusal>
-    requires { FinishReady tables.rules.now prepared.now tables.code.now text.now memory.old.slots.now memory.old.room.now places.old starts.old filled
+    requires { FinishReady dicts.now line.now text.now memory.old.slots.now memory.old.room.now places.old starts.old filled
         × (memory.old.out.now ≡ replicate (length memory.old.out.now) 0) }
-    ensures finished { Finishes tables.entry.rules.now prepared.now tables.entry.code.now text.now memory.old.slots.now memory.old.room.now
+    ensures finished { Finishes dicts.now line.now text.now memory.old.slots.now memory.old.room.now
         places.old filled (length memory.old.out.now) (returned (answered result) memory.new.out.now) }
     ensures lent { Lent memory.old memory.new }
 {
-    let ready = words::ready_in(prepared);
-    let line = words::line_in(prepared);
     let taken = second_pass::add_rom_fall_back_singles(
-        tables.rules,
-        ready,
-        tables.code,
+        dicts,
         text,
         line,
         memory.slots,
@@ -487,43 +485,48 @@ fn finish(
         starts,
         filled,
     )?;
-    let mode = words::mode_in(ready) as u8;
+    let mode = words::mode_in(dicts.ready) as u8;
     let built = Built {
         mode,
         count: taken.count,
         used: taken.used,
     };
-    show(tables, ready, line, places, starts, built, memory)
+    show(dicts, line, places, starts, built, memory)
 }
 
 // What is shown of the lattice of a text that has fewer characters than there are places, or its refusal. What is kept by position
 // and by start while it is built begins as zeros.
 fn build<const PLACES: usize>(
-    tables: Tables,
+    tables: &Tables,
     prepared: &[u32],
     text: &[u8],
     memory: &mut Memory,
 ) -> Result<Romanized, Refusal>
-    requires ready { RomanizeReady tables.rules.now prepared.now tables.classes.now tables.vowels.now tables.decompositions.now text.now }
+    requires ready { RomanizeReady tables.now.rules.now prepared.now tables.now.classes.now tables.now.vowels.now tables.now.decompositions.now text.now }
     requires zeros { memory.old.out.now ≡ replicate (length memory.old.out.now) 0 }
     requires places { (size_in (line_in prepared.now) < PLACES) × (PLACES ≤ most_characters + 1) }
-    ensures romanized { Romanizes tables.entry.rules.now prepared.now tables.entry.classes.now tables.entry.vowels.now tables.entry.decompositions.now
-        tables.entry.code.now text.now (length memory.old.slots.now) (length memory.old.room.now) (length memory.old.out.now)
+    ensures romanized { Romanizes tables.now.rules.now prepared.now tables.now.classes.now tables.now.vowels.now tables.now.decompositions.now
+        tables.now.code.now text.now (length memory.old.slots.now) (length memory.old.room.now) (length memory.old.out.now)
         (returned (answered result) memory.new.out.now) }
     ensures lent { Lent memory.old memory.new }
 {
-    let end = words::text_len(words::line_in(prepared)) + 1;
+    let line = words::line_in(prepared);
+    let dicts = Dicts {
+        rules: tables.rules,
+        classes: tables.classes,
+        vowels: tables.vowels,
+        decompositions: tables.decompositions,
+        code: tables.code,
+        ready: words::ready_in(prepared),
+    };
+    let end = words::text_len(line) + 1;
     let mut places = [0u32; PLACES];
     let mut starts = [0u32; PLACES];
     let places = &mut places[..end];
     let starts = &mut starts[..end];
     let taken = decomp_pass::add_romanization(
-        tables.rules,
-        prepared,
-        tables.classes,
-        tables.vowels,
-        tables.decompositions,
-        tables.code,
+        &dicts,
+        line,
         memory.slots,
         memory.room,
         places,
@@ -534,15 +537,15 @@ fn build<const PLACES: usize>(
         used: taken.used,
         since: taken.count,
     };
-    finish(tables, prepared, text, places, starts, filled, memory)
+    finish(&dicts, line, text, places, starts, filled, memory)
 }
 
 // What the engine asks besides the tables' rows: the ASCII letters, and the index of the rule table with what it has of the
 // line's characters.
-fn make_ready(tables: Tables, prepared: &mut [u32])
-    requires { (rule_fault tables.rules.now ≡ none) × (class_fault tables.classes.now ≡ none)
+fn make_ready(tables: &Tables, prepared: &mut [u32])
+    requires { (rule_fault tables.now.rules.now ≡ none) × (class_fault tables.now.classes.now ≡ none)
         × ((decompositions : List ℕ) × Blank decompositions prepared.old) }
-    ensures { MadeReady tables.entry.rules.now tables.entry.classes.now prepared.old prepared.new }
+    ensures { MadeReady tables.now.rules.now tables.now.classes.now prepared.old prepared.new }
 {
     table_classes::classify_ascii(tables.classes, &mut prepared[..ASCII]);
     let half = (prepared.len() - words::READY) / 2;
@@ -562,9 +565,9 @@ fn lay_out(classes: &[u8], text: &[u8], line: &mut [u32]) -> Result<usize, Refus
 }
 
 // The text's refusal, or the text in what is prepared, with all that the engine asks besides the tables' rows.
-fn set_up_text(tables: Tables, text: &[u8], prepared: &mut [u32]) -> Result<usize, Refusal>
-    requires { TextReady tables.rules.now tables.classes.now text.now prepared.old }
-    ensures { TextSet tables.entry.rules.now tables.entry.classes.now text.now prepared.old prepared.new result }
+fn set_up_text(tables: &Tables, text: &[u8], prepared: &mut [u32]) -> Result<usize, Refusal>
+    requires { TextReady tables.now.rules.now tables.now.classes.now text.now prepared.old }
+    ensures { TextSet tables.now.rules.now tables.now.classes.now text.now prepared.old prepared.new result }
 {
     let n = lay_out(tables.classes, text, &mut prepared[words::READY..])?;
     make_ready(
@@ -587,10 +590,10 @@ fn put_asked(prepared: &mut [u32], asked: Asked)
 
 // What is refused of tables, code and text, or all that is needed to build edges of so many characters. What was asked stands in what
 // is prepared.
-fn set_up(tables: Tables, text: &[u8], prepared: &mut [u32]) -> Result<usize, Refusal>
+fn set_up(tables: &Tables, text: &[u8], prepared: &mut [u32]) -> Result<usize, Refusal>
     requires { Fresh text.now prepared.old × (by_asked (mode_in prepared.old) (choices_in prepared.old) ≡ none) }
-    ensures { SetsUp (given (mode_in prepared.old) (choices_in prepared.old) tables.entry.rules.now tables.entry.classes.now
-        tables.entry.vowels.now tables.entry.decompositions.now tables.entry.code.now text.now 0 0 0) prepared.new result }
+    ensures { SetsUp (given (mode_in prepared.old) (choices_in prepared.old) tables.now.rules.now tables.now.classes.now
+        tables.now.vowels.now tables.now.decompositions.now tables.now.code.now text.now 0 0 0) prepared.new result }
 {
     check(tables, &mut prepared[words::FORMS..words::INDEX])?;
     set_up_text(tables, text, prepared)
@@ -601,15 +604,15 @@ fn set_up(tables: Tables, text: &[u8], prepared: &mut [u32]) -> Result<usize, Re
 #[inline(never)]
 fn respond<const PREPARED: usize, const PLACES: usize>(
     asked: Asked,
-    tables: Tables,
+    tables: &Tables,
     text: &[u8],
     memory: &mut Memory,
 ) -> Result<Romanized, Refusal>
     requires prepared { (PREPARED ≤ all_ready + 2 * (most_characters + line_spaces)) × (all_ready ≤ PREPARED) × LineRoom text.now (PREPARED - all_ready) }
     requires places { (PLACES ≤ most_characters + 1) × (length (decoded text.now) ≤ most_characters → length (decoded text.now) < PLACES) }
     requires zeros { memory.old.out.now ≡ replicate (length memory.old.out.now) 0 }
-    ensures called { returned (answered result) memory.new.out.now ≡ called (given (mode_number asked.mode) (chosen asked) tables.entry.rules.now
-        tables.entry.classes.now tables.entry.vowels.now tables.entry.decompositions.now tables.entry.code.now text.now (length memory.old.slots.now)
+    ensures called { returned (answered result) memory.new.out.now ≡ called (given (mode_number asked.mode) (chosen asked) tables.now.rules.now
+        tables.now.classes.now tables.now.vowels.now tables.now.decompositions.now tables.now.code.now text.now (length memory.old.slots.now)
         (length memory.old.room.now) (length memory.old.out.now)) }
     ensures lent { Lent memory.old memory.new }
 {
@@ -644,13 +647,13 @@ fn romanize(
     capitals: u8,
     o_ang: u8,
     readings: u8,
-    tables: Tables,
+    tables: &Tables,
     text: &[u8],
     memory: &mut Memory,
 ) -> Result<Romanized, Refusal>
     requires { memory.old.out.now ≡ replicate (length memory.old.out.now) 0 }
-    ensures called { returned (answered result) memory.new.out.now ≡ called (given mode (choose capitals o_ang readings) tables.entry.rules.now
-        tables.entry.classes.now tables.entry.vowels.now tables.entry.decompositions.now tables.entry.code.now text.now (length memory.old.slots.now)
+    ensures called { returned (answered result) memory.new.out.now ≡ called (given mode (choose capitals o_ang readings) tables.now.rules.now
+        tables.now.classes.now tables.now.vowels.now tables.now.decompositions.now tables.now.code.now text.now (length memory.old.slots.now)
         (length memory.old.room.now) (length memory.old.out.now)) }
     ensures lent { Lent memory.old memory.new }
 {
@@ -691,7 +694,7 @@ pub fn jettyfig_romanize<'a>(
     };
     let mut memory = Memory { slots, room, out };
     memory.out.fill(0);
-    let called = romanize(mode, capitals, o_ang, readings, tables, text, &mut memory);
+    let called = romanize(mode, capitals, o_ang, readings, &tables, text, &mut memory);
     memory.slots.fill(0);
     memory.room.fill(0);
     Answer::from(called)

@@ -6,14 +6,12 @@ ghost use Rattle.second_pass.specs.Starts.{Standing};
 ghost use Rattle.lattice.specs.Lattice.{Lattice, Buildable};
 
 use edge::{Filled, Full, Taken};
+use words::Dicts;
 
 // The lattice of a text in the slots and the room that are lent: how many edges it has and how much room they take, or
 // the first that finds no slot, or a slot but too little room.
 pub fn build_lattice<'a>(
-    rules: &'a [u8],
-    ready: &[u32],
-    vowels: &[u8],
-    code: &[u8],
+    dicts: &Dicts<'a>,
     text: &'a [u8],
     line: &[u32],
     slots: &mut [u8],
@@ -21,17 +19,14 @@ pub fn build_lattice<'a>(
     places: &mut [u32],
     starts: &mut [u32],
 ) -> Result<Taken, Full>
-    requires { Buildable rules.now ready.now vowels.now text.now line.now slots.old room.old places.old starts.old }
-    ensures built { Lattice rules.now ready.now vowels.now code.now line.now
+    requires { Buildable dicts.now.rules.now dicts.now.ready.now dicts.now.vowels.now text.now line.now slots.old room.old places.old starts.old }
+    ensures built { Lattice dicts.now.rules.now dicts.now.ready.now dicts.now.vowels.now dicts.now.code.now line.now
         (slots.old, room.old, places.old) (slots.new, room.new, places.new) result }
     ensures starts { Standing slots.new starts.new result }
 {
     let n = words::text_len(line);
     let taken = first_pass::add_romanization(
-        rules,
-        ready,
-        vowels,
-        code,
+        dicts,
         line,
         slots,
         room,
@@ -45,9 +40,7 @@ pub fn build_lattice<'a>(
         },
     )?;
     second_pass::add_rom_fall_back_singles(
-        rules,
-        ready,
-        code,
+        dicts,
         text,
         line,
         slots,

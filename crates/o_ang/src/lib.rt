@@ -15,8 +15,8 @@ ghost use Rattle.words.specs.Choosing.{choices_of};
 ghost use Rattle.o_ang.specs.Sides.{beside};
 
 use steps::Growing;
-use words::Choices;
 use words::characters::{O_ANG, SPACE};
+use words::{Choices, Dicts};
 
 // Is a text one or more of the consonants beside which O ang is spoken?
 #[tactic(auto, using(crate::proofs::Sounds::none_beside, crate::proofs::Sounds::some_beside))]
@@ -28,12 +28,11 @@ fn is_beside(text: &[u8]) -> bool
 
 // Is what the first rule of a character says one or more of the consonants beside which O ang is spoken?
 #[tactic(auto, using(crate::proofs::Sounds::beside_text))]
-fn starts_beside(rules: &[u8], ready: &[u32], c: u32) -> bool
-    requires { Prepared rules.now ready.now }
-    ensures { result ≡ is beside (first_rule (rules_of rules.now) (c ∷ [])) }
+fn starts_beside(dicts: &Dicts, c: u32) -> bool
+    ensures { result ≡ is beside (first_rule (rules_of dicts.now.rules.now) (c ∷ [])) }
 {
-    let target = rule_choice::romanization_by_first_rule(rules, ready, &[c]);
-    is_beside(rule_choice::chosen_text(rules, target))
+    let target = rule_choice::romanization_by_first_rule(dicts, &[c]);
+    is_beside(rule_choice::chosen_text(dicts.rules, target))
 }
 
 // Are both neighbours of the span Thai?
@@ -92,38 +91,30 @@ fn is_after_side(choices: Choices, line: &[u32], places: &[u32], p: usize) -> bo
 }
 
 // Does the span stand between Thai consonants?
-fn is_between(
-    choices: Choices,
-    rules: &[u8],
-    ready: &[u32],
-    line: &[u32],
-    places: &[u32],
-    g: Growing,
-) -> bool
-    requires { Prepared rules.now ready.now × (g.from ≤ g.to) × (g.to ≤ size_in line.now) × (1 ≤ g.to) }
+fn is_between(choices: Choices, dicts: &Dicts, line: &[u32], places: &[u32], g: Growing) -> bool
+    requires { (g.from ≤ g.to) × (g.to ≤ size_in line.now) × (1 ≤ g.to) }
     ensures { (x : World) (w : Text) → Lent x line.now places.now
-        → result ≡ between (choices_of choices) (rules_of rules.now) (kinds x) x.text (seen x) (work w g.from g.to g.note) }
+        → result ≡ between (choices_of choices) (rules_of dicts.now.rules.now) (kinds x) x.text (seen x) (work w g.from g.to g.note) }
 {
     is_in_thai(line, g)
         && is_after_side(choices, line, places, g.from)
-        && starts_beside(rules, ready, words::number_at(line, g.to + 1))
+        && starts_beside(dicts, words::number_at(line, g.to + 1))
 }
 
 // O ang alone is silent unless it stands between Thai consonants.
 pub fn is_silent(
     choices: Choices,
-    rules: &[u8],
-    ready: &[u32],
+    dicts: &Dicts,
     line: &[u32],
     places: &[u32],
     o: usize,
     g: Growing,
 ) -> bool
-    requires { Prepared rules.now ready.now × (g.from ≤ g.to) × (g.to ≤ size_in line.now) × (1 ≤ g.to) × (o ≤ size_in line.now) }
+    requires { (g.from ≤ g.to) × (g.to ≤ size_in line.now) × (1 ≤ g.to) × (o ≤ size_in line.now) }
     ensures { (x : World) (w : Text) → Lent x line.now places.now
-        → result ≡ silent (choices_of choices) (rules_of rules.now) (kinds x) x.text (seen x) o (work w g.from g.to g.note) }
+        → result ≡ silent (choices_of choices) (rules_of dicts.now.rules.now) (kinds x) x.text (seen x) o (work w g.from g.to g.note) }
 {
     words::number_at(line, o + 1) == O_ANG
         && g.from + 1 == g.to
-        && !is_between(choices, rules, ready, line, places, g)
+        && !is_between(choices, dicts, line, places, g)
 }

@@ -9,6 +9,7 @@ ghost use Rattle.lent_bytes.specs.Puts.{put_at};
 ghost use Rattle.output.specs.Whole.{Whole, RowsPut, ShownPut};
 
 use alternatives::Listed;
+use words::Dicts;
 
 // What is shown of a lattice: its mode, a number as the C interface has it; and how many edges it has, and how much text room
 // they take.
@@ -21,9 +22,7 @@ pub struct Built {
 
 // The rows of a listing, behind its header.
 fn put_rows(
-    rules: &[u8],
-    ready: &[u32],
-    code: &[u8],
+    dicts: &Dicts,
     line: &[u32],
     slots: &[u8],
     room: &mut [u8],
@@ -32,8 +31,8 @@ fn put_rows(
     built: Built,
     out: &mut [u8],
 ) -> usize
-    requires { Whole rules.now ready.now line.now slots.now room.old places.old starts.now built }
-    ensures { RowsPut rules.now ready.now code.now line.now slots.now room.old
+    requires { Whole dicts.now.rules.now dicts.now.ready.now line.now slots.now room.old places.old starts.now built }
+    ensures { RowsPut dicts.now.rules.now dicts.now.ready.now dicts.now.code.now line.now slots.now room.old
         places.old built out.old out.new result }
 {
     if built.mode == 3 {
@@ -47,7 +46,7 @@ fn put_rows(
             used: built.used,
         };
         return alternatives::put_alternatives(
-            out, rules, ready, code, line, slots, room, places, starts, listed,
+            out, dicts, line, slots, room, places, starts, listed,
         );
     }
     end
@@ -67,9 +66,7 @@ fn put_head(out: &mut [u8], end: usize)
 // What a mode shows: how many bytes that are, and they are written where they fit. The text room is free afterwards:
 // alternatives keep a filter in what the edges leave of it.
 pub fn put_shown(
-    rules: &[u8],
-    ready: &[u32],
-    code: &[u8],
+    dicts: &Dicts,
     line: &[u32],
     slots: &[u8],
     room: &mut [u8],
@@ -78,16 +75,14 @@ pub fn put_shown(
     built: Built,
     out: &mut [u8],
 ) -> usize
-    requires { Whole rules.now ready.now line.now slots.now room.old places.old starts.now built }
-    ensures { ShownPut rules.now ready.now code.now line.now slots.now room.old
+    requires { Whole dicts.now.rules.now dicts.now.ready.now line.now slots.now room.old places.old starts.now built }
+    ensures { ShownPut dicts.now.rules.now dicts.now.ready.now dicts.now.code.now line.now slots.now room.old
         places.old built out.old out.new result }
 {
     if built.mode == 0 {
         return paths::put_path(out, 0, slots, room, starts, built.count, false);
     }
-    let end = put_rows(
-        rules, ready, code, line, slots, room, places, starts, built, out,
-    );
+    let end = put_rows(dicts, line, slots, room, places, starts, built, out);
     put_head(out, end);
     end
 }

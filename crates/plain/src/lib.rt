@@ -61,7 +61,7 @@ fn has_vowel(vowels: &[u8], script: u32) -> bool
 
 // Does something stand before or behind a span that the expansion asks for?
 fn is_met(line: &[u32], span: Span) -> bool
-    requires { (span.from < span.to) × (span.to ≤ size_in line.now) }
+    requires { span.to ≤ size_in line.now }
     ensures { result ≡ false → (x : World) → Lined x line.now → Alone (kinds x) x.text span.from span.to }
 {
     let behind = span.to + 1;
@@ -72,7 +72,7 @@ fn is_met(line: &[u32], span: Span) -> bool
 
 // Does the expansion leave a text as it is, the first `n` bytes of an array?
 pub fn is_untouched(choices: Choices, line: &[u32], bytes: &[u8], n: usize, span: Span) -> bool
-    requires { (n ≤ length bytes.now) × (span.from < span.to) × (span.to ≤ size_in line.now) }
+    requires { (n ≤ length bytes.now) × (span.to ≤ size_in line.now) }
     ensures { result ≡ true → (x : World) → Lined x line.now
         → Untouched x (choices_of choices) (take n bytes.now) span.from span.to }
 {
@@ -85,7 +85,7 @@ pub fn is_untouched(choices: Choices, line: &[u32], bytes: &[u8], n: usize, span
 
 // Does the vowel step leave every text over a span as it is?
 pub fn is_voiceless(vowels: &[u8], line: &[u32], span: Span) -> bool
-    requires { FineVowels vowels.now × (span.from < span.to) × (span.to ≤ size_in line.now) }
+    requires { FineVowels vowels.now × (span.to ≤ size_in line.now) }
     ensures { result ≡ true → (x : World) → Lined x line.now → Voiceless x (vowels_of vowels.now) span.from span.to }
 {
     let script = table_classes::script(words::kind_at(line, span.from + 1));

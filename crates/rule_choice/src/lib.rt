@@ -15,7 +15,7 @@ ghost use Rattle.rule_choice.specs.Lent.{Answers};
 ghost use Rattle.rule_choice.specs.Fold.{beats, improve};
 ghost use Rattle.rule_choice.specs.Chosen.{choice_means, Rowed, chosen_means, Said, or_nothing, allowed, start_holds, asks_end, end_holds};
 
-use words::{Look, Span};
+use words::{Dicts, Look, Span};
 
 // The stretch of the rule table that a search answers: a row's own target, or its target at an end of syllable.
 #[derive(Clone, Copy)]
@@ -116,24 +116,16 @@ fn end_holds(rules: &[u8], row: usize, end: bool) -> bool
 // Do code and word flags hold, where the code does or not (`spoken`), and the span is at a start of word or not? Its end
 // is asked only where a flag asks it: it is the expensive question, and remembers nothing.
 #[tactic(auto, using(crate::proofs::Flags::holds_is, crate::proofs::Flags::unasked), unfolding(crate::specs::Chosen::asks_end, crate::specs::Chosen::end_holds))]
-fn holds_at(
-    rules: &[u8],
-    ready: &[u32],
-    line: &[u32],
-    row: usize,
-    spoken: bool,
-    start: bool,
-    e: usize,
-) -> bool
-    requires { Prepared rules.now ready.now × (0 < e) × (e ≤ size_in line.now) }
-    ensures { (w : World) (code : Text) → Told w ready.now → Lined w line.now
-        → spoken ≡ lang code (rule_of (drop row rules.now)) → result ≡ holds_at code start
-        (word_end (rules_of rules.now) (kinds w) w.text e) (rule_of (drop row rules.now)) }
+fn holds_at(dicts: &Dicts, line: &[u32], row: usize, spoken: bool, start: bool, e: usize) -> bool
+    requires { (0 < e) × (e ≤ size_in line.now) }
+    ensures { (w : World) (code : Text) → Told w dicts.now.ready.now → Lined w line.now
+        → spoken ≡ lang code (rule_of (drop row dicts.now.rules.now)) → result ≡ holds_at code start
+        (word_end (rules_of dicts.now.rules.now) (kinds w) w.text e) (rule_of (drop row dicts.now.rules.now)) }
 {
     spoken
-        && start_holds(rules, row, start)
-        && (!asks_end(rules, row)
-            || end_holds(rules, row, words::is_at_end_of_word(rules, ready, line, e)))
+        && start_holds(dicts.rules, row, start)
+        && (!asks_end(dicts.rules, row)
+            || end_holds(dicts.rules, row, words::is_at_end_of_word(dicts, line, e)))
 }
 
 // Do code and word flags hold, where it is known whether the span is at a start and at an end of word?
@@ -149,25 +141,23 @@ pub fn holds(rules: &[u8], code: &[u8], row: usize, start: bool, end: bool) -> b
 // foreign language code: it is remembered.
 #[tactic(auto, using(crate::proofs::Asking::valid_where_asked, crate::proofs::Asking::valid_where_none_asked))]
 pub fn cand_is_valid(
-    rules: &[u8],
-    ready: &[u32],
-    code: &[u8],
+    dicts: &Dicts,
     line: &[u32],
     places: &mut [u32],
     row: usize,
     span: Span,
 ) -> bool
-    requires { Prepared rules.now ready.now × Row (drop row rules.now) × (span.from < span.to) × (span.to ≤ size_in line.now) }
-    ensures { Answers rules.now ready.now code.now line.now places.old places.new
-        (λ L t v. valid L t v span.from span.to (rule_of (drop row rules.now))) result }
+    requires { Row (drop row dicts.now.rules.now) × (span.to ≤ size_in line.now) }
+    ensures { Answers dicts.now line.now places.old places.new
+        (λ L t v. valid L t v span.from span.to (rule_of (drop row dicts.now.rules.now))) result }
 {
-    let spoken = matches_lcode(rules, code, row);
-    let asked = asks_start(rules, row);
+    let spoken = matches_lcode(dicts.rules, dicts.code, row);
+    let asked = asks_start(dicts.rules, row);
     if asked {
         let start = words::is_at_start_of_word(line, places, span.from);
-        return holds_at(rules, ready, line, row, spoken, start, span.to);
+        return holds_at(dicts, line, row, spoken, start, span.to);
     }
-    holds_at(rules, ready, line, row, spoken, false, span.to)
+    holds_at(dicts, line, row, spoken, false, span.to)
 }
 
 // Has the rule in a row a higher count than the one in another?
@@ -211,24 +201,17 @@ fn improve(rules: &[u8], row: usize, valid: bool, best: Option<usize>) -> Option
 
 // The rule that wins a span, by what was looked up of it: of the valid ones the earliest of the highest count among those
 // with a target; without any such, among all.
-pub fn top_rule(
-    rules: &[u8],
-    ready: &[u32],
-    code: &[u8],
-    line: &[u32],
-    places: &mut [u32],
-    look: Look,
-) -> Option<usize>
-    requires { Prepared rules.now ready.now × Looked rules.now line.now look }
-    ensures { Answers rules.now ready.now code.now line.now places.old places.new
-        (λ L t v. choose L t v look.span.from look.span.to) (choice_means rules.now result) × Rowed rules.now result }
+pub fn top_rule(dicts: &Dicts, line: &[u32], places: &mut [u32], look: Look) -> Option<usize>
+    requires { Looked dicts.now.rules.now line.now look }
+    ensures { Answers dicts.now line.now places.old places.new
+        (λ L t v. choose L t v look.span.from look.span.to) (choice_means dicts.now.rules.now result) × Rowed dicts.now.rules.now result }
 {
     let mut row = look.found.first;
     let mut best = None;
     for _turn in 0..look.found.count {
-        let valid = cand_is_valid(rules, ready, code, line, places, row, look.span);
-        best = improve(rules, row, valid, best);
-        row += rule_row::size(rules, row);
+        let valid = cand_is_valid(dicts, line, places, row, look.span);
+        best = improve(dicts.rules, row, valid, best);
+        row += rule_row::size(dicts.rules, row);
     }
     best
 }
@@ -249,35 +232,31 @@ pub fn target_of(rules: &[u8], choice: Option<usize>) -> Option<Target>
 
 // Simple search: the winner's target. A span past the text has none.
 pub fn simple_top_romanization_candidate_for_span(
-    rules: &[u8],
-    ready: &[u32],
-    code: &[u8],
+    dicts: &Dicts,
     line: &[u32],
     places: &mut [u32],
     span: Span,
 ) -> Option<Target>
-    requires { Prepared rules.now ready.now × (span.from < span.to) }
-    ensures { Answers rules.now ready.now code.now line.now places.old places.new
-        (λ L t v. simple L t v span.from span.to) (chosen_means rules.now result) × Said rules.now result }
+    ensures { Answers dicts.now line.now places.old places.new
+        (λ L t v. simple L t v span.from span.to) (chosen_means dicts.now.rules.now result) × Said dicts.now.rules.now result }
 {
     if words::text_len(line) < span.to {
         return None;
     }
-    let look = words::look_up(rules, ready, line, span);
-    let best = top_rule(rules, ready, code, line, places, look);
-    target_of(rules, best)
+    let look = words::look_up(dicts, line, span);
+    let best = top_rule(dicts, line, places, look);
+    target_of(dicts.rules, best)
 }
 
 // The target of the first row with a source, whatever its codes and flags.
-pub fn romanization_by_first_rule(rules: &[u8], ready: &[u32], source: &[u32]) -> Option<Target>
-    requires { Prepared rules.now ready.now }
-    ensures { (chosen_means rules.now result ≡ first_rule (rules_of rules.now) source.now) × Said rules.now result }
+pub fn romanization_by_first_rule(dicts: &Dicts, source: &[u32]) -> Option<Target>
+    ensures { (chosen_means dicts.now.rules.now result ≡ first_rule (rules_of dicts.now.rules.now) source.now) × Said dicts.now.rules.now result }
 {
-    let found = rule_memo::look_up(rules, words::index_in(ready), source);
+    let found = rule_memo::look_up(dicts.rules, words::index_in(dicts.ready), source);
     if found.count == 0 {
         return None;
     }
-    target_of(rules, Some(found.first))
+    target_of(dicts.rules, Some(found.first))
 }
 
 // The text that was chosen, a part of the lent table.

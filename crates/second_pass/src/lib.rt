@@ -18,7 +18,7 @@ ghost use Rattle.second_pass.specs.SecondPass.{FallReady, FallsBack, SecondPass}
 
 use edge::{Filled, Full, Numbers, Taken};
 use rule_choice::Target;
-use words::Span;
+use words::{Dicts, Span};
 
 // A position of the text, and where its bytes begin.
 #[derive(Clone, Copy)]
@@ -51,7 +51,13 @@ fn single(p: usize, note: u8) -> Numbers
 }
 
 // Does the text of a fallback end in a letter: a target, which is ASCII, or else the character itself?
-fn falls_on_letter(ready: &[u32], line: &[u32], chosen: Option<Target>, text: &[u8], p: usize) -> bool
+fn falls_on_letter(
+    ready: &[u32],
+    line: &[u32],
+    chosen: Option<Target>,
+    text: &[u8],
+    p: usize,
+) -> bool
     requires { p < size_in line.now }
     ensures { (rules : List ℕ) → result ≡ pick (has (chosen_means rules chosen)) (last_letter ready.now text.now)
         (alpha_kind (kind_in line.now (p + 1))) }
@@ -65,9 +71,7 @@ fn falls_on_letter(ready: &[u32], line: &[u32], chosen: Option<Target>, text: &[
 // The fallback of one character (`get_fallback_rom_and_annot`): by its category, else by simple search, else the
 // character itself. No edge equals it: none goes over this one character.
 fn add_fallback<'a>(
-    rules: &'a [u8],
-    ready: &[u32],
-    code: &[u8],
+    dicts: &Dicts<'a>,
     text: &'a [u8],
     line: &[u32],
     slots: &mut [u8],
@@ -76,9 +80,8 @@ fn add_fallback<'a>(
     filled: Filled,
     here: Here,
 ) -> Result<Taken, Full>
-    requires { Prepared rules.now ready.now × At text.now line.now here × (filled.used < addressable)
-        × Somewhere ready.now line.now slots.old room.old places.old filled × Bare slots.old room.old filled here.p }
-    ensures { FallsBack rules.now ready.now code.now line.now filled (λ D t. put_fallback D t here.p)
+    requires { At text.now line.now here × (filled.used < addressable) × Somewhere dicts.now.ready.now line.now slots.old room.old places.old filled × Bare slots.old room.old filled here.p }
+    ensures { FallsBack dicts.now.rules.now dicts.now.ready.now dicts.now.code.now line.now filled (λ D t. put_fallback D t here.p)
         (slots.old, room.old, places.old) (slots.new, room.new, places.new) result }
 {
     let note = spans::category_note(table_classes::category(words::kind_at(line, here.p + 1)));
@@ -109,12 +112,10 @@ fn add_fallback<'a>(
         from: here.p,
         to: here.p + 1,
     };
-    let chosen = rule_choice::simple_top_romanization_candidate_for_span(
-        rules, ready, code, line, places, span,
-    );
+    let chosen = rule_choice::simple_top_romanization_candidate_for_span(dicts, line, places, span);
     let len = utf8::encoded_len(words::number_at(line, here.p + 1));
-    let own = spans::fallback_text(rules, text, chosen, here.at, len);
-    let end = noting::ending_of(own, falls_on_letter(ready, line, chosen, own, here.p));
+    let own = spans::fallback_text(dicts.rules, text, chosen, here.at, len);
+    let end = noting::ending_of(own, falls_on_letter(dicts.ready, line, chosen, own, here.p));
     noting::add_edge(
         slots,
         room,
@@ -128,9 +129,7 @@ fn add_fallback<'a>(
 
 // One start of the second pass: a fallback, unless an edge goes over the one character there.
 fn fall_back_at<'a>(
-    rules: &'a [u8],
-    ready: &[u32],
-    code: &[u8],
+    dicts: &Dicts<'a>,
     text: &'a [u8],
     line: &[u32],
     slots: &mut [u8],
@@ -139,9 +138,8 @@ fn fall_back_at<'a>(
     filled: Filled,
     here: Here,
 ) -> Result<Taken, Full>
-    requires { Prepared rules.now ready.now × At text.now line.now here × (filled.used < addressable)
-        × Somewhere ready.now line.now slots.old room.old places.old filled × (filled.since ≡ filled.count) }
-    ensures { FallsBack rules.now ready.now code.now line.now filled (λ D t. fall D t here.p)
+    requires { At text.now line.now here × (filled.used < addressable) × Somewhere dicts.now.ready.now line.now slots.old room.old places.old filled × (filled.since ≡ filled.count) }
+    ensures { FallsBack dicts.now.rules.now dicts.now.ready.now dicts.now.code.now line.now filled (λ D t. fall D t here.p)
         (slots.old, room.old, places.old) (slots.new, room.new, places.new) result }
 {
     if edge_places::is_covered(places, here.p) {
@@ -150,17 +148,13 @@ fn fall_back_at<'a>(
             used: filled.used,
         });
     }
-    add_fallback(
-        rules, ready, code, text, line, slots, room, places, filled, here,
-    )
+    add_fallback(dicts, text, line, slots, room, places, filled, here)
 }
 
 // `add_rom_fall_back_singles`: from every start, behind the edges that are there. Of each start it is kept which
 // fallback is its own.
 pub fn add_rom_fall_back_singles<'a>(
-    rules: &'a [u8],
-    ready: &[u32],
-    code: &[u8],
+    dicts: &Dicts<'a>,
     text: &'a [u8],
     line: &[u32],
     slots: &mut [u8],
@@ -169,8 +163,8 @@ pub fn add_rom_fall_back_singles<'a>(
     starts: &mut [u32],
     filled: Filled,
 ) -> Result<Taken, Full>
-    requires { FallReady rules.now ready.now text.now line.now slots.old room.old places.old starts.old filled }
-    ensures built { SecondPass rules.now ready.now code.now line.now filled
+    requires { FallReady dicts.now.rules.now dicts.now.ready.now text.now line.now slots.old room.old places.old starts.old filled }
+    ensures built { SecondPass dicts.now.rules.now dicts.now.ready.now dicts.now.code.now line.now filled
         (slots.old, room.old, places.old) (slots.new, room.new, places.new) result }
     ensures starts { Standing slots.new starts.new result }
 {
@@ -189,9 +183,7 @@ pub fn add_rom_fall_back_singles<'a>(
             since: before,
         };
         taken = fall_back_at(
-            rules,
-            ready,
-            code,
+            dicts,
             text,
             line,
             slots,

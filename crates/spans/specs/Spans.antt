@@ -13,7 +13,7 @@ use Rattle.definition.specs.Call.{tables_of}
 use Rattle.definition.specs.Expansion.{Work, expand}
 use Rattle.definition.specs.Building.{fallback_plus}
 use Rattle.rom.specs.Rom.{held, Clean}
-use Rattle.words.specs.declared.Span.{Span}
+use Rattle.words.specs.declared.given.Span.{Span}
 use Rattle.words.specs.Did.{Asked}
 use Rattle.words.specs.Given.{World, seen, Told, Lent}
 use Rattle.rule_choice.specs.Lent.{lexicon_of}

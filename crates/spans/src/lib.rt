@@ -24,7 +24,7 @@ use rom::Rom;
 use rule_choice::Target;
 use steps::Growing;
 use vowel_step::Voiced;
-use words::{Look, Span};
+use words::{Dicts, Look, Span};
 
 // The edge of a span: its numbers, and its text, which is the first `len` bytes of an array that is lent.
 #[derive(Clone, Copy)]
@@ -97,32 +97,18 @@ fn as_edge(tail: bool, core: usize, grows: bool, from: usize, to: usize, note: u
 
 // A text through the vowel step.
 fn voiced(
-    rules: &[u8],
-    ready: &[u32],
-    vowels: &[u8],
-    code: &[u8],
+    dicts: &Dicts,
     line: &[u32],
     places: &mut [u32],
     w: &[u8],
     tail: bool,
     span: Span,
 ) -> Voiced
-    requires { Prepared rules.now ready.now × FineVowels vowels.now × (length w.now ≤ most_target)
-        × (span.from < span.to) × (span.to ≤ size_in line.now) }
-    ensures { Voices rules.now ready.now code.now line.now places.old places.new
-        (λ L t e. vowel_step L t e (vowels_of vowels.now) tail w.now span.from span.to) (rom w.now) most_vowel result }
+    requires { FineVowels dicts.now.vowels.now × (length w.now ≤ most_target) × (span.to ≤ size_in line.now) }
+    ensures { Voices dicts.now line.now places.old places.new
+        (λ L t e. vowel_step L t e (vowels_of dicts.now.vowels.now) tail w.now span.from span.to) (rom w.now) most_vowel result }
 {
-    vowel_step::add_default_abugida_vowel(
-        rules,
-        ready,
-        vowels,
-        code,
-        line,
-        places,
-        rom::bytes_of(w),
-        tail,
-        span,
-    )
+    vowel_step::add_default_abugida_vowel(dicts, line, places, rom::bytes_of(w), tail, span)
 }
 
 // The first `n` bytes of an array, copied to the front of what is lent: the zeros behind a romanization are there already.
@@ -135,25 +121,20 @@ fn put_first(room: &mut [u8], bytes: &[u8], n: usize)
 
 // A romanization through the expansion, and put into what is lent.
 fn put_grown(
-    rules: &[u8],
-    ready: &[u32],
-    code: &[u8],
+    dicts: &Dicts,
     line: &[u32],
     places: &mut [u32],
     r: Rom,
     span: Span,
     bytes: &mut [u8],
 ) -> Growing
-    requires { Prepared rules.now ready.now × Clean r × (r.len ≤ most_target + most_vowel)
-        × (span.from < span.to) × (span.to ≤ size_in line.now) × (bytes.old ≡ replicate most_bytes 0) }
-    ensures { Expands rules.now ready.now code.now line.now places.old places.new
+    requires { Clean r × (r.len ≤ most_target + most_vowel) × (span.to ≤ size_in line.now) × (bytes.old ≡ replicate most_bytes 0) }
+    ensures { Expands dicts.now.rules.now dicts.now.ready.now dicts.now.code.now line.now places.old places.new
         (text r) span (work_in bytes.new result) × Held bytes.new result }
 {
     let x = expand::expand_rom_with_special_chars(
-        words::choices_in(ready),
-        rules,
-        ready,
-        code,
+        words::choices_in(dicts.ready),
+        dicts,
         line,
         places,
         r,
@@ -170,21 +151,18 @@ fn put_grown(
 
 // The same, unless the expansion leaves it as it is.
 fn put_expanded(
-    rules: &[u8],
-    ready: &[u32],
-    code: &[u8],
+    dicts: &Dicts,
     line: &[u32],
     places: &mut [u32],
     r: Rom,
     span: Span,
     bytes: &mut [u8],
 ) -> Growing
-    requires { Prepared rules.now ready.now × Clean r × (r.len ≤ most_target + most_vowel)
-        × (span.from < span.to) × (span.to ≤ size_in line.now) × (bytes.old ≡ replicate most_bytes 0) }
-    ensures { Expands rules.now ready.now code.now line.now places.old places.new
+    requires { Clean r × (r.len ≤ most_target + most_vowel) × (span.to ≤ size_in line.now) × (bytes.old ≡ replicate most_bytes 0) }
+    ensures { Expands dicts.now.rules.now dicts.now.ready.now dicts.now.code.now line.now places.old places.new
         (text r) span (work_in bytes.new result) × Held bytes.new result }
 {
-    if plain::is_untouched(words::choices_in(ready), line, &r.bytes, r.len, span) {
+    if plain::is_untouched(words::choices_in(dicts.ready), line, &r.bytes, r.len, span) {
         put_first(bytes, &r.bytes, r.len);
         return Growing {
             len: r.len,
@@ -193,14 +171,12 @@ fn put_expanded(
             note: edge::UNTOUCHED,
         };
     }
-    put_grown(rules, ready, code, line, places, r, span, bytes)
+    put_grown(dicts, line, places, r, span, bytes)
 }
 
 // The edge of a span with a romanization `w` that the vowel step leaves as it is: the expansion, unless that does too.
 fn voiceless_edge(
-    rules: &[u8],
-    ready: &[u32],
-    code: &[u8],
+    dicts: &Dicts,
     line: &[u32],
     places: &mut [u32],
     w: &[u8],
@@ -208,29 +184,19 @@ fn voiceless_edge(
     span: Span,
     bytes: &mut [u8],
 ) -> Spanned
-    requires { Prepared rules.now ready.now × (length w.now ≤ most_target)
-        × (span.from < span.to) × (span.to ≤ size_in line.now) × (bytes.old ≡ replicate most_bytes 0) }
+    requires { (length w.now ≤ most_target) × (span.to ≤ size_in line.now) × (bytes.old ≡ replicate most_bytes 0) }
     ensures { (vowels : List ℕ) → ((x : World) → Lined x line.now → Voiceless x (vowels_of vowels) span.from span.to)
-        → FindsEdge rules.now ready.now vowels code.now line.now
+        → FindsEdge dicts.now.rules.now dicts.now.ready.now vowels dicts.now.code.now line.now
         places.old places.new (λ D t v. edge_of D t v tail w.now span.from span.to) bytes.new result }
 {
-    if plain::is_untouched(words::choices_in(ready), line, w, w.len(), span) {
+    if plain::is_untouched(words::choices_in(dicts.ready), line, w, w.len(), span) {
         lent_bytes::put_text(bytes, w);
         return Spanned {
             numbers: as_edge(tail, w.len(), false, span.from, span.to, edge::UNTOUCHED),
             len: w.len(),
         };
     }
-    let x = put_grown(
-        rules,
-        ready,
-        code,
-        line,
-        places,
-        rom::bytes_of(w),
-        span,
-        bytes,
-    );
+    let x = put_grown(dicts, line, places, rom::bytes_of(w), span, bytes);
     Spanned {
         numbers: as_edge(tail, w.len(), false, x.from, x.to, x.note),
         len: x.len,
@@ -239,10 +205,7 @@ fn voiceless_edge(
 
 // The edge of a span with a romanization `w`: vowel step, then expansion.
 fn edge_of(
-    rules: &[u8],
-    ready: &[u32],
-    vowels: &[u8],
-    code: &[u8],
+    dicts: &Dicts,
     line: &[u32],
     places: &mut [u32],
     w: &[u8],
@@ -250,16 +213,15 @@ fn edge_of(
     span: Span,
     bytes: &mut [u8],
 ) -> Spanned
-    requires { Prepared rules.now ready.now × FineVowels vowels.now × (length w.now ≤ most_target)
-        × (span.from < span.to) × (span.to ≤ size_in line.now) × (bytes.old ≡ replicate most_bytes 0) }
-    ensures { FindsEdge rules.now ready.now vowels.now code.now line.now
+    requires { FineVowels dicts.now.vowels.now × (length w.now ≤ most_target) × (span.to ≤ size_in line.now) × (bytes.old ≡ replicate most_bytes 0) }
+    ensures { FindsEdge dicts.now.rules.now dicts.now.ready.now dicts.now.vowels.now dicts.now.code.now line.now
         places.old places.new (λ D t v. edge_of D t v tail w.now span.from span.to) bytes.new result }
 {
-    if plain::is_voiceless(vowels, line, span) {
-        return voiceless_edge(rules, ready, code, line, places, w, tail, span, bytes);
+    if plain::is_voiceless(dicts.vowels, line, span) {
+        return voiceless_edge(dicts, line, places, w, tail, span, bytes);
     }
-    let v = voiced(rules, ready, vowels, code, line, places, w, tail, span);
-    let x = put_expanded(rules, ready, code, line, places, v.rom, span, bytes);
+    let v = voiced(dicts, line, places, w, tail, span);
+    let x = put_expanded(dicts, line, places, v.rom, span, bytes);
     Spanned {
         numbers: as_edge(tail, w.len(), v.grown, x.from, x.to, x.note),
         len: x.len,
@@ -268,29 +230,21 @@ fn edge_of(
 
 // The edge of a span, where full search answers a text; its own is put into what is lent.
 pub fn put_span_edge(
-    rules: &[u8],
-    ready: &[u32],
-    vowels: &[u8],
-    code: &[u8],
+    dicts: &Dicts,
     line: &[u32],
     places: &mut [u32],
     look: Look,
     bytes: &mut [u8],
 ) -> Option<Spanned>
-    requires { Prepared rules.now ready.now × FineVowels vowels.now × Looked rules.now line.now look × (bytes.old ≡ replicate most_bytes 0) }
-    ensures { Finds rules.now ready.now vowels.now code.now line.now
+    requires { FineVowels dicts.now.vowels.now × Looked dicts.now.rules.now line.now look × (bytes.old ≡ replicate most_bytes 0) }
+    ensures { Finds dicts.now.rules.now dicts.now.ready.now dicts.now.vowels.now dicts.now.code.now line.now
         places.old places.new (λ D t v. span_edge D t v look.span.from look.span.to) (found bytes.new result)
         × Leaves bytes.old bytes.new result }
 {
-    let target = syllables::top_romanization_candidate_for_span(
-        rules, ready, code, line, places, look,
-    )?;
-    let w = rule_choice::chosen_text(rules, Some(target));
+    let target = syllables::top_romanization_candidate_for_span(dicts, line, places, look)?;
+    let w = rule_choice::chosen_text(dicts.rules, Some(target));
     Some(edge_of(
-        rules,
-        ready,
-        vowels,
-        code,
+        dicts,
         line,
         places,
         without_plus(w),

@@ -16,6 +16,7 @@ ghost use Rattle.steps.specs.Works.{work_in, Held, outcome, Left, letter_of, fra
 
 use rom::Rom;
 use rule_choice::Target;
+use words::Dicts;
 use words::characters::{ADDAK, HIRAGANA_TSU, KATAKANA_TSU, LONG_MARK, SPACE};
 
 // U+2013, which stands in a source between a vowel written before its consonant and what follows the consonant.
@@ -138,18 +139,10 @@ fn is_framed(kind: u32, text: &[u8], g: Growing) -> bool
 }
 
 // The first rule of the character before the span, an en dash and the `k` characters after the span, if there are so many.
-fn around_by(
-    rules: &[u8],
-    ready: &[u32],
-    line: &[u32],
-    bytes: &mut [u8],
-    g: Growing,
-    k: usize,
-) -> Option<Growing>
-    requires { Prepared rules.now ready.now × Held bytes.old g × (g.len + most_target ≤ most_bytes)
-        × (0 < g.from) × (g.from ≤ size_in line.now) × (g.to ≤ size_in line.now) × (1 ≤ k) × (k ≤ 3) }
+fn around_by(dicts: &Dicts, line: &[u32], bytes: &mut [u8], g: Growing, k: usize) -> Option<Growing>
+    requires { Held bytes.old g × (g.len + most_target ≤ most_bytes) × (0 < g.from) × (g.from ≤ size_in line.now) × (g.to ≤ size_in line.now) × (1 ≤ k) × (k ≤ 3) }
     ensures { ((x : World) → Lined x line.now
-        → outcome bytes.new result ≡ around_by (rules_of rules.now) x.text k (work_in bytes.old g))
+        → outcome bytes.new result ≡ around_by (rules_of dicts.now.rules.now) x.text k (work_in bytes.old g))
         × Left (g.len + most_target) bytes.old bytes.new result }
 {
     let to = g.to;
@@ -162,37 +155,30 @@ fn around_by(
     let two = words::number_at(line, to + 2);
     let three = words::number_at(line, to + 3);
     let source = [vowel, EN_DASH, one, two, three];
-    let target = rule_choice::romanization_by_first_rule(rules, ready, &source[..k + 2]);
-    put_behind(rules, target, bytes, g, end)
+    let target = rule_choice::romanization_by_first_rule(dicts, &source[..k + 2]);
+    put_behind(dicts.rules, target, bytes, g, end)
 }
 
 // Thai pattern: a vowel written around its consonant, the longest first. Written out, the three tries are the definition's;
 // a loop over 3, 2 and 1 is no plainer.
 #[tactic(auto, using(crate::proofs::Letters::held_within, crate::proofs::Letters::held_long))]
-pub fn vowel_around(
-    rules: &[u8],
-    ready: &[u32],
-    line: &[u32],
-    bytes: &mut [u8],
-    g: Growing,
-) -> Option<Growing>
-    requires { Prepared rules.now ready.now × Held bytes.old g × (g.len + most_target ≤ most_bytes)
-        × (g.from < g.to) × (g.to ≤ size_in line.now) }
+pub fn vowel_around(dicts: &Dicts, line: &[u32], bytes: &mut [u8], g: Growing) -> Option<Growing>
+    requires { Held bytes.old g × (g.len + most_target ≤ most_bytes) × (g.from < g.to) × (g.to ≤ size_in line.now) }
     ensures { ((x : World) → Lined x line.now
-        → outcome bytes.new result ≡ around (rules_of rules.now) (kinds x) x.text (work_in bytes.old g))
+        → outcome bytes.new result ≡ around (rules_of dicts.now.rules.now) (kinds x) x.text (work_in bytes.old g))
         × Left (g.len + most_target) bytes.old bytes.new result }
 {
     let from = g.from;
     if from == 0 || !is_framed(words::kind_at(line, from), &bytes[..g.len], g) {
         return None;
     }
-    if let Some(three) = around_by(rules, ready, line, bytes, g, 3) {
+    if let Some(three) = around_by(dicts, line, bytes, g, 3) {
         return Some(three);
     }
-    if let Some(two) = around_by(rules, ready, line, bytes, g, 2) {
+    if let Some(two) = around_by(dicts, line, bytes, g, 2) {
         return Some(two);
     }
-    around_by(rules, ready, line, bytes, g, 1)
+    around_by(dicts, line, bytes, g, 1)
 }
 
 // Is a character of class `kind` Thai and written before its consonant, and does a text start with one?
@@ -207,17 +193,10 @@ fn is_before(kind: u32, text: &[u8]) -> bool
 
 // Thai vowel that is written before its consonant and spoken behind it: what its first rule says is put behind.
 #[tactic(auto, using(crate::proofs::Letters::held_within, crate::proofs::Letters::held_long))]
-pub fn vowel_before(
-    rules: &[u8],
-    ready: &[u32],
-    line: &[u32],
-    bytes: &mut [u8],
-    g: Growing,
-) -> Growing
-    requires { Prepared rules.now ready.now × Held bytes.old g × (g.len + most_target ≤ most_bytes)
-        × (g.from < g.to) × (g.to ≤ size_in line.now) }
+pub fn vowel_before(dicts: &Dicts, line: &[u32], bytes: &mut [u8], g: Growing) -> Growing
+    requires { Held bytes.old g × (g.len + most_target ≤ most_bytes) × (g.from < g.to) × (g.to ≤ size_in line.now) }
     ensures { ((x : World) → Lined x line.now
-        → work_in bytes.new result ≡ before (rules_of rules.now) (kinds x) x.text (work_in bytes.old g))
+        → work_in bytes.new result ≡ before (rules_of dicts.now.rules.now) (kinds x) x.text (work_in bytes.old g))
         × Held bytes.new result × (result.len ≤ g.len + most_target) × (result.from ≤ g.from) × (result.to ≡ g.to) }
 {
     let from = g.from;
@@ -225,8 +204,8 @@ pub fn vowel_before(
         return g;
     }
     let vowel = words::number_at(line, from);
-    let target = rule_choice::romanization_by_first_rule(rules, ready, &[vowel]);
-    put_behind(rules, target, bytes, g, g.to).unwrap_or(g)
+    let target = rule_choice::romanization_by_first_rule(dicts, &[vowel]);
+    put_behind(dicts.rules, target, bytes, g, g.to).unwrap_or(g)
 }
 
 // Hiragana or katakana.

@@ -14,7 +14,7 @@ ghost use Rattle.rule_choice.specs.Chosen.{chosen_means, Said};
 
 use rule_choice::Target;
 use words::characters::O_ANG;
-use words::{Look, Span};
+use words::{Dicts, Look, Span};
 
 // Does a text start with a vowel, large or small?
 fn starts_with_vowel(text: &[u8]) -> bool
@@ -45,22 +45,13 @@ fn past_tone(line: &[u32], p: usize) -> usize
 }
 
 // What simple search answers at `q`: a source of two characters before a source of one.
-fn next_rom(
-    rules: &[u8],
-    ready: &[u32],
-    code: &[u8],
-    line: &[u32],
-    places: &mut [u32],
-    q: usize,
-) -> Option<Target>
-    requires { Prepared rules.now ready.now × (q ≤ size_in line.now + 1) }
-    ensures { Answers rules.now ready.now code.now line.now places.old places.new
-        (λ L t v. next_rom L t v q) (chosen_means rules.now result) × Said rules.now result }
+fn next_rom(dicts: &Dicts, line: &[u32], places: &mut [u32], q: usize) -> Option<Target>
+    requires { q ≤ size_in line.now + 1 }
+    ensures { Answers dicts.now line.now places.old places.new
+        (λ L t v. next_rom L t v q) (chosen_means dicts.now.rules.now result) × Said dicts.now.rules.now result }
 {
     let two = rule_choice::simple_top_romanization_candidate_for_span(
-        rules,
-        ready,
-        code,
+        dicts,
         line,
         places,
         Span { from: q, to: q + 2 },
@@ -69,9 +60,7 @@ fn next_rom(
         return two;
     }
     rule_choice::simple_top_romanization_candidate_for_span(
-        rules,
-        ready,
-        code,
+        dicts,
         line,
         places,
         Span { from: q, to: q + 1 },
@@ -79,25 +68,16 @@ fn next_rom(
 }
 
 // O ang followed by a vowel is the end of a syllable too.
-fn o_ang_test(
-    rules: &[u8],
-    ready: &[u32],
-    code: &[u8],
-    line: &[u32],
-    places: &mut [u32],
-    q: usize,
-) -> bool
-    requires { Prepared rules.now ready.now × (q ≤ size_in line.now + 1) }
-    ensures { Answers rules.now ready.now code.now line.now places.old places.new
+fn o_ang_test(dicts: &Dicts, line: &[u32], places: &mut [u32], q: usize) -> bool
+    requires { q ≤ size_in line.now + 1 }
+    ensures { Answers dicts.now line.now places.old places.new
         (λ L t v. o_ang_test L t v q) result }
 {
     if words::number_at(line, q + 1) != O_ANG {
         return false;
     }
     let rom = rule_choice::simple_top_romanization_candidate_for_span(
-        rules,
-        ready,
-        code,
+        dicts,
         line,
         places,
         Span {
@@ -105,37 +85,23 @@ fn o_ang_test(
             to: q + 2,
         },
     );
-    opens(rules, rom)
+    opens(dicts.rules, rom)
 }
 
 // No vowel follows, or O ang and a vowel.
-fn vowel_test(
-    rules: &[u8],
-    ready: &[u32],
-    code: &[u8],
-    line: &[u32],
-    places: &mut [u32],
-    q: usize,
-) -> bool
-    requires { Prepared rules.now ready.now × (q ≤ size_in line.now + 1) }
-    ensures { Answers rules.now ready.now code.now line.now places.old places.new
+fn vowel_test(dicts: &Dicts, line: &[u32], places: &mut [u32], q: usize) -> bool
+    requires { q ≤ size_in line.now + 1 }
+    ensures { Answers dicts.now line.now places.old places.new
         (λ L t v. vowel_test L t v q) result }
 {
-    let rom = next_rom(rules, ready, code, line, places, q);
-    !opens(rules, rom) || o_ang_test(rules, ready, code, line, places, q)
+    let rom = next_rom(dicts, line, places, q);
+    !opens(dicts.rules, rom) || o_ang_test(dicts, line, places, q)
 }
 
 // Test by test in the file's order; only the yes or no is kept.
-pub fn is_at_end_of_syllable(
-    rules: &[u8],
-    ready: &[u32],
-    code: &[u8],
-    line: &[u32],
-    places: &mut [u32],
-    p: usize,
-) -> bool
-    requires { Prepared rules.now ready.now × (1 ≤ p) × (p ≤ size_in line.now) }
-    ensures { Answers rules.now ready.now code.now line.now places.old places.new
+pub fn is_at_end_of_syllable(dicts: &Dicts, line: &[u32], places: &mut [u32], p: usize) -> bool
+    requires { (1 ≤ p) × (p ≤ size_in line.now) }
+    ensures { Answers dicts.now line.now places.old places.new
         (λ L t v. syllable_end L t v p) result }
 {
     // the character two back from `p`
@@ -148,29 +114,27 @@ pub fn is_at_end_of_syllable(
     if table_classes::class_flag(next, table_classes::PRE) || !words::is_alpha_kind(next) {
         return true;
     }
-    !edge_places::is_closed(places, p - 1) && vowel_test(rules, ready, code, line, places, q)
+    !edge_places::is_closed(places, p - 1) && vowel_test(dicts, line, places, q)
 }
 
 // Full search: the winner's end-of-syllable target where it has one and the span's end is an end of syllable, else its
 // target.
 pub fn top_romanization_candidate_for_span(
-    rules: &[u8],
-    ready: &[u32],
-    code: &[u8],
+    dicts: &Dicts,
     line: &[u32],
     places: &mut [u32],
     look: Look,
 ) -> Option<Target>
-    requires { Prepared rules.now ready.now × Looked rules.now line.now look }
-    ensures { Answers rules.now ready.now code.now line.now places.old places.new
-        (λ L t v. full L t v look.span.from look.span.to) (chosen_means rules.now result) × Said rules.now result }
+    requires { Looked dicts.now.rules.now line.now look }
+    ensures { Answers dicts.now line.now places.old places.new
+        (λ L t v. full L t v look.span.from look.span.to) (chosen_means dicts.now.rules.now result) × Said dicts.now.rules.now result }
 {
-    let best = rule_choice::top_rule(rules, ready, code, line, places, look);
+    let best = rule_choice::top_rule(dicts, line, places, look);
     let row = best?;
-    if rule_row::flag(rules, row, rule_row::END_TARGET_BIT)
-        && is_at_end_of_syllable(rules, ready, code, line, places, look.span.to)
+    if rule_row::flag(dicts.rules, row, rule_row::END_TARGET_BIT)
+        && is_at_end_of_syllable(dicts, line, places, look.span.to)
     {
         return Some(Target::AtEnd(row));
     }
-    rule_choice::target_of(rules, best)
+    rule_choice::target_of(dicts.rules, best)
 }

@@ -20,7 +20,7 @@ ghost use Rattle.vowel_step.specs.Steps.{Voices, voiced};
 
 use ends::{Forms, Which};
 use rom::Rom;
-use words::Span;
+use words::{Dicts, Span};
 
 // U+1799, the Khmer yo.
 const KHMER_YO: u32 = 0x1799;
@@ -100,7 +100,7 @@ fn script_at(line: &[u32], i: usize) -> u32
 
 // The form inside a word.
 fn form_inside(line: &[u32], span: Span) -> Which
-    requires { (span.from < span.to) × (span.to ≤ size_in line.now) }
+    requires { span.to ≤ size_in line.now }
     ensures { (w : World) → Lined w line.now → result ≡ inside (kinds w) w.text span.from span.to }
 {
     let script = script_at(line, span.from + 1);
@@ -117,13 +117,13 @@ fn form_inside(line: &[u32], span: Span) -> Which
 }
 
 // The form once the start of word has not decided it. The end of word is the expensive question, and asked only here.
-fn form_settled(rules: &[u8], ready: &[u32], code: &[u8], line: &[u32], span: Span) -> Which
-    requires { Prepared rules.now ready.now × (span.from < span.to) × (span.to ≤ size_in line.now) }
-    ensures { (w : World) → Told w ready.now → Lined w line.now
-        → result ≡ settled (lexicon_of rules.now w code.now) w.text span.from span.to }
+fn form_settled(dicts: &Dicts, line: &[u32], span: Span) -> Which
+    requires { span.to ≤ size_in line.now }
+    ensures { (w : World) → Told w dicts.now.ready.now → Lined w line.now
+        → result ≡ settled (lexicon_of dicts.now.rules.now w dicts.now.code.now) w.text span.from span.to }
 {
-    if words::is_at_end_of_word(rules, ready, line, span.to) {
-        if keeps_end(code, script_at(line, span.from + 1)) {
+    if words::is_at_end_of_word(dicts, line, span.to) {
+        if keeps_end(dicts.code, script_at(line, span.from + 1)) {
             return Which::Rom;
         }
         return Which::Plus;
@@ -149,9 +149,7 @@ fn starts_bare(start: bool, bytes: &[u8], n: usize) -> bool
 
 // Which of the three forms, test by test in the file's order.
 fn form(
-    rules: &[u8],
-    ready: &[u32],
-    code: &[u8],
+    dicts: &Dicts,
     line: &[u32],
     places: &mut [u32],
     bytes: &[u8],
@@ -159,9 +157,9 @@ fn form(
     tail: bool,
     span: Span,
 ) -> Which
-    requires { Prepared rules.now ready.now × Within (length bytes.now) f × (span.from < span.to) × (span.to ≤ size_in line.now) }
+    requires { Within (length bytes.now) f × (span.to ≤ size_in line.now) }
     ensures { (vowel : Text)
-        → Answers rules.now ready.now code.now line.now places.old places.new
+        → Answers dicts.now line.now places.old places.new
         (λ L t v. vowel_by L t v tail (shown bytes.now vowel f) span.from span.to) (form_means result (shown bytes.now vowel f)) }
 {
     if !takes_vowel(bytes, f.from, f.to, tail) {
@@ -177,7 +175,7 @@ fn form(
     if starts_bare(start, bytes, f.rom) {
         return Which::Plus;
     }
-    form_settled(rules, ready, code, line, span)
+    form_settled(dicts, line, span)
 }
 
 // Are vowels put behind, and nothing else?
@@ -199,9 +197,7 @@ struct Shape {
 
 // The form by a script's vowel of type `ao`, chosen by positions.
 fn shape_of(
-    rules: &[u8],
-    ready: &[u32],
-    code: &[u8],
+    dicts: &Dicts,
     line: &[u32],
     places: &mut [u32],
     text: &[u8],
@@ -209,14 +205,14 @@ fn shape_of(
     tail: bool,
     span: Span,
 ) -> Shape
-    requires { Prepared rules.now ready.now × (span.from < span.to) × (span.to ≤ size_in line.now) }
+    requires { span.to ≤ size_in line.now }
     ensures { Within (length text.now) result.forms × ((vowel : Text)
-        → Answers rules.now ready.now code.now line.now places.old places.new
+        → Answers dicts.now line.now places.old places.new
         (λ L t e. vowel_by L t e tail (bases ao vowel text.now (eqb (span.from + 1) span.to)) span.from span.to)
         (form_means result.which (shown text.now vowel result.forms))) }
 {
     let forms = ends::bases(text, ao, span.from + 1 == span.to);
-    let which = form(rules, ready, code, line, places, text, forms, tail, span);
+    let which = form(dicts, line, places, text, forms, tail, span);
     Shape { forms, which }
 }
 
@@ -231,10 +227,7 @@ struct Grown {
 // The step on the first `n` bytes of an array, by the vowel row of the script of the span's first character; without one nothing
 // changes.
 fn put_vowel(
-    rules: &[u8],
-    ready: &[u32],
-    vowels: &[u8],
-    code: &[u8],
+    dicts: &Dicts,
     line: &[u32],
     places: &mut [u32],
     bytes: &mut [u8],
@@ -242,30 +235,19 @@ fn put_vowel(
     tail: bool,
     span: Span,
 ) -> Grown
-    requires { Prepared rules.now ready.now × FineVowels vowels.now × Clean (held bytes.old n) × (n ≤ most_target)
-        × (span.from < span.to) × (span.to ≤ size_in line.now) }
-    ensures { Voices rules.now ready.now code.now line.now places.old places.new
-        (λ L t e. vowel_step L t e (vowels_of vowels.now) tail (take n bytes.old) span.from span.to)
+    requires { FineVowels dicts.now.vowels.now × Clean (held bytes.old n) × (n ≤ most_target) × (span.to ≤ size_in line.now) }
+    ensures { Voices dicts.now line.now places.old places.new
+        (λ L t e. vowel_step L t e (vowels_of dicts.now.vowels.now) tail (take n bytes.old) span.from span.to)
         (held bytes.old n) most_vowel (voiced bytes.new result) }
 {
-    let Some(row) = table_vowels::vowel_row(vowels, script_at(line, span.from + 1)) else {
+    let Some(row) = table_vowels::vowel_row(dicts.vowels, script_at(line, span.from + 1)) else {
         return Grown {
             len: n,
             grown: false,
         };
     };
-    let letters = table_vowels::vowel_letters(vowels, row);
-    let shape = shape_of(
-        rules,
-        ready,
-        code,
-        line,
-        places,
-        &bytes[..n],
-        row.ao,
-        tail,
-        span,
-    );
+    let letters = table_vowels::vowel_letters(dicts.vowels, row);
+    let shape = shape_of(dicts, line, places, &bytes[..n], row.ao, tail, span);
     let which = shape.which;
     let len = ends::shape(bytes, n, shape.forms, which, letters);
     Grown {
@@ -276,25 +258,19 @@ fn put_vowel(
 
 // A romanization through the vowel step.
 pub fn add_default_abugida_vowel(
-    rules: &[u8],
-    ready: &[u32],
-    vowels: &[u8],
-    code: &[u8],
+    dicts: &Dicts,
     line: &[u32],
     places: &mut [u32],
     r: Rom,
     tail: bool,
     span: Span,
 ) -> Voiced
-    requires { Prepared rules.now ready.now × FineVowels vowels.now × Clean r × (r.len ≤ most_target)
-        × (span.from < span.to) × (span.to ≤ size_in line.now) }
-    ensures { Voices rules.now ready.now code.now line.now places.old places.new
-        (λ L t e. vowel_step L t e (vowels_of vowels.now) tail (text r) span.from span.to) r most_vowel result }
+    requires { FineVowels dicts.now.vowels.now × Clean r × (r.len ≤ most_target) × (span.to ≤ size_in line.now) }
+    ensures { Voices dicts.now line.now places.old places.new
+        (λ L t e. vowel_step L t e (vowels_of dicts.now.vowels.now) tail (text r) span.from span.to) r most_vowel result }
 {
     let mut bytes = r.bytes;
-    let v = put_vowel(
-        rules, ready, vowels, code, line, places, &mut bytes, r.len, tail, span,
-    );
+    let v = put_vowel(dicts, line, places, &mut bytes, r.len, tail, span);
     Voiced {
         rom: Rom { bytes, len: v.len },
         grown: v.grown,

@@ -30,7 +30,7 @@ use Rattle.table_classes.specs.Told.{alphas_of}
 use Rattle.words.specs.Given.{World, kinds, size, letters_in, Lined}
 use Rattle.words.specs.Looks.{Looked, looked_are, looked_last}
 use Rattle.words.specs.declared.Look.{Look}
-use Rattle.words.specs.declared.Span.{Span}
+use Rattle.words.specs.declared.given.Span.{Span}
 use Rattle.words.specs.Found.{Rows, rules_in, none_in, one_in, next-rows}
 use Rattle.words.specs.Goes.{brings, letter_byte, goes_from, goes_over, goes_stops, goes-next}
 
@@ -103,8 +103,14 @@ pub ends_over : {w : World} {line : List ℕ} (g : Lined w line) (rs : List Rule
     → goes_from (kinds w) w.text p rs e ≡ false
 ends_over {w} g rs p e k l = goes_over (kinds w) w.text p rs (omega arith) e (omega arith)
 
-module _ {rules line : List ℕ} {look : Look} (a : rule_fault rules ≡ none) (d : Looked rules line look) (p e : ℕ) (k : look.span ≡ record { from = p; to = e })
+module _ {rules line : List ℕ} {look : Look} {span : Span} (a : rule_fault rules ≡ none) (d : Looked rules line look) (k : look.span ≡ span)
     {w : World} (g : Lined w line) where
+  abbrev p : ℕ
+  p = span.from
+
+  abbrev e : ℕ
+  e = span.to
+
   abbrev goes : ℕ → Bool
   goes q = goes_from (kinds w) w.text p (rules_of rules) q
 

@@ -17,15 +17,10 @@ ghost use Rattle.words.specs.Choosing.{choices_of};
 ghost use Rattle.words.specs.Goes.{brings, letter_byte};
 
 pub mod characters;
+mod given;
 
+pub use given::{Dicts, Span};
 use rule_table::Found;
-
-// A stretch of the text, by the positions of its ends.
-#[derive(Clone, Copy)]
-pub struct Span {
-    pub from: usize,
-    pub to: usize,
-}
 
 // A stretch of the text with what the rule table has of it: the rows of its rules, and whether a longer source starts
 // with it.
@@ -182,56 +177,56 @@ pub fn line_in(prepared: &[u32]) -> &[u32]
 }
 
 // Does the rule in a row bring a letter, unless it asks a start of word?
-fn brings_letter(rules: &[u8], ready: &[u32], row: usize) -> bool
-    requires { Row (drop row rules.now) }
-    ensures { (classes : List ℕ) → letters_in ready.now ≡ alphas_of classes
-        → result ≡ brings (classes_of classes) (rule_of (drop row rules.now)) }
+fn brings_letter(dicts: &Dicts, row: usize) -> bool
+    requires { Row (drop row dicts.now.rules.now) }
+    ensures { (classes : List ℕ) → letters_in dicts.now.ready.now ≡ alphas_of classes
+        → result ≡ brings (classes_of classes) (rule_of (drop row dicts.now.rules.now)) }
 {
-    !rule_row::flag(rules, row, rule_row::START_ONLY_BIT)
-        && rule_row::flag(rules, row, rule_row::TARGET_BIT)
-        && has_letter(ready, rule_row::target_text(rules, row))
+    !rule_row::flag(dicts.rules, row, rule_row::START_ONLY_BIT)
+        && rule_row::flag(dicts.rules, row, rule_row::TARGET_BIT)
+        && has_letter(dicts.ready, rule_row::target_text(dicts.rules, row))
 }
 
 // What the rule table has of a span, by one search.
-pub fn look_up(rules: &[u8], ready: &[u32], line: &[u32], span: Span) -> Look
-    requires { Prepared rules.now ready.now × (span.from < span.to) × (span.to ≤ size_in line.now) }
-    ensures { Looked rules.now line.now result × (result.span ≡ span) }
+pub fn look_up(dicts: &Dicts, line: &[u32], span: Span) -> Look
+    requires { span.to ≤ size_in line.now }
+    ensures { Looked dicts.now.rules.now line.now result × (result.span ≡ span) }
 {
     let text = &line[span.from + 1..span.to + 1];
     Look {
         span,
-        found: rule_memo::look_up(rules, index_in(ready), text),
+        found: rule_memo::look_up(dicts.rules, index_in(dicts.ready), text),
     }
 }
 
 // Does one of the rules in some rows, one after another, bring a letter without asking a start of word?
-fn rows_bring_letter(rules: &[u8], ready: &[u32], first: usize, count: usize) -> bool
-    requires { Rows rules.now first count }
-    ensures { (classes : List ℕ) → letters_in ready.now ≡ alphas_of classes
-        → result ≡ any (brings (classes_of classes)) (rules_in rules.now first count) }
+fn rows_bring_letter(dicts: &Dicts, first: usize, count: usize) -> bool
+    requires { Rows dicts.now.rules.now first count }
+    ensures { (classes : List ℕ) → letters_in dicts.now.ready.now ≡ alphas_of classes
+        → result ≡ any (brings (classes_of classes)) (rules_in dicts.now.rules.now first count) }
 {
     let mut row = first;
     for _turn in 0..count {
-        if brings_letter(rules, ready, row) {
+        if brings_letter(dicts, row) {
             return true;
         }
-        row += rule_row::size(rules, row);
+        row += rule_row::size(dicts.rules, row);
     }
     false
 }
 
 // No letter or mark next, and no source from here that brings one. Ends are asked while there is a longer source.
-pub fn is_at_end_of_word(rules: &[u8], ready: &[u32], line: &[u32], p: usize) -> bool
-    requires { Prepared rules.now ready.now × (0 < p) × (p ≤ size_in line.now) }
-    ensures { (w : World) → Told w ready.now → Lined w line.now
-        → result ≡ word_end (rules_of rules.now) (kinds w) w.text p }
+pub fn is_at_end_of_word(dicts: &Dicts, line: &[u32], p: usize) -> bool
+    requires { (0 < p) × (p ≤ size_in line.now) }
+    ensures { (w : World) → Told w dicts.now.ready.now → Lined w line.now
+        → result ≡ word_end (rules_of dicts.now.rules.now) (kinds w) w.text p }
 {
     if is_alpha_at(line, p + 1) {
         return false;
     }
     for end in p + 1..=text_len(line) {
-        let found = look_up(rules, ready, line, Span { from: p, to: end }).found;
-        if rows_bring_letter(rules, ready, found.first, found.count) {
+        let found = look_up(dicts, line, Span { from: p, to: end }).found;
+        if rows_bring_letter(dicts, found.first, found.count) {
             return false;
         }
         if !found.more {

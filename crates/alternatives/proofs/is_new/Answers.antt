@@ -16,7 +16,7 @@ use Rattle.alternatives.proofs.is_new.Goals.{then-may_hold, else-may_hold}
 pub returns : goal.returns
 returns c =
     let x = edge_by c.args.e c.args.text.now in
-    let ws = offered x c.args.code.now c.args.asked c.args.rules.now c.args.before ++ take c.args.k (texts (offers c.args.asked.readings x (rule_of (drop c.args.row c.args.rules.now)))) in
+    let ws = offered x c.args.dicts.now.code.now c.args.asked c.args.dicts.now.rules.now c.args.before ++ take c.args.k (texts (offers c.args.asked.readings x (rule_of (drop c.args.row c.args.dicts.now.rules.now)))) in
     let again : c.if-may_hold.result ≡ any (same c.args.w.now) ws = elim c.if-may_hold.branch [
       | then-may_hold w ↦ w.result-is ∙ w.is_offered.ensures
       | else-may_hold w ↦ w.result-is ∙ w.if-may_hold.false ∙ sym (c.may_hold.ensures ws c.requires.4 w.if-may_hold.false)

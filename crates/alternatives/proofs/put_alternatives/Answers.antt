@@ -55,7 +55,7 @@ loop-p-preserved c =
     let now-at : Written = (c.loop-p.to, c.loop-p.out) in
     let then_at : Written = (r.result, r.new.out) in record {
       written = λ w told lent.
-          let L = lexicon_of a.rules.now w a.code.now in
+          let L = lexicon_of a.dicts.now.rules.now w a.dicts.now.code.now in
           let m₀ = memory (size w) a.places.now in
           let j = i.written w told lent in
           let d = r.ensures.0 w told (lent-after c.loop-p.places lent j.2) in (
@@ -80,7 +80,7 @@ returns c =
     let N = c.text_len-n.result in
     let e : N - c.loop-p.p ≡ 0 = omega arith in
     λ w told lent es.
-    let L = lexicon_of a.rules.now w a.code.now in
+    let L = lexicon_of a.dicts.now.rules.now w a.dicts.now.code.now in
     let m₀ = memory (size w) a.places.now in
     let first : Written = (a.listed.at, a.out.now) in
     let Es = edges_of a.room.now a.listed.count a.slots.now in

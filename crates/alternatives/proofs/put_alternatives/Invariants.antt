@@ -17,10 +17,10 @@ use Rattle.alternatives.proofs.put_alternatives.Given as goal
 abbrev pub invariant-loop-p : goal.invariant-loop-p
 invariant-loop-p l =
     let es = edges_of l.initial.room l.listed.count l.slots in record {
-      written : (w : World) → Told w l.ready → Lent w l.line l.initial.places
-          → (put_items true (found_all (reads w.choices) (lexicon_of l.rules w l.code) w.text (seen w) (memory (size w) l.initial.places) (path_from (l.n - l.p) l.p es)) (l.to, l.out)
-          ≡ put_items true (found_all (reads w.choices) (lexicon_of l.rules w l.code) w.text (seen w) (memory (size w) l.initial.places) (path_from l.n 0 es)) (l.initial.to, l.initial.out))
-          × Recalls (lexicon_of l.rules w l.code) w.text (seen w) (memory (size w) l.places) (memory (size w) l.initial.places) × (told l.places ≡ told l.initial.places);
+      written : (w : World) → Told w l.dicts.ready.now → Lent w l.line l.initial.places
+          → (put_items true (found_all (reads w.choices) (lexicon_of l.dicts.rules.now w l.dicts.code.now) w.text (seen w) (memory (size w) l.initial.places) (path_from (l.n - l.p) l.p es)) (l.to, l.out)
+          ≡ put_items true (found_all (reads w.choices) (lexicon_of l.dicts.rules.now w l.dicts.code.now) w.text (seen w) (memory (size w) l.initial.places) (path_from l.n 0 es)) (l.initial.to, l.initial.out))
+          × Recalls (lexicon_of l.dicts.rules.now w l.dicts.code.now) w.text (seen w) (memory (size w) l.places) (memory (size w) l.initial.places) × (told l.places ≡ told l.initial.places);
       texts : take l.listed.used l.initial.room ≡ take l.listed.used l.room;
       inside : l.p ≤ l.n;
       small : l.to ≤ l.initial.to + edge_bytes * l.p;

@@ -49,13 +49,7 @@ put_edge_alternatives-requires c =
     let n = size_in a.line.now in
     let e = c.numbers_at-e in
     let copied = c.copy_from_slice.ensures.after ∙ c.edge_text-own.ensures in
-    let i = best-inside a.slots.now a.room.now a.listed.count a.listed.used n c.in-Some.is k.1 k.2 k.3 e.result e.ensures in (
-      k.0,
-      best-spoken a.slots.now a.room.now a.listed.count a.listed.used n c.in-Some.is k.1 k.2 k.3 e.result e.ensures _ copied,
-      i.0,
-      i.1,
-      k.4,
-    )
+    let i = best-inside a.slots.now a.room.now a.listed.count a.listed.used n c.in-Some.is k.1 k.2 k.3 e.result e.ensures in (best-spoken a.slots.now a.room.now a.listed.count a.listed.used n c.in-Some.is k.1 k.2 k.3 e.result e.ensures _ copied, i.0, i.1, k.4)
 
 pub returns : goal.returns
 returns c =
@@ -65,7 +59,7 @@ returns c =
     let copied = c.copy_from_slice.ensures.after ∙ c.edge_text-own.ensures in
     let is = best-edge a.slots.now a.room.now a.listed.count a.listed.used (size_in a.line.now) c.in-Some.is k.1 k.2 k.3 e.result e.ensures _ copied in (
       (λ w told lent.
-          let L = lexicon_of a.rules.now w a.code.now in
+          let L = lexicon_of a.dicts.now.rules.now w a.dicts.now.code.now in
           let m₀ = memory (size w) a.places.now in
           let d = c.put_edge_alternatives.ensures.0 w told lent in (
             d.0 ∙ ap (λ x. put_items true (found_all (reads w.choices) L w.text (seen w) m₀ (x ∷ [])) (a.listed.at, a.out.now)) is
@@ -83,7 +77,7 @@ returns-in_default c =
     let a = c.args in
     let none = not-there a.best c.in_default.not-Some in (
       (λ w told lent.
-          let L = lexicon_of a.rules.now w a.code.now in
+          let L = lexicon_of a.dicts.now.rules.now w a.dicts.now.code.now in
           let m₀ = memory (size w) a.places.now in (
             ap (λ l. put_items true l (a.listed.at, a.out.now)) (found_nothing (reads w.choices) L w.text (seen w) m₀
                 ∙ ap (λ b. found_all (reads w.choices) L w.text (seen w) m₀ (join (best_means a.room.now a.slots.now b) [])) (sym none)),

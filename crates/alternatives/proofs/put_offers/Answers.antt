@@ -40,8 +40,8 @@ loop-k-preserved c =
     let a = c.args in
     let y = a.asked.readings in
     let x = edge_by a.e a.text.now in
-    let r = rule_of (drop a.row a.rules.now) in
-    let F = offered x a.code.now a.asked a.rules.now a.before in
+    let r = rule_of (drop a.row a.dicts.now.rules.now) in
+    let F = offered x a.dicts.now.code.now a.asked a.dicts.now.rules.now a.before in
     let o = c.offers_of-o in
     let k = c.loop-k.k in
     let i = c.loop-k.invariant in
@@ -63,8 +63,8 @@ unfolding count_of put_items
 returns c =
     let a = c.args in
     let y = a.asked.readings in
-    let r = rule_of (drop a.row a.rules.now) in
-    let F = offered (edge_by a.e a.text.now) a.code.now a.asked a.rules.now a.before in
+    let r = rule_of (drop a.row a.dicts.now.rules.now) in
+    let F = offered (edge_by a.e a.text.now) a.dicts.now.code.now a.asked a.dicts.now.rules.now a.before in
     let o = c.offers_of-o in
     let h : count_of o.result ≤ c.loop-k.k = omega (arith, c.count-k-end.ensures) in (
       sym (ap (λ es. put_items true es (c.loop-k.to, c.loop-k.out))

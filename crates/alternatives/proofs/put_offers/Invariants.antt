@@ -17,10 +17,10 @@ use Rattle.alternatives.proofs.put_offers.Given as goal
 abbrev pub invariant-loop-k : goal.invariant-loop-k
 invariant-loop-k l =
     let x = edge_by l.e l.text in
-    let ws = earlier x l.code l.asked l.rules l.before in
-    let os = offers l.asked.readings x (rule_of (drop l.row l.rules)) in record {
+    let ws = earlier x l.dicts.code.now l.asked l.dicts.rules.now l.before in
+    let os = offers l.asked.readings x (rule_of (drop l.row l.dicts.rules.now)) in record {
       written : put_items true (news (ws ++ take l.k (texts os)) (drop l.k os)) (l.to, l.out) ≡ put_items true (news ws os) (l.at, l.initial.out);
       small : l.to ≤ l.at + offer_bytes * l.k;
-      marked : Marked (offered x l.code l.asked l.rules l.before ++ take l.k (texts os)) l.cells;
+      marked : Marked (offered x l.dicts.code.now l.asked l.dicts.rules.now l.before ++ take l.k (texts os)) l.cells;
       long : length l.bytes ≡ most_alternative;
     }

@@ -17,10 +17,10 @@ use Rattle.alternatives.proofs.put_rows.Given as goal
 abbrev pub invariant-loop-before : goal.invariant-loop-before
 invariant-loop-before l =
     let x = edge_by l.e l.text in record {
-      written : put_items true (left_news x l.code l.asked l.rules l.before l.row (l.rows - l.before)) (l.to, l.out)
-          ≡ put_items true (found_by l.asked.readings x (holding l.code l.asked.start l.asked.end l.rules l.asked.first l.rows)) (l.at, l.initial.out);
-      here : rules_from l.rules l.row ≡ drop l.before (rules_from l.rules l.asked.first);
-      rest : Rows l.rules l.row (l.rows - l.before);
+      written : put_items true (left_news x l.dicts.code.now l.asked l.dicts.rules.now l.before l.row (l.rows - l.before)) (l.to, l.out)
+          ≡ put_items true (found_by l.asked.readings x (holding l.dicts.code.now l.asked.start l.asked.end l.dicts.rules.now l.asked.first l.rows)) (l.at, l.initial.out);
+      here : rules_from l.dicts.rules.now l.row ≡ drop l.before (rules_from l.dicts.rules.now l.asked.first);
+      rest : Rows l.dicts.rules.now l.row (l.rows - l.before);
       small : l.to ≤ l.at + row_bytes * l.before;
-      marked : Marked (offered x l.code l.asked l.rules l.before) l.cells;
+      marked : Marked (offered x l.dicts.code.now l.asked l.dicts.rules.now l.before) l.cells;
     }

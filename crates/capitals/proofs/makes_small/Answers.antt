@@ -21,9 +21,9 @@ returns-then-is_lower_at c =
     λ x g.
     c.is_upper_case.ensures
     ∙ before-lower (choices_of c.args.choices) (kinds x) x.text (over c.args.span c.args.text.now) (omega arith) (omega arith)
-    (sym c.if-is_lower_at.true ∙ c.is_lower_at.ensures ∙ (kind_at g c.args.span.to (omega (arith, c.requires.0, line-size g))).lowercase)
+    (sym c.if-is_lower_at.true ∙ c.is_lower_at.ensures ∙ (kind_at g c.args.span.to (omega (arith, c.requires, line-size g))).lowercase)
 
 pub returns-else-is_lower_at : goal.returns-else-is_lower_at
 returns-else-is_lower_at c =
     λ x g. c.if-is_lower_at.false ∙ not_lower (choices_of c.args.choices) (kinds x) x.text (over c.args.span c.args.text.now)
-    (sym c.if-is_lower_at.false ∙ c.is_lower_at.ensures ∙ (kind_at g c.args.span.to (omega (arith, c.requires.0, line-size g))).lowercase)
+    (sym c.if-is_lower_at.false ∙ c.is_lower_at.ensures ∙ (kind_at g c.args.span.to (omega (arith, c.requires, line-size g))).lowercase)

@@ -72,10 +72,10 @@ read_line-requires c =
     let few : c.count-n.result ≤ most_into = omega (arith, c.count-n.ensures.0, into_few c.requires.1) in
     let line-long : length (take ((2 * (c.count-n.result + 3))) (replicate {A = ℕ} line-places 0)) ≡ (2 * (c.count-n.result + 3)) = length-take-le ((2 * (c.count-n.result + 3))) (replicate {A = ℕ} line-places 0) (omega (arith, few)) in
     let laid-long : length c.lay_out.new.line ≡ (2 * (c.count-n.result + 3)) = omega (arith, c.lay_out.auto.line, line-long) in
-    let line-is : take ((2 * (c.count-n.result + 3))) ((c.lay_out.new.line ++ drop ((2 * (c.count-n.result + 3))) (replicate {A = ℕ} line-places 0))) ≡ spaced (decomposition_into (drop c.args.row c.args.decompositions.now)) ++ kinds_of c.args.classes.now (spaced (decomposition_into (drop c.args.row c.args.decompositions.now))) = take_at c.lay_out.new.line (drop ((2 * (c.count-n.result + 3))) (replicate {A = ℕ} line-places 0)) ((2 * (c.count-n.result + 3))) (laid-long) ∙ c.lay_out.ensures in
+    let line-is : take ((2 * (c.count-n.result + 3))) ((c.lay_out.new.line ++ drop ((2 * (c.count-n.result + 3))) (replicate {A = ℕ} line-places 0))) ≡ spaced (decomposition_into (drop c.args.row c.args.dicts.now.decompositions.now)) ++ kinds_of c.args.dicts.now.classes.now (spaced (decomposition_into (drop c.args.row c.args.dicts.now.decompositions.now))) = take_at c.lay_out.new.line (drop ((2 * (c.count-n.result + 3))) (replicate {A = ℕ} line-places 0)) ((2 * (c.count-n.result + 3))) (laid-long) ∙ c.lay_out.ensures in
     let entries : take ((c.count-n.result + 1)) (replicate {A = ℕ} places 0) ≡ replicate (size_in (take ((2 * (c.count-n.result + 3))) ((c.lay_out.new.line ++ drop ((2 * (c.count-n.result + 3))) (replicate {A = ℕ} line-places 0)))) + 1) 0 = take-replicate 0 ((c.count-n.result + 1)) places (omega (arith, few))
-    ∙ ap (λ (n : ℕ). replicate {A = ℕ} (n + 1) 0) (c.count-n.ensures.0 ∙ sym (own-size c.requires.0 c.args.row c.requires.1 (take ((2 * (c.count-n.result + 3))) ((c.lay_out.new.line ++ drop ((2 * (c.count-n.result + 3))) (replicate {A = ℕ} line-places 0)))) (line-is))) in (
-      own_ready c.requires.0 c.args.row c.requires.1 (take ((2 * (c.count-n.result + 3))) ((c.lay_out.new.line ++ drop ((2 * (c.count-n.result + 3))) (replicate {A = ℕ} line-places 0)))) (line-is) (take c.put_bytes-len.result c.put_bytes-len.new.bytes) c.args.slots.now c.args.room.now
+    ∙ ap (λ (n : ℕ). replicate {A = ℕ} (n + 1) 0) (c.count-n.ensures.0 ∙ sym (own-size c.args.dicts.now c.requires.0 c.args.row c.requires.1 (take ((2 * (c.count-n.result + 3))) ((c.lay_out.new.line ++ drop ((2 * (c.count-n.result + 3))) (replicate {A = ℕ} line-places 0)))) (line-is))) in (
+      own_ready c.args.dicts.now c.requires.0 c.args.row c.requires.1 (take ((2 * (c.count-n.result + 3))) ((c.lay_out.new.line ++ drop ((2 * (c.count-n.result + 3))) (replicate {A = ℕ} line-places 0)))) (line-is) (take c.put_bytes-len.result c.put_bytes-len.new.bytes) c.args.slots.now c.args.room.now
           (take ((c.count-n.result + 1)) (replicate {A = ℕ} places 0)) c.put_bytes-len.ensures.0 (entries),
       c.requires.2,
     )
@@ -85,6 +85,6 @@ returns c =
     let few : c.count-n.result ≤ most_into = omega (arith, c.count-n.ensures.0, into_few c.requires.1) in
     let line-long : length (take ((2 * (c.count-n.result + 3))) (replicate {A = ℕ} line-places 0)) ≡ (2 * (c.count-n.result + 3)) = length-take-le ((2 * (c.count-n.result + 3))) (replicate {A = ℕ} line-places 0) (omega (arith, few)) in
     let laid-long : length c.lay_out.new.line ≡ (2 * (c.count-n.result + 3)) = omega (arith, c.lay_out.auto.line, line-long) in
-    let line-is : take ((2 * (c.count-n.result + 3))) ((c.lay_out.new.line ++ drop ((2 * (c.count-n.result + 3))) (replicate {A = ℕ} line-places 0))) ≡ spaced (decomposition_into (drop c.args.row c.args.decompositions.now)) ++ kinds_of c.args.classes.now (spaced (decomposition_into (drop c.args.row c.args.decompositions.now))) = take_at c.lay_out.new.line (drop ((2 * (c.count-n.result + 3))) (replicate {A = ℕ} line-places 0)) ((2 * (c.count-n.result + 3))) (laid-long) ∙ c.lay_out.ensures in
+    let line-is : take ((2 * (c.count-n.result + 3))) ((c.lay_out.new.line ++ drop ((2 * (c.count-n.result + 3))) (replicate {A = ℕ} line-places 0))) ≡ spaced (decomposition_into (drop c.args.row c.args.dicts.now.decompositions.now)) ++ kinds_of c.args.dicts.now.classes.now (spaced (decomposition_into (drop c.args.row c.args.dicts.now.decompositions.now))) = take_at c.lay_out.new.line (drop ((2 * (c.count-n.result + 3))) (replicate {A = ℕ} line-places 0)) ((2 * (c.count-n.result + 3))) (laid-long) ∙ c.lay_out.ensures in
     let line = take ((2 * (c.count-n.result + 3))) ((c.lay_out.new.line ++ drop ((2 * (c.count-n.result + 3))) (replicate {A = ℕ} line-places 0))) in
-    c.read_line.ensures (own c.requires.0 c.args.row c.requires.1 line (line-is)) (own-told c.requires.0 c.args.row c.requires.1 line (line-is)) (own_lined c.requires.0 c.args.row c.requires.1 line (line-is))
+    c.read_line.ensures (own c.args.dicts.now c.requires.0 c.args.row c.requires.1 line (line-is)) (own-told c.args.dicts.now c.requires.0 c.args.row c.requires.1 line (line-is)) (own_lined c.args.dicts.now c.requires.0 c.args.row c.requires.1 line (line-is))

@@ -15,11 +15,11 @@ use Rattle.expand.proofs.all_steps.Goals as goal
 pub returns-then-n-eq0 : goal.returns-then-n-eq0
 returns-then-n-eq0 c =
     let w = take c.args.n c.args.bytes.now in (
-      (λ u e h. let L = lexicon_of c.args.rules.now u c.args.code.now in
+      (λ u e h. let L = lexicon_of c.args.dicts.now.rules.now u c.args.dicts.now.code.now in
           let m = memory (size u) c.args.places.now in
           asked-none (nothing-to-expand L u.text (seen u) (choices_of c.args.choices) w c.args.span.from c.args.span.to m
-          (no_text w (omega (arith, text-length c.requires.1))))),
-      c.requires.1,
+          (no_text w (omega (arith, text-length c.requires.0))))),
+      c.requires.0,
     )
 
 pub returns-in-Break : goal.returns-in-Break
@@ -27,10 +27,10 @@ returns-in-Break c =
     let w = take c.args.n c.args.bytes.now in
     let X = c.in-Break.ensures in (
       (λ u e h.
-          let L = lexicon_of c.args.rules.now u c.args.code.now in
+          let L = lexicon_of c.args.dicts.now.rules.now u c.args.dicts.now.code.now in
           let m = memory (size u) c.args.places.now in
           asked-none (broken-off L u.text (seen u) (choices_of c.args.choices) w c.args.span.from c.args.span.to m
-          (same_some w (omega (arith, text-length c.requires.1))) (c.first_steps-g.ensures.0 u h.text) (X.0 u c.args.code.now h))),
+          (same_some w (omega (arith, text-length c.requires.0))) (c.first_steps-g.ensures.0 u h.text) (X.0 u c.args.dicts.now.code.now h))),
       X.1,
     )
 
@@ -39,12 +39,12 @@ returns-in-Continue c =
     let w = take c.args.n c.args.bytes.now in
     let X = c.in-Continue.ensures in (
       (λ u e h.
-          let L = lexicon_of c.args.rules.now u c.args.code.now in
+          let L = lexicon_of c.args.dicts.now.rules.now u c.args.dicts.now.code.now in
           let m = memory (size u) c.args.places.now in
           let A = c.rest.ensures.0 u e h in
           record {
             did = gone-on L u.text (seen u) (choices_of c.args.choices) w c.args.span.from c.args.span.to m
-                (same_some w (omega (arith, text-length c.requires.1))) (c.first_steps-g.ensures.0 u h.text) _ (X.0 u c.args.code.now h) A.did;
+                (same_some w (omega (arith, text-length c.requires.0))) (c.first_steps-g.ensures.0 u h.text) _ (X.0 u c.args.dicts.now.code.now h) A.did;
             kept = A.kept;
           }),
       c.rest.ensures.1,

@@ -17,7 +17,7 @@ use Rattle.expand.proofs.by_script.Goals as goal
 pub returns-then-script-ne-THAI : goal.returns-then-script-ne-THAI
 returns-then-script-ne-THAI c = (
   (λ u code h.
-      let L = lexicon_of c.args.rules.now u code in
+      let L = lexicon_of c.args.dicts.now.rules.now u code in
       let k = script-here h.text c.args.o (omega (arith, c.requires.3, c.requires.5, line-size h.text)) c.kind_at.ensures c.script.ensures in
       elsewhere L u.text (seen u) (choices_of c.args.choices) c.args.o (work_in c.args.bytes.now c.args.g)
       (ne_eqb (script (kinds u) (at u.text c.args.o)) script_thai (λ d. omega (arith, d, k)))),
@@ -28,10 +28,10 @@ pub returns : goal.returns
 returns c =
     let C = choices_of c.args.choices in
     let w = work_in c.args.bytes.now c.args.g in
-    opens_as c.args.rules.now c.args.ready.now c.args.line.now c.args.places.now c.args.o
+    opens_as c.args.dicts.now.rules.now c.args.dicts.now.ready.now c.args.line.now c.args.places.now c.args.o
     (λ L t v. thai L t v C c.args.o w) (λ L t v. by_script L t v C c.args.o w) c.thai.new.bytes c.thai.result
     (λ u code h.
-    let L = lexicon_of c.args.rules.now u code in
+    let L = lexicon_of c.args.dicts.now.rules.now u code in
     let k = script-here h.text c.args.o (omega (arith, c.requires.3, c.requires.5, line-size h.text)) c.kind_at.ensures c.script.ensures in
     in_thai L u.text (seen u) C c.args.o w
     (eq-eqb (script (kinds u) (at u.text c.args.o)) script_thai (omega (arith, k))))

@@ -12,19 +12,19 @@ use Rattle.expand.proofs.grave.Goals as goal
 
 pub returns-then-not-has_grave : goal.returns-then-not-has_grave
 returns-then-not-has_grave c = (
-  λ u e h. let L = lexicon_of c.args.rules.now u c.args.code.now in
+  λ u e h. let L = lexicon_of c.args.dicts.now.rules.now u c.args.dicts.now.code.now in
       let m = memory (size u) c.args.places.now in
       asked-none (no_grave L u.text (seen u) c.args.o (work_in c.args.bytes.now c.args.g) m (sym (c.has_grave.ensures.0 u h.text) ∙ c.if-not-has_grave.true)),
-  c.requires.1,
+  c.requires.0,
   omega arith,
   refl,
   omega arith,
-  c.requires.5,
+  c.requires.4,
 )
 
 pub returns-then-is_ruled : goal.returns-then-is_ruled
 returns-then-is_ruled c = (
-  λ u e h. let L = lexicon_of c.args.rules.now u c.args.code.now in
+  λ u e h. let L = lexicon_of c.args.dicts.now.rules.now u c.args.dicts.now.code.now in
       let m = memory (size u) c.args.places.now in
       let s = c.args.o in
       let t = c.args.g.to + 1 in
@@ -34,17 +34,17 @@ returns-then-is_ruled c = (
             (ruled-by L u.text (seen u) s t m A.did) (ruled-has L u.text (seen u) s t m A.did ∙ c.if-is_ruled.true);
         kept = A.kept;
       },
-  c.requires.1,
+  c.requires.0,
   omega arith,
   refl,
   omega arith,
-  c.requires.5,
+  c.requires.4,
 )
 
 pub returns : goal.returns
 returns c =
     let I = c.if-not-has_grave.false in (
-      λ u e h. let L = lexicon_of c.args.rules.now u c.args.code.now in
+      λ u e h. let L = lexicon_of c.args.dicts.now.rules.now u c.args.dicts.now.code.now in
           let m = memory (size u) c.args.places.now in
           let s = c.args.o in
           let t = c.args.g.to + 1 in

@@ -10,9 +10,9 @@ use Rattle.expand.proofs.is_ruled.Goals as goal
 
 pub returns : goal.returns
 returns c =
-    let R = c.args.rules.now in
+    let R = c.args.dicts.now.rules.now in
     λ u e h. let A = c.simple_top_romanization_candidate_for_span.ensures.0 u e h in record {
       did = did_by (c.is_some.ensures ∙ has-chosen R c.simple_top_romanization_candidate_for_span.result)
-          (ruled-is (lexicon_of R u c.args.code.now) u.text (seen u) c.args.span.from c.args.span.to (memory (size u) c.args.places.now) A.did);
+          (ruled-is (lexicon_of R u c.args.dicts.now.code.now) u.text (seen u) c.args.span.from c.args.span.to (memory (size u) c.args.places.now) A.did);
       kept = A.kept;
     }

@@ -10,7 +10,7 @@ use Rattle.expand.proofs.rest.Goals as goal
 
 pub returns : goal.returns
 returns c = (
-  λ u e h. let L = lexicon_of c.args.rules.now u c.args.code.now in
+  λ u e h. let L = lexicon_of c.args.dicts.now.rules.now u c.args.dicts.now.code.now in
       let m = memory (size u) c.args.places.now in
       let A = c.grave-u.ensures.0 u e h in
       let B = c.small_y-x.ensures.0 u e (lent-after _ h A.kept) in record {

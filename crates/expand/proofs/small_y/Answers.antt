@@ -15,10 +15,10 @@ use Rattle.expand.proofs.small_y.Goals as goal
 
 pub returns-then-is_none : goal.returns-then-is_none
 returns-then-is_none c =
-    let R = c.args.rules.now in
+    let R = c.args.dicts.now.rules.now in
     let o = chosen_means R c.small_target-target.result in
     let q = sym (has-chosen R c.small_target-target.result) ∙ c.is_none.ensures ∙ ap not c.if-is_none.true in (
-      λ u e h. let L = lexicon_of R u c.args.code.now in
+      λ u e h. let L = lexicon_of R u c.args.dicts.now.code.now in
           let m = memory (size u) c.args.places.now in
           asked-none (no_small L u.text (seen u) c.args.o (work_in c.args.bytes.now c.args.g) m (sym (c.small_target-target.ensures.0 u h.text) ∙ absent o q)),
       c.requires.1,
@@ -30,12 +30,12 @@ returns-then-is_none c =
 
 pub returns-then-is_ruled : goal.returns-then-is_ruled
 returns-then-is_ruled c =
-    let R = c.args.rules.now in
+    let R = c.args.dicts.now.rules.now in
     let t = c.args.g.to + 1 in
     let o = chosen_means R c.small_target-target.result in
     let q = sym (has-chosen R c.small_target-target.result) ∙ c.is_none.ensures ∙ ap not c.if-is_none.false in (
       λ u e h.
-          let L = lexicon_of c.args.rules.now u c.args.code.now in
+          let L = lexicon_of c.args.dicts.now.rules.now u c.args.dicts.now.code.now in
           let m = memory (size u) c.args.places.now in
           let w = work_in c.args.bytes.now c.args.g in
           let some = sym (c.small_target-target.ensures.0 u h.text) ∙ told o q in
@@ -55,12 +55,12 @@ returns-then-is_ruled c =
 
 pub returns-then-is_ruled-2 : goal.returns-then-is_ruled-2
 returns-then-is_ruled-2 c =
-    let R = c.args.rules.now in
+    let R = c.args.dicts.now.rules.now in
     let t = c.args.g.to + 1 in
     let o = chosen_means R c.small_target-target.result in
     let q = sym (has-chosen R c.small_target-target.result) ∙ c.is_none.ensures ∙ ap not c.if-is_none.false in (
       λ u e h.
-          let L = lexicon_of c.args.rules.now u c.args.code.now in
+          let L = lexicon_of c.args.dicts.now.rules.now u c.args.dicts.now.code.now in
           let m = memory (size u) c.args.places.now in
           let w = work_in c.args.bytes.now c.args.g in
           let some = sym (c.small_target-target.ensures.0 u h.text) ∙ told o q in
@@ -84,12 +84,12 @@ returns-then-is_ruled-2 c =
 
 pub returns : goal.returns
 returns c =
-    let R = c.args.rules.now in
+    let R = c.args.dicts.now.rules.now in
     let t = c.args.g.to + 1 in
     let o = chosen_means R c.small_target-target.result in
     let q = sym (has-chosen R c.small_target-target.result) ∙ c.is_none.ensures ∙ ap not c.if-is_none.false in (
       λ u e h.
-          let L = lexicon_of c.args.rules.now u c.args.code.now in
+          let L = lexicon_of c.args.dicts.now.rules.now u c.args.dicts.now.code.now in
           let m = memory (size u) c.args.places.now in
           let w = work_in c.args.bytes.now c.args.g in
           let some = sym (c.small_target-target.ensures.0 u h.text) ∙ told o q in

@@ -16,7 +16,7 @@ use Rattle.expand.proofs.thai.Goals as goal
 pub returns-in-Some : goal.returns-in-Some
 returns-in-Some c =
     let X = c.in-Some.ensures in (
-      (λ x code h. patterned (lexicon_of c.args.rules.now x code) x.text (seen x) (choices_of c.args.choices) c.args.o
+      (λ x code h. patterned (lexicon_of c.args.dicts.now.rules.now x code) x.text (seen x) (choices_of c.args.choices) c.args.o
           (work_in c.args.bytes.now c.args.g) (X.0 x h.text)),
       X.1.0,
     )
@@ -28,9 +28,9 @@ returns-then-is_silent c =
     let K = c.keep.ensures in
     let S = c.is_silent.ensures in
     let I = c.if-is_silent.true in
-    let R = rules_of c.args.rules.now in (
+    let R = rules_of c.args.dicts.now.rules.now in (
       (λ x code h.
-          let L = lexicon_of c.args.rules.now x code in
+          let L = lexicon_of c.args.dicts.now.rules.now x code in
           let made = c.vowel_before-u.ensures.0 x h.text ∙ ap (λ (b : List ℕ). before R (kinds x) x.text (work_in b c.args.g)) X.1 in
           deleted L x.text (seen x) (choices_of c.args.choices) c.args.o w (X.0 x h.text) (work_in _ c.vowel_before-u.result) made (text-by [] K (omega arith)) (sym (S x _ h) ∙ I)),
       clean_by [] K (omega arith),
@@ -42,9 +42,9 @@ returns c =
     let X = c.in_default.ensures in
     let S = c.is_silent.ensures in
     let I = c.if-is_silent.false in
-    let R = rules_of c.args.rules.now in (
+    let R = rules_of c.args.dicts.now.rules.now in (
       (λ x code h.
-          let L = lexicon_of c.args.rules.now x code in
+          let L = lexicon_of c.args.dicts.now.rules.now x code in
           let made = c.vowel_before-u.ensures.0 x h.text ∙ ap (λ (b : List ℕ). before R (kinds x) x.text (work_in b c.args.g)) X.1 in
           spoken L x.text (seen x) (choices_of c.args.choices) c.args.o w (X.0 x h.text) (work_in _ c.vowel_before-u.result) made (sym (S x _ h) ∙ I)),
       (c.requires.0, c.vowel_before-u.ensures.1, omega (arith, c.vowel_before-u.ensures.2, c.requires.2), omega (arith, c.vowel_before-u.ensures.4, c.requires.3), omega (arith, c.vowel_before-u.ensures.3, c.vowel_before-u.ensures.4, c.requires.4), omega (arith, c.vowel_before-u.ensures.4, c.requires.5)),

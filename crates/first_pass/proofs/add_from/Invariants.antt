@@ -14,9 +14,9 @@ use Rattle.first_pass.proofs.add_from.Given as goal
 
 abbrev pub invariant-loop-e : goal.invariant-loop-e
 invariant-loop-e l =
-    ((w : World) → Over w l.ready l.line l.initial.slots l.initial.room l.initial.places l.fn.filled
-    → Going (rises (tables_of w.choices l.rules w.classes l.vowels l.code) w.text l.s l.e (l.s + 1 + most_source - l.e)) (kinds w) (size w)
-    l.initial.slots l.initial.room (build (tables_of w.choices l.rules w.classes l.vowels l.code) w.text l.s (state_of w l.initial.places))
+    ((w : World) → Over w l.dicts.ready.now l.line l.initial.slots l.initial.room l.initial.places l.fn.filled
+    → Going (rises (tables_of w.choices l.dicts.rules.now w.classes l.dicts.vowels.now l.dicts.code.now) w.text l.s l.e (l.s + 1 + most_source - l.e)) (kinds w) (size w)
+    l.initial.slots l.initial.room (build (tables_of w.choices l.dicts.rules.now w.classes l.dicts.vowels.now l.dicts.code.now) w.text l.s (state_of w l.initial.places))
     l.slots l.room l.places l.taken.count l.taken.used)
     × Fresh l.s l.slots l.room (record { count = l.taken.count; used = l.taken.used; since = l.fn.filled.since })
     × (l.taken.used + (l.s + 1 + most_source - l.e) * most_bytes ≤ l.fn.filled.used + most_source * most_bytes)

@@ -49,10 +49,10 @@ add_from-requires c =
 
 pub returns-in_err-taken-clause-built : goal.returns-in_err-taken-clause-built
 returns-in_err-taken-clause-built c =
-    let one_more : (w : World) → (o : (Over w c.args.ready.now c.args.line.now c.args.slots.now c.args.room.now c.args.places.now (filled_of c.args.stretch))) → c.args.stretch.to - c.loop-s.s ≡ ((c.args.stretch.to - (c.loop-s.s + 1))) + 1 = λ w. λ o. omega (arith) in
-    let asked : (w : World) → (o : (Over w c.args.ready.now c.args.line.now c.args.slots.now c.args.room.now c.args.places.now (filled_of c.args.stretch))) → Reached (kinds w) (size w) c.loop-s.slots c.loop-s.room c.add_from.new.slots c.add_from.new.room c.add_from.new.places (c.loop-s.taken.used + most_source * most_bytes) (((build ((tables_of w.choices c.args.rules.now w.classes c.args.vowels.now c.args.code.now)) w.text)) c.loop-s.s ((kept (size w) c.loop-s.slots c.loop-s.room c.loop-s.places c.loop-s.taken.count))) (Err c.in_err-taken.field-0.0) = λ w. λ o. c.in_err-taken.ensures (with_edges w ((kept (size w) c.loop-s.slots c.loop-s.room c.loop-s.places c.loop-s.taken.count)).0)
+    let one_more : (w : World) → (o : (Over w c.args.dicts.now.ready.now c.args.line.now c.args.slots.now c.args.room.now c.args.places.now (filled_of c.args.stretch))) → c.args.stretch.to - c.loop-s.s ≡ ((c.args.stretch.to - (c.loop-s.s + 1))) + 1 = λ w. λ o. omega (arith) in
+    let asked : (w : World) → (o : (Over w c.args.dicts.now.ready.now c.args.line.now c.args.slots.now c.args.room.now c.args.places.now (filled_of c.args.stretch))) → Reached (kinds w) (size w) c.loop-s.slots c.loop-s.room c.add_from.new.slots c.add_from.new.room c.add_from.new.places (c.loop-s.taken.used + most_source * most_bytes) (((build ((tables_of w.choices c.args.dicts.now.rules.now w.classes c.args.dicts.now.vowels.now c.args.dicts.now.code.now)) w.text)) c.loop-s.s ((kept (size w) c.loop-s.slots c.loop-s.room c.loop-s.places c.loop-s.taken.count))) (Err c.in_err-taken.field-0.0) = λ w. λ o. c.in_err-taken.ensures (with_edges w ((kept (size w) c.loop-s.slots c.loop-s.room c.loop-s.places c.loop-s.taken.count)).0)
     (going_lent o c.since.result (c.loop-s.invariant.0 w o)) in
-    let stops : (w : World) → (o : (Over w c.args.ready.now c.args.line.now c.args.slots.now c.args.room.now c.args.places.now (filled_of c.args.stretch))) → (q : Refused (Err c.in_err-taken.field-0.0)) → Reached (kinds w) (size w) c.args.slots.now c.args.room.now c.add_from.new.slots c.add_from.new.room c.add_from.new.places ((c.args.stretch.used + (c.args.stretch.to - c.args.stretch.from) * (most_source * most_bytes))) (each ((build ((tables_of w.choices c.args.rules.now w.classes c.args.vowels.now c.args.code.now)) w.text)) (c.args.stretch.to - c.args.stretch.from) c.args.stretch.from (state_of w c.args.places.now)) (Err c.in_err-taken.field-0.0) = λ w. λ o. λ q. passing_refused ((build ((tables_of w.choices c.args.rules.now w.classes c.args.vowels.now c.args.code.now)) w.text)) most_source (build-grown ((tables_of w.choices c.args.rules.now w.classes c.args.vowels.now c.args.code.now)) w.text) c.loop-s.s (c.args.stretch.to - c.loop-s.s) (c.loop-s.invariant.0 w o)
+    let stops : (w : World) → (o : (Over w c.args.dicts.now.ready.now c.args.line.now c.args.slots.now c.args.room.now c.args.places.now (filled_of c.args.stretch))) → (q : Refused (Err c.in_err-taken.field-0.0)) → Reached (kinds w) (size w) c.args.slots.now c.args.room.now c.add_from.new.slots c.add_from.new.room c.add_from.new.places ((c.args.stretch.used + (c.args.stretch.to - c.args.stretch.from) * (most_source * most_bytes))) (each ((build ((tables_of w.choices c.args.dicts.now.rules.now w.classes c.args.dicts.now.vowels.now c.args.dicts.now.code.now)) w.text)) (c.args.stretch.to - c.args.stretch.from) c.args.stretch.from (state_of w c.args.places.now)) (Err c.in_err-taken.field-0.0) = λ w. λ o. λ q. passing_refused ((build ((tables_of w.choices c.args.dicts.now.rules.now w.classes c.args.dicts.now.vowels.now c.args.dicts.now.code.now)) w.text)) most_source (build-grown ((tables_of w.choices c.args.dicts.now.rules.now w.classes c.args.dicts.now.vowels.now c.args.dicts.now.code.now)) w.text) c.loop-s.s (c.args.stretch.to - c.loop-s.s) (c.loop-s.invariant.0 w o)
     ((c.args.stretch.to - (c.loop-s.s + 1))) (one_more w o) (Err c.in_err-taken.field-0.0) (asked w o) ((c.args.stretch.used + (c.args.stretch.to - c.args.stretch.from) * (most_source * most_bytes))) q in
     let p = err_from_is_err_and c.from_residual.result c.from_residual.ensures.1 in
     λ w o. rw (p.1, p.2) (stops w o tt)
@@ -60,27 +60,27 @@ returns-in_err-taken-clause-built c =
 pub loop-s-preserved : goal.loop-s-preserved
 loop-s-preserved c =
     let still-long : length c.begin_at.new.starts ≡ length c.args.starts.now = omega (arith, ap length c.begin_at.ensures, length-set c.loop-s.starts c.loop-s.s c.loop-s.taken.count, c.loop-s.invariant.9) in
-    let one_more : (w : World) → (o : (Over w c.args.ready.now c.args.line.now c.args.slots.now c.args.room.now c.args.places.now (filled_of c.args.stretch))) → c.args.stretch.to - c.loop-s.s ≡ ((c.args.stretch.to - (c.loop-s.s + 1))) + 1 = λ w. λ o. omega (arith) in
-    let asked : (w : World) → (o : (Over w c.args.ready.now c.args.line.now c.args.slots.now c.args.room.now c.args.places.now (filled_of c.args.stretch))) → Reached (kinds w) (size w) c.loop-s.slots c.loop-s.room c.add_from.new.slots c.add_from.new.room c.add_from.new.places (c.loop-s.taken.used + most_source * most_bytes) (((build ((tables_of w.choices c.args.rules.now w.classes c.args.vowels.now c.args.code.now)) w.text)) c.loop-s.s ((kept (size w) c.loop-s.slots c.loop-s.room c.loop-s.places c.loop-s.taken.count))) (Ok c.in_ok-taken.taken) = λ w. λ o. c.in_ok-taken.ensures (with_edges w ((kept (size w) c.loop-s.slots c.loop-s.room c.loop-s.places c.loop-s.taken.count)).0)
+    let one_more : (w : World) → (o : (Over w c.args.dicts.now.ready.now c.args.line.now c.args.slots.now c.args.room.now c.args.places.now (filled_of c.args.stretch))) → c.args.stretch.to - c.loop-s.s ≡ ((c.args.stretch.to - (c.loop-s.s + 1))) + 1 = λ w. λ o. omega (arith) in
+    let asked : (w : World) → (o : (Over w c.args.dicts.now.ready.now c.args.line.now c.args.slots.now c.args.room.now c.args.places.now (filled_of c.args.stretch))) → Reached (kinds w) (size w) c.loop-s.slots c.loop-s.room c.add_from.new.slots c.add_from.new.room c.add_from.new.places (c.loop-s.taken.used + most_source * most_bytes) (((build ((tables_of w.choices c.args.dicts.now.rules.now w.classes c.args.dicts.now.vowels.now c.args.dicts.now.code.now)) w.text)) c.loop-s.s ((kept (size w) c.loop-s.slots c.loop-s.room c.loop-s.places c.loop-s.taken.count))) (Ok c.in_ok-taken.taken) = λ w. λ o. c.in_ok-taken.ensures (with_edges w ((kept (size w) c.loop-s.slots c.loop-s.room c.loop-s.places c.loop-s.taken.count)).0)
     (going_lent o c.since.result (c.loop-s.invariant.0 w o)) in
-    let goes : (w : World) → (o : (Over w c.args.ready.now c.args.line.now c.args.slots.now c.args.room.now c.args.places.now (filled_of c.args.stretch))) → (count : ℕ) → (used : ℕ) → (q : (Ok c.in_ok-taken.taken) ≡ fits count used) → Going (each ((build ((tables_of w.choices c.args.rules.now w.classes c.args.vowels.now c.args.code.now)) w.text)) ((c.args.stretch.to - (c.loop-s.s + 1))) (c.loop-s.s + 1)) (kinds w) (size w) c.args.slots.now c.args.room.now (each ((build ((tables_of w.choices c.args.rules.now w.classes c.args.vowels.now c.args.code.now)) w.text)) (c.args.stretch.to - c.args.stretch.from) c.args.stretch.from (state_of w c.args.places.now)) c.add_from.new.slots c.add_from.new.room c.add_from.new.places count used = λ w. λ o. λ count. λ used. λ q. passing_next ((build ((tables_of w.choices c.args.rules.now w.classes c.args.vowels.now c.args.code.now)) w.text)) most_source (build-grown ((tables_of w.choices c.args.rules.now w.classes c.args.vowels.now c.args.code.now)) w.text) c.loop-s.s (c.args.stretch.to - c.loop-s.s) (c.loop-s.invariant.0 w o)
+    let goes : (w : World) → (o : (Over w c.args.dicts.now.ready.now c.args.line.now c.args.slots.now c.args.room.now c.args.places.now (filled_of c.args.stretch))) → (count : ℕ) → (used : ℕ) → (q : (Ok c.in_ok-taken.taken) ≡ fits count used) → Going (each ((build ((tables_of w.choices c.args.dicts.now.rules.now w.classes c.args.dicts.now.vowels.now c.args.dicts.now.code.now)) w.text)) ((c.args.stretch.to - (c.loop-s.s + 1))) (c.loop-s.s + 1)) (kinds w) (size w) c.args.slots.now c.args.room.now (each ((build ((tables_of w.choices c.args.dicts.now.rules.now w.classes c.args.dicts.now.vowels.now c.args.dicts.now.code.now)) w.text)) (c.args.stretch.to - c.args.stretch.from) c.args.stretch.from (state_of w c.args.places.now)) c.add_from.new.slots c.add_from.new.room c.add_from.new.places count used = λ w. λ o. λ count. λ used. λ q. passing_next ((build ((tables_of w.choices c.args.dicts.now.rules.now w.classes c.args.dicts.now.vowels.now c.args.dicts.now.code.now)) w.text)) most_source (build-grown ((tables_of w.choices c.args.dicts.now.rules.now w.classes c.args.dicts.now.vowels.now c.args.dicts.now.code.now)) w.text) c.loop-s.s (c.args.stretch.to - c.loop-s.s) (c.loop-s.invariant.0 w o)
     ((c.args.stretch.to - (c.loop-s.s + 1))) (one_more w o) (Ok c.in_ok-taken.taken) (asked w o) count used q in
-    let uses : (w : World) → (o : (Over w c.args.ready.now c.args.line.now c.args.slots.now c.args.room.now c.args.places.now (filled_of c.args.stretch))) → (count : ℕ) → (used : ℕ) → (q : (Ok c.in_ok-taken.taken) ≡ fits count used) → used ≤ c.loop-s.taken.used + most_source * most_bytes = λ w. λ o. λ count. λ used. λ q. passing_used ((build ((tables_of w.choices c.args.rules.now w.classes c.args.vowels.now c.args.code.now)) w.text)) most_source (build-grown ((tables_of w.choices c.args.rules.now w.classes c.args.vowels.now c.args.code.now)) w.text) c.loop-s.s (c.args.stretch.to - c.loop-s.s) (c.loop-s.invariant.0 w o)
+    let uses : (w : World) → (o : (Over w c.args.dicts.now.ready.now c.args.line.now c.args.slots.now c.args.room.now c.args.places.now (filled_of c.args.stretch))) → (count : ℕ) → (used : ℕ) → (q : (Ok c.in_ok-taken.taken) ≡ fits count used) → used ≤ c.loop-s.taken.used + most_source * most_bytes = λ w. λ o. λ count. λ used. λ q. passing_used ((build ((tables_of w.choices c.args.dicts.now.rules.now w.classes c.args.dicts.now.vowels.now c.args.dicts.now.code.now)) w.text)) most_source (build-grown ((tables_of w.choices c.args.dicts.now.rules.now w.classes c.args.dicts.now.vowels.now c.args.dicts.now.code.now)) w.text) c.loop-s.s (c.args.stretch.to - c.loop-s.s) (c.loop-s.invariant.0 w o)
     ((c.args.stretch.to - (c.loop-s.s + 1))) (one_more w o) (Ok c.in_ok-taken.taken) (asked w o) count used q in
-    let counts : (w : World) → (o : (Over w c.args.ready.now c.args.line.now c.args.slots.now c.args.room.now c.args.places.now (filled_of c.args.stretch))) → (count : ℕ) → (used : ℕ) → (q : (Ok c.in_ok-taken.taken) ≡ fits count used) → count ≤ c.loop-s.taken.count + most_source = λ w. λ o. λ count. λ used. λ q. passing_few ((build ((tables_of w.choices c.args.rules.now w.classes c.args.vowels.now c.args.code.now)) w.text)) most_source (build-grown ((tables_of w.choices c.args.rules.now w.classes c.args.vowels.now c.args.code.now)) w.text) c.loop-s.s (c.args.stretch.to - c.loop-s.s) (c.loop-s.invariant.0 w o)
+    let counts : (w : World) → (o : (Over w c.args.dicts.now.ready.now c.args.line.now c.args.slots.now c.args.room.now c.args.places.now (filled_of c.args.stretch))) → (count : ℕ) → (used : ℕ) → (q : (Ok c.in_ok-taken.taken) ≡ fits count used) → count ≤ c.loop-s.taken.count + most_source = λ w. λ o. λ count. λ used. λ q. passing_few ((build ((tables_of w.choices c.args.dicts.now.rules.now w.classes c.args.dicts.now.vowels.now c.args.dicts.now.code.now)) w.text)) most_source (build-grown ((tables_of w.choices c.args.dicts.now.rules.now w.classes c.args.dicts.now.vowels.now c.args.dicts.now.code.now)) w.text) c.loop-s.s (c.args.stretch.to - c.loop-s.s) (c.loop-s.invariant.0 w o)
     ((c.args.stretch.to - (c.loop-s.s + 1))) (one_more w o) (Ok c.in_ok-taken.taken) (asked w o) count used q in
-    let edges_are : (w : World) → (o : (Over w c.args.ready.now c.args.line.now c.args.slots.now c.args.room.now c.args.places.now (filled_of c.args.stretch))) → (count : ℕ) → (used : ℕ) → (q : (Ok c.in_ok-taken.taken) ≡ fits count used) → edges_of c.add_from.new.room count c.add_from.new.slots ≡ (((build ((tables_of w.choices c.args.rules.now w.classes c.args.vowels.now c.args.code.now)) w.text)) c.loop-s.s ((kept (size w) c.loop-s.slots c.loop-s.room c.loop-s.places c.loop-s.taken.count))).0 = λ w. λ o. λ count. λ used. λ q. passing_edges ((build ((tables_of w.choices c.args.rules.now w.classes c.args.vowels.now c.args.code.now)) w.text)) most_source (build-grown ((tables_of w.choices c.args.rules.now w.classes c.args.vowels.now c.args.code.now)) w.text) c.loop-s.s (c.args.stretch.to - c.loop-s.s) (c.loop-s.invariant.0 w o)
+    let edges_are : (w : World) → (o : (Over w c.args.dicts.now.ready.now c.args.line.now c.args.slots.now c.args.room.now c.args.places.now (filled_of c.args.stretch))) → (count : ℕ) → (used : ℕ) → (q : (Ok c.in_ok-taken.taken) ≡ fits count used) → edges_of c.add_from.new.room count c.add_from.new.slots ≡ (((build ((tables_of w.choices c.args.dicts.now.rules.now w.classes c.args.dicts.now.vowels.now c.args.dicts.now.code.now)) w.text)) c.loop-s.s ((kept (size w) c.loop-s.slots c.loop-s.room c.loop-s.places c.loop-s.taken.count))).0 = λ w. λ o. λ count. λ used. λ q. passing_edges ((build ((tables_of w.choices c.args.dicts.now.rules.now w.classes c.args.dicts.now.vowels.now c.args.dicts.now.code.now)) w.text)) most_source (build-grown ((tables_of w.choices c.args.dicts.now.rules.now w.classes c.args.dicts.now.vowels.now c.args.dicts.now.code.now)) w.text) c.loop-s.s (c.args.stretch.to - c.loop-s.s) (c.loop-s.invariant.0 w o)
     ((c.args.stretch.to - (c.loop-s.s + 1))) (one_more w o) (Ok c.in_ok-taken.taken) (asked w o) count used q in
-    let goes-ahead : (w : World) → (o : (Over w c.args.ready.now c.args.line.now c.args.slots.now c.args.room.now c.args.places.now (filled_of c.args.stretch))) → (count : ℕ) → (used : ℕ) → (q : (Ok c.in_ok-taken.taken) ≡ fits count used) → All (λ x. Ahead (size_in c.args.line.now) x.from x.to) (edges_of c.add_from.new.room count c.add_from.new.slots) = λ w. λ o. λ count. λ used. λ q. let is = line-size o.lent.text in
-    let ok = tables-bounded w.choices c.args.rules.now w.classes c.args.vowels.now c.args.code.now c.requires.table.table.accepted o.lent.text.fine c.requires.inherent in
+    let goes-ahead : (w : World) → (o : (Over w c.args.dicts.now.ready.now c.args.line.now c.args.slots.now c.args.room.now c.args.places.now (filled_of c.args.stretch))) → (count : ℕ) → (used : ℕ) → (q : (Ok c.in_ok-taken.taken) ≡ fits count used) → All (λ x. Ahead (size_in c.args.line.now) x.from x.to) (edges_of c.add_from.new.room count c.add_from.new.slots) = λ w. λ o. λ count. λ used. λ q. let is = line-size o.lent.text in
+    let ok = tables-bounded w.choices c.args.dicts.now.rules.now w.classes c.args.dicts.now.vowels.now c.args.dicts.now.code.now c.requires.table.table.accepted o.lent.text.fine c.requires.inherent in
     subst (λ (es : List Edge). All (λ x. Ahead (size_in c.args.line.now) x.from x.to) es) (sym ((edges_are w o) count used q))
-    (subst (λ (m : ℕ). All (λ x. Ahead m x.from x.to) (((build ((tables_of w.choices c.args.rules.now w.classes c.args.vowels.now c.args.code.now)) w.text)) c.loop-s.s ((kept (size w) c.loop-s.slots c.loop-s.room c.loop-s.places c.loop-s.taken.count))).0) (sym is)
-    (build_ahead ((tables_of w.choices c.args.rules.now w.classes c.args.vowels.now c.args.code.now)) ok w.text c.loop-s.s ((kept (size w) c.loop-s.slots c.loop-s.room c.loop-s.places c.loop-s.taken.count)) (omega (arith, is, c.requires.inside))
+    (subst (λ (m : ℕ). All (λ x. Ahead m x.from x.to) (((build ((tables_of w.choices c.args.dicts.now.rules.now w.classes c.args.dicts.now.vowels.now c.args.dicts.now.code.now)) w.text)) c.loop-s.s ((kept (size w) c.loop-s.slots c.loop-s.room c.loop-s.places c.loop-s.taken.count))).0) (sym is)
+    (build_ahead ((tables_of w.choices c.args.dicts.now.rules.now w.classes c.args.dicts.now.vowels.now c.args.dicts.now.code.now)) ok w.text c.loop-s.s ((kept (size w) c.loop-s.slots c.loop-s.room c.loop-s.places c.loop-s.taken.count)) (omega (arith, is, c.requires.inside))
     (subst (λ (m : ℕ). All (λ x. Ahead m x.from x.to) ((kept (size w) c.loop-s.slots c.loop-s.room c.loop-s.places c.loop-s.taken.count)).0) is c.loop-s.invariant.3))) in
-    let begins : (w : World) → (o : (Over w c.args.ready.now c.args.line.now c.args.slots.now c.args.room.now c.args.places.now (filled_of c.args.stretch))) → (count : ℕ) → (used : ℕ) → (q : (Ok c.in_ok-taken.taken) ≡ fits count used) → Begun (edges_of c.add_from.new.room count c.add_from.new.slots) (c.loop-s.s + 1) (set c.begin_at.new.starts (c.loop-s.s + 1) count) = λ w. λ o. λ count. λ used. λ q. let few = o.lent.text.few in
+    let begins : (w : World) → (o : (Over w c.args.dicts.now.ready.now c.args.line.now c.args.slots.now c.args.room.now c.args.places.now (filled_of c.args.stretch))) → (count : ℕ) → (used : ℕ) → (q : (Ok c.in_ok-taken.taken) ≡ fits count used) → Begun (edges_of c.add_from.new.room count c.add_from.new.slots) (c.loop-s.s + 1) (set c.begin_at.new.starts (c.loop-s.s + 1) count) = λ w. λ o. λ count. λ used. λ q. let few = o.lent.text.few in
     subst (λ (es : List Edge). Begun es (c.loop-s.s + 1) (set c.begin_at.new.starts (c.loop-s.s + 1) count)) (sym ((edges_are w o) count used q))
     (begun_turn c.begin_at.new.starts (size_in c.args.line.now) count
-    (build-begun ((tables_of w.choices c.args.rules.now w.classes c.args.vowels.now c.args.code.now)) w.text (set c.loop-s.starts c.loop-s.s c.loop-s.taken.count) c.loop-s.s ((kept (size w) c.loop-s.slots c.loop-s.room c.loop-s.places c.loop-s.taken.count)) c.loop-s.invariant.1) c.begin_at.ensures
+    (build-begun ((tables_of w.choices c.args.dicts.now.rules.now w.classes c.args.dicts.now.vowels.now c.args.dicts.now.code.now)) w.text (set c.loop-s.starts c.loop-s.s c.loop-s.taken.count) c.loop-s.s ((kept (size w) c.loop-s.slots c.loop-s.room c.loop-s.places c.loop-s.taken.count)) c.loop-s.invariant.1) c.begin_at.ensures
     (sym (edge_count c.add_from.new.slots c.add_from.new.room count) ∙ ap length ((edges_are w o) count used q))
     (omega (arith, ap length c.begin_at.ensures, length-set c.loop-s.starts c.loop-s.s c.loop-s.taken.count, c.loop-s.invariant.2))
     (omega (arith, c.requires.inside))
@@ -114,7 +114,7 @@ returns-clause-built c =
     let x = c.args.stretch in
     let end : c.loop-s.s ≡ x.to = omega (arith, c.requires.forward) in
     λ w o.
-    passing_over (build (tables_of w.choices c.args.rules.now w.classes c.args.vowels.now c.args.code.now) w.text) most_source (build-grown (tables_of w.choices c.args.rules.now w.classes c.args.vowels.now c.args.code.now) w.text) c.loop-s.s (x.to - c.loop-s.s) (c.loop-s.invariant.0 w o)
+    passing_over (build (tables_of w.choices c.args.dicts.now.rules.now w.classes c.args.dicts.now.vowels.now c.args.dicts.now.code.now) w.text) most_source (build-grown (tables_of w.choices c.args.dicts.now.rules.now w.classes c.args.dicts.now.vowels.now c.args.dicts.now.code.now) w.text) c.loop-s.s (x.to - c.loop-s.s) (c.loop-s.invariant.0 w o)
     (x.used + (x.to - x.from) * (most_source * most_bytes)) (omega (arith, c.loop-s.invariant.5, end)) (omega (arith, end))
 
 pub returns-clause-starts : goal.returns-clause-starts

@@ -18,9 +18,9 @@ use Rattle.first_pass.proofs.add_romanization.Given as goal
 abbrev pub invariant-loop-s : goal.invariant-loop-s
 invariant-loop-s l =
     let x = l.fn.stretch in
-    ((w : World) → Over w l.ready l.line l.initial.slots l.initial.room l.initial.places (filled_of x)
-    → Going (each (build (tables_of w.choices l.rules w.classes l.vowels l.code) w.text) (x.to - l.s) l.s) (kinds w) (size w) l.initial.slots l.initial.room
-    (each (build (tables_of w.choices l.rules w.classes l.vowels l.code) w.text) (x.to - x.from) x.from (state_of w l.initial.places))
+    ((w : World) → Over w l.dicts.ready.now l.line l.initial.slots l.initial.room l.initial.places (filled_of x)
+    → Going (each (build (tables_of w.choices l.dicts.rules.now w.classes l.dicts.vowels.now l.dicts.code.now) w.text) (x.to - l.s) l.s) (kinds w) (size w) l.initial.slots l.initial.room
+    (each (build (tables_of w.choices l.dicts.rules.now w.classes l.dicts.vowels.now l.dicts.code.now) w.text) (x.to - x.from) x.from (state_of w l.initial.places))
     l.slots l.room l.places l.taken.count l.taken.used)
     × Begun (edges_of l.room l.taken.count l.slots) l.s (set l.starts l.s l.taken.count) × (length l.starts ≡ size_in l.line + 1)
     × All (λ x. Ahead (size_in l.line) x.from x.to) (edges_of l.room l.taken.count l.slots)

@@ -14,7 +14,7 @@ ending_of-end-requires c =
     let b = c.put_span_edge.new.bytes in
     let A = c.in-Some.ensures.0 c.requires.3.world o.told o.lent in
     low_bytes (take r.len b)
-    (spelt c.args.rules.now c.args.vowels.now c.args.code.now o c.requires.0 c.requires.1 c.requires.2 _ A b r refl c.requires.5).1.low
+    (spelt c.args.dicts.now.rules.now c.args.dicts.now.vowels.now c.args.dicts.now.code.now o c.requires.0 c.requires.1 c.requires.2 _ A b r refl c.requires.5).1.low
 
 pub add_edge-requires : goal.add_edge-requires
 add_edge-requires c =
@@ -22,9 +22,9 @@ add_edge-requires c =
     let r = c.in-Some.found in
     let b = c.put_span_edge.new.bytes in
     let A = c.in-Some.ensures.0 c.requires.3.world o.told o.lent in
-    let rules = c.args.rules.now in
-    let vowels = c.args.vowels.now in
-    let code = c.args.code.now in
+    let rules = c.args.dicts.now.rules.now in
+    let vowels = c.args.dicts.now.vowels.now in
+    let code = c.args.dicts.now.code.now in
     let s = (spelt rules vowels code o c.requires.0 c.requires.1 c.requires.2 _ A b r refl c.requires.5).0 in
     let forward = s.forward in
     let inside = s.inside in
@@ -45,11 +45,11 @@ returns-in-Some c =
     let b = c.put_span_edge.new.bytes in
     λ w o.
     let asked = c.in-Some.ensures.0 w o.told o.lent in
-    span_added c.args.rules.now c.args.vowels.now c.args.code.now o c.requires.0 c.requires.1 c.requires.2 _ asked b r refl c.requires.5
+    span_added c.args.dicts.now.rules.now c.args.dicts.now.vowels.now c.args.dicts.now.code.now o c.requires.0 c.requires.1 c.requires.2 _ asked b r refl c.requires.5
     c.ending_of-end.result (λ x q l. c.ending_of-end.ensures (kinds w) x q (c.ends_in_letter.ensures ∙ l))
     c.add_edge.new.slots c.add_edge.new.room c.add_edge.new.places c.add_edge.result c.add_edge.ensures.edge.0 c.add_edge.ensures.edge.1 c.add_edge.ensures.edge.2 c.add_edge.ensures.places
 
 pub returns-in-None : goal.returns-in-None
 returns-in-None c =
     λ w o.
-    span_none c.args.rules.now c.args.vowels.now c.args.code.now o c.requires.0 c.requires.1 c.requires.2 _ (c.in-None.ensures.0 w o.told o.lent) refl
+    span_none c.args.dicts.now.rules.now c.args.dicts.now.vowels.now c.args.dicts.now.code.now o c.requires.0 c.requires.1 c.requires.2 _ (c.in-None.ensures.0 w o.told o.lent) refl

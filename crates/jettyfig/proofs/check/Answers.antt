@@ -1,6 +1,6 @@
 -- `jettyfig::check`: each table and the code, in the definition's order; the decomposition table's index is filled where that table
 -- is checked.
-use mathlib.Core.Path.{ap, sym, ◌∙◌}
+use mathlib.Core.Path.{ap, ◌∙◌}
 use Rattle.definition.specs.Refusals.{placed, refused_classes, refused_vowels, refused_decompositions}
 use Rattle.jettyfig.specs.Verdicts.{indexed_so, passed_on, at_rules, at_classes, at_vowels, at_decompositions, at_code, formed-right}
 use Rattle.jettyfig.proofs.check.Goals as goal
@@ -41,8 +41,8 @@ returns-clause-verdict c =
 
 pub returns-clause-index : goal.returns-clause-index
 returns-clause-index c =
-    indexed_so c.args.tables.decompositions.now c.check_decompositions-decompositions.new.index
-    (formed-right c.args.tables.rules.now c.args.tables.classes.now c.args.tables.vowels.now c.args.tables.decompositions.now c.args.tables.code.now c.in_ok-check_rules.ensures
+    indexed_so c.args.tables.now.decompositions.now c.check_decompositions-decompositions.new.index
+    (formed-right c.args.tables.now.rules.now c.args.tables.now.classes.now c.args.tables.now.vowels.now c.args.tables.now.decompositions.now c.args.tables.now.code.now c.in_ok-check_rules.ensures
     (c.in_ok-of_table.ensures ∙ ap (placed refused_classes) c.check_classes-classes.ensures)
     (c.in_ok-of_table-2.ensures ∙ ap (placed refused_vowels) c.check_vowels-vowels.ensures)
     (c.in_ok-of_table-3.ensures ∙ ap (placed refused_decompositions) c.check_decompositions-decompositions.ensures.answer))

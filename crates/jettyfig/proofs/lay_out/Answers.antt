@@ -1,20 +1,17 @@
 -- `jettyfig::lay_out`: an accepted text's line, whose part of twice its length is lent and comes back with the classes.
 use Prim.Native.Nat.{ℕ, ◌+◌, ◌*◌, ◌≤◌}
-use mathlib.Core.Option.{Option, some}
+use mathlib.Core.Option.{some}
 use mathlib.Core.List.{List}
-use mathlib.Core.Path.{◌≡◌, refl, sym, ap, ◌∙◌}
+use mathlib.Core.Path.{◌≡◌, refl, sym, ◌∙◌}
 use native.Mathlib.Omega.{arith}
 use lib.ListN.{length}
-use Rattle.std.specs.Prelude.{Result, Ok, Err, IsErrAnd}
+use Rattle.std.specs.Prelude.{Ok, Err}
 use Rattle.definition.specs.Limits.{most_characters}
-use Rattle.definition.specs.Refusals.{Refusal}
 use Rattle.definition.specs.Utf8.{decoded}
 use Rattle.definition.specs.Call.{text_refusal}
 use Rattle.utf8.specs.declared.TextFault.{TextFault}
-use Rattle.utf8.specs.declared.TextFault.TheVariants as TextFault
 use Rattle.utf8.specs.Read.{text_means, few_read}
-use Rattle.jettyfig.specs.declared.Refusal.{Refusal as Refused}
-use Rattle.jettyfig.specs.Verdicts.{refusal_means, verdict_means, of_text, passed_on}
+use Rattle.jettyfig.specs.Verdicts.{refusal_means, of_text, passed_on}
 use Rattle.jettyfig.proofs.Parts.{lent_length, laid_out}
 use Rattle.jettyfig.proofs.lay_out.Goals as goal
 

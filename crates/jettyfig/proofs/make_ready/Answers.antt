@@ -17,11 +17,11 @@ pub fill-requires : goal.fill-requires
 fill-requires c =
     let blank = c.requires.2.1 in (
       c.requires.0,
-      zeros-lent c.args.tables.classes.now c.args.prepared.now c.classify_ascii.new.alphas blank.long c.classify_ascii.ensures blank.zeros,
-      room-lent c.args.tables.classes.now c.args.prepared.now c.classify_ascii.new.alphas blank.long c.classify_ascii.ensures _ refl,
+      zeros-lent c.args.tables.now.classes.now c.args.prepared.now c.classify_ascii.new.alphas blank.long c.classify_ascii.ensures blank.zeros,
+      room-lent c.args.tables.now.classes.now c.args.prepared.now c.classify_ascii.new.alphas blank.long c.classify_ascii.ensures _ refl,
     )
 
 pub returns : goal.returns
 returns c =
-    made_ready c.args.tables.classes.now c.args.prepared.now c.classify_ascii.new.alphas c.requires.2.1.long c.classify_ascii.ensures
-    c.args.tables.rules.now c.fill.new.all c.fill.ensures.0 c.fill.ensures.1 c.fill.auto.all
+    made_ready c.args.tables.now.classes.now c.args.prepared.now c.classify_ascii.new.alphas c.requires.2.1.long c.classify_ascii.ensures
+    c.args.tables.now.rules.now c.fill.new.all c.fill.ensures.0 c.fill.ensures.1 c.fill.auto.all

@@ -1,12 +1,11 @@
 -- `jettyfig::respond`: what is asked is written over zeros, with room for the text behind; then the refusal of what is set up, or its lattice.
 use mathlib.Core.Option.{none}
 use mathlib.Core.Path.{◌≡◌, sym, ap, ◌∙◌, subst}
-use Prim.Native.Nat.{ℕ, ◌*◌, ◌+◌, ◌≤◌}
+use Prim.Native.Nat.{ℕ, ◌≤◌}
 use mathlib.Core.List.{List}
 use native.Mathlib.Omega.{arith}
 use lib.ListN.{length, take, replicate, length-replicate}
 use Rattle.std.specs.Prelude.{Ok, Err}
-use lib.Seq.{length-take-le}
 use Rattle.definition.specs.Tables.{Choices}
 use Rattle.words.specs.Given.{all_ready, mode_in, choices_in, line_in, Lined, line-size}
 use Rattle.jettyfig.specs.Verdicts.{mode_number, chosen, given, by_asked}
@@ -37,7 +36,7 @@ set_up-requires g c = (
 
 pub build-requires-clause-places : goal.build-requires-clause-places
 build-requires-clause-places g c =
-    let t = c.args.tables in
+    let t = c.args.tables.now in
     let s = set_as (mode_number c.args.asked.mode) (chosen c.args.asked) t.rules.now t.classes.now t.vowels.now t.decompositions.now t.code.now c.args.text.now
     (replicate {A = ℕ} g.row.PREPARED 0) (zeroed g.row.PREPARED c.requires.prepared.1) c.put_asked.new.prepared c.set_up.new.prepared c.put_asked.ensures (Ok c.in_ok-n.n) c.in_ok-n.ensures in
     let lined : Lined (world_of (given (mode_number c.args.asked.mode) (chosen c.args.asked) t.rules.now t.classes.now t.vowels.now t.decompositions.now t.code.now
@@ -47,7 +46,7 @@ build-requires-clause-places g c =
 
 pub returns-in_err-n-clause-called : goal.returns-in_err-n-clause-called
 returns-in_err-n-clause-called g c =
-    let t = c.args.tables in
+    let t = c.args.tables.now in
     refused_so (mode_number c.args.asked.mode) (chosen c.args.asked) t.rules.now t.classes.now t.vowels.now t.decompositions.now t.code.now c.args.text.now
     c.args.memory.now.out.now c.requires.zeros _ _ c.set_up.new.prepared _ _ c.from_residual.ensures.1
     (set_as (mode_number c.args.asked.mode) (chosen c.args.asked) t.rules.now t.classes.now t.vowels.now t.decompositions.now t.code.now c.args.text.now
@@ -55,7 +54,7 @@ returns-in_err-n-clause-called g c =
 
 pub returns-clause-called : goal.returns-clause-called
 returns-clause-called g c =
-    let t = c.args.tables in
+    let t = c.args.tables.now in
     accepted_so (mode_number c.args.asked.mode) (chosen c.args.asked) t.rules.now t.classes.now t.vowels.now t.decompositions.now t.code.now c.args.text.now
     c.in_ok-n.n c.set_up.new.prepared _ _ _ _
     (set_as (mode_number c.args.asked.mode) (chosen c.args.asked) t.rules.now t.classes.now t.vowels.now t.decompositions.now t.code.now c.args.text.now

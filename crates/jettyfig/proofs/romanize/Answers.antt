@@ -1,12 +1,9 @@
 -- `jettyfig::romanize`: what is asked is refused first; a text of few characters has the smaller arrays.
-use mathlib.Core.Path.{◌≡◌, ap, ◌∙◌}
-use Prim.Native.Nat.{ℕ, ◌≤◌}
+use Prim.Native.Nat.{◌≤◌}
 use lib.ListN.{length}
 use native.Mathlib.Omega.{arith}
-use Rattle.definition.specs.Tables.{Choices}
 use Rattle.definition.specs.Utf8.{decoded}
-use Rattle.definition.specs.Call.{Inputs, called}
-use Rattle.jettyfig.specs.Verdicts.{choose, chosen, given}
+use Rattle.jettyfig.specs.Verdicts.{choose}
 use Rattle.jettyfig.specs.Steps.{few_characters}
 use Rattle.jettyfig.proofs.Responded.{asked_so}
 use Rattle.jettyfig.proofs.romanize.Goals as goal

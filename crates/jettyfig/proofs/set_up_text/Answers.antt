@@ -13,7 +13,7 @@ use Rattle.definition.specs.Utf8.{decoded}
 use Rattle.words.specs.Given.{all_ready}
 use Rattle.jettyfig.specs.declared.Refusal.{Refusal as Refused}
 use Rattle.jettyfig.specs.Steps.{LineRoom, used_for, TextMade, TextSet}
-use Rattle.jettyfig.proofs.Parts.{cut, whole, whole_long, cut-mode, cut-choices, cut-forms, cut_line, cut_blank}
+use Rattle.jettyfig.proofs.Parts.{whole, whole_long, cut-mode, cut-choices, cut-forms, cut_line, cut_blank}
 use Rattle.jettyfig.proofs.Wholes.{back_is, back_inside}
 use Rattle.jettyfig.proofs.set_up_text.Goals as goal
 
@@ -73,7 +73,7 @@ returns c =
       sym c.in_ok-n.ensures.refusal,
       e.1,
       back_inside back rest (used_for c.in_ok-n.n) size,
-      subst (TextMade c.args.tables.rules.now c.args.tables.classes.now c.args.text.now c.args.prepared.now) (sym (back_is back rest (used_for c.in_ok-n.n) size)) (record {
+      subst (TextMade c.args.tables.now.rules.now c.args.tables.now.classes.now c.args.text.now c.args.prepared.now) (sym (back_is back rest (used_for c.in_ok-n.n) size)) (record {
         letters = made.letters;
         choices = made.choices ∙ cut-choices c.args.prepared.now c.lay_out.new.line long m room;
         mode = made.mode ∙ cut-mode c.args.prepared.now c.lay_out.new.line long m room;

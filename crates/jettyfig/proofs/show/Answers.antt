@@ -6,8 +6,7 @@ use Prim.Native.Nat.{ℕ}
 use native.Mathlib.Omega.{arith}
 use lib.ListN.{length, replicate}
 use Rattle.std.proofs.Common.{rules}
-use Rattle.definition.specs.Call.{Inputs, uncounted}
-use Rattle.output.specs.Shows.{Shows}
+use Rattle.definition.specs.Call.{uncounted}
 use Rattle.jettyfig.specs.Calls.{shown_large, shown-fits, shown_misses}
 use Rattle.jettyfig.proofs.show.Goals as goal
 

@@ -17,7 +17,7 @@ use Rattle.o_ang.proofs.is_between.Goals.{then-is_in_thai, else-is_in_thai}
 pub returns-then-is_after_side : goal.returns-then-is_after_side
 returns-then-is_after_side c =
     λ x w h. let z = line-size h.text in
-    let R = rules_of c.args.rules.now in
+    let R = rules_of c.args.dicts.now.rules.now in
     elim c.if-is_in_thai.branch [
       | then-is_in_thai v ↦ c.starts_beside.ensures
           ∙ ap (λ (y : ℕ). is beside (first_rule R (y ∷ []))) (c.number_at.ensures ∙ char_at h.text c.args.g.to (omega arith))
@@ -28,7 +28,7 @@ returns-then-is_after_side c =
 
 pub returns-else-is_after_side : goal.returns-else-is_after_side
 returns-else-is_after_side c =
-    λ x w h. let R = rules_of c.args.rules.now in
+    λ x w h. let R = rules_of c.args.dicts.now.rules.now in
     c.if-is_after_side.false ∙ elim c.if-is_in_thai.branch [
       | then-is_in_thai v ↦ not_behind (choices_of c.args.choices) R (kinds x) x.text (work w c.args.g.from c.args.g.to c.args.g.note) (seen x)
           (sym (c.is_in_thai.ensures x h.text) ∙ v.if-is_in_thai.true) (sym (v.is_after_side.ensures x h) ∙ sym v.value-is ∙ c.if-is_after_side.false)

@@ -18,7 +18,7 @@ returns-then-g c =
     elim c.if-number_at-eq-O_ANG.branch [
       | then-number_at-eq-O_ANG v ↦
           let here : at x.text c.args.o ≡ o_ang = omega (arith, char_at h.text c.args.o (omega arith), c.number_at.ensures, v.if-number_at-eq-O_ANG.true) in
-          alone (choices_of c.args.choices) (rules_of c.args.rules.now) (kinds x) x.text (work w c.args.g.from c.args.g.to c.args.g.note) (seen x) c.args.o here
+          alone (choices_of c.args.choices) (rules_of c.args.dicts.now.rules.now) (kinds x) x.text (work w c.args.g.from c.args.g.to c.args.g.note) (seen x) c.args.o here
           (sym v.value-is ∙ c.if-g.true) (sym (c.is_between.ensures x w h))
       | else-number_at-eq-O_ANG v ↦ absurd (true≢false (sym c.if-g.true ∙ v.value-is ∙ ne_eqb _ _ v.if-number_at-eq-O_ANG.false))
     ]
@@ -29,9 +29,9 @@ returns-else-g c =
     c.if-g.false ∙ elim c.if-number_at-eq-O_ANG.branch [
       | then-number_at-eq-O_ANG v ↦
           let here : at x.text c.args.o ≡ o_ang = omega (arith, char_at h.text c.args.o (omega arith), c.number_at.ensures, v.if-number_at-eq-O_ANG.true) in
-          not_alone (choices_of c.args.choices) (rules_of c.args.rules.now) (kinds x) x.text (work w c.args.g.from c.args.g.to c.args.g.note) (seen x) c.args.o here
+          not_alone (choices_of c.args.choices) (rules_of c.args.dicts.now.rules.now) (kinds x) x.text (work w c.args.g.from c.args.g.to c.args.g.note) (seen x) c.args.o here
           (sym v.value-is ∙ c.if-g.false)
       | else-number_at-eq-O_ANG v ↦
-          no_o_ang (choices_of c.args.choices) (rules_of c.args.rules.now) (kinds x) x.text (work w c.args.g.from c.args.g.to c.args.g.note) (seen x) c.args.o
+          no_o_ang (choices_of c.args.choices) (rules_of c.args.dicts.now.rules.now) (kinds x) x.text (work w c.args.g.from c.args.g.to c.args.g.note) (seen x) c.args.o
           (λ e. omega (arith, e, char_at h.text c.args.o (omega arith), c.number_at.ensures, v.if-number_at-eq-O_ANG.false))
     ]

@@ -26,7 +26,7 @@ put_all_edges-requires c =
 pub returns-then-built-eq3 : goal.returns-then-built-eq3
 returns-then-built-eq3 c =
     λ vowels w told lent e.
-    let D = tables_of w.choices c.args.rules.now w.classes vowels c.args.code.now in
+    let D = tables_of w.choices c.args.dicts.now.rules.now w.classes vowels c.args.dicts.now.code.now in
     let n = end_of c.args.starts.now in
     let m = memory (size w) c.args.places.now in
     let long : size w ≡ n = omega (arith, line-size lent.text, c.requires.sized) in
@@ -40,7 +40,7 @@ pub returns-then-built-eq2 : goal.returns-then-built-eq2
 unfolding tables_of
 returns-then-built-eq2 c =
     λ vowels w told lent e.
-    let D = tables_of w.choices c.args.rules.now w.classes vowels c.args.code.now in
+    let D = tables_of w.choices c.args.dicts.now.rules.now w.classes vowels c.args.dicts.now.code.now in
     let n = end_of c.args.starts.now in
     let m = memory (size w) c.args.places.now in
     let long : size w ≡ n = omega (arith, line-size lent.text, c.requires.sized) in
@@ -58,7 +58,7 @@ returns-then-built-eq2 c =
 pub returns : goal.returns
 returns c =
     λ vowels w told lent e.
-    let D = tables_of w.choices c.args.rules.now w.classes vowels c.args.code.now in
+    let D = tables_of w.choices c.args.dicts.now.rules.now w.classes vowels c.args.dicts.now.code.now in
     let n = end_of c.args.starts.now in
     let m = memory (size w) c.args.places.now in
     let long : size w ≡ n = omega (arith, line-size lent.text, c.requires.sized) in

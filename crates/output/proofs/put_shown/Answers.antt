@@ -23,7 +23,7 @@ pub returns-then-built-eq0 : goal.returns-then-built-eq0
 unfolding path_of
 returns-then-built-eq0 c =
     λ vowels w told lent e.
-    let D = tables_of w.choices c.args.rules.now w.classes vowels c.args.code.now in
+    let D = tables_of w.choices c.args.dicts.now.rules.now w.classes vowels c.args.dicts.now.code.now in
     let n = end_of c.args.starts.now in
     let m = memory (size w) c.args.places.now in
     let long : size w ≡ n = omega (arith, line-size lent.text, c.requires.sized) in
@@ -35,7 +35,7 @@ returns-then-built-eq0 c =
 pub put_head-requires : goal.put_head-requires
 put_head-requires c =
     let w = c.requires.world in
-    let D = tables_of w.choices c.args.rules.now w.classes [] c.args.code.now in
+    let D = tables_of w.choices c.args.dicts.now.rules.now w.classes [] c.args.dicts.now.code.now in
     let st : State = (w.edges, memory (size w) c.args.places.now) in
     omega (arith, rows_end (listed D w.text c.args.built.mode st) c.args.out.now (c.put_rows-end.ensures [] w c.requires.told c.requires.lent c.requires.edges))
 
@@ -43,7 +43,7 @@ pub returns : goal.returns
 returns c =
     let mode = c.if-built-eq0.false in
     λ vowels w told lent e.
-    let D = tables_of w.choices c.args.rules.now w.classes vowels c.args.code.now in
+    let D = tables_of w.choices c.args.dicts.now.rules.now w.classes vowels c.args.dicts.now.code.now in
     let st : State = (w.edges, memory (size w) c.args.places.now) in
     subst (λ b. Shows b c.args.out.now c.put_head.new.out c.put_rows-end.result) (sym (shown-listed D w.text c.args.built.mode st (omega (arith, mode))))
     (shows_listing (listed D w.text c.args.built.mode st) c.args.out.now (c.put_rows-end.ensures vowels w told lent e) c.put_head.ensures)

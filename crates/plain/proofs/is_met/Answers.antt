@@ -11,8 +11,8 @@ pub returns-else-doubles : goal.returns-else-doubles
 returns-else-doubles c =
     λ e x g.
     let n = line-size g in
-    let h : c.args.span.to ≤ length x.text + 1 = omega (arith, c.requires.1, n) in
-    let k : c.args.span.from ≤ length x.text + 2 = omega (arith, c.requires.0, c.requires.1, n) in
+    let h : c.args.span.to ≤ length x.text + 1 = omega (arith, c.requires, n) in
+    let k : c.args.span.from ≤ length x.text + 2 = omega (arith, c.args.span.forward, c.requires, n) in
     elim c.if-is_asked_behind.branch [
       | then-is_asked_behind w ↦ absurd (true≢false (sym w.if-is_asked_behind.true ∙ sym w.value-is ∙ c.if-doubles.false))
       | else-is_asked_behind w ↦

@@ -10,7 +10,7 @@ use Rattle.plain.proofs.is_untouched.Goals as goal
 pub returns-then-not-is_met : goal.returns-then-not-is_met
 returns-then-not-is_met c =
     λ e x g.
-    let h : c.args.span.from ≤ length x.text + 1 = omega (arith, c.requires.1, c.requires.2, line-size g) in
+    let h : c.args.span.from ≤ length x.text + 1 = omega (arith, c.args.span.forward, c.requires.1, line-size g) in
     let k = script-here g c.args.span.from h c.kind_at.ensures c.script-script.ensures in
     untouched x c.args.span.from c.args.span.to (choices_of c.args.choices) (take c.args.n c.args.bytes.now) (λ z. omega (arith, z)) (λ z. c.if-script-eq-THAI.false (k ∙ z))
     (c.is_met.ensures c.if-not-is_met.true x g) (c.is_spaced.ensures (not-true c.is_spaced.result e))

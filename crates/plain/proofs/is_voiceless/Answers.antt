@@ -12,6 +12,6 @@ pub returns : goal.returns
 returns c =
     let vs = vowels_of c.args.vowels.now in
     λ e x g.
-    let h : c.args.span.from ≤ length x.text + 1 = omega (arith, c.requires.1, c.requires.2, line-size g) in
+    let h : c.args.span.from ≤ length x.text + 1 = omega (arith, c.args.span.forward, c.requires.1, line-size g) in
     let k = script-here g c.args.span.from h c.kind_at.ensures c.script-script.ensures in
     voiceless x c.args.span.from c.args.span.to vs (ap (vowel_row vs) (sym k) ∙ c.has_vowel.ensures (not-true c.has_vowel.result e))

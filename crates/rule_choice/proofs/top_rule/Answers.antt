@@ -19,13 +19,13 @@ use Rattle.rule_choice.proofs.top_rule.Goals as goal
 pub loop-turn-init : goal.loop-turn-init
 loop-turn-init c =
     let a = c.args in
-    let A = c.requires.0.table.accepted in simp sub-zero (
+    let A = c.args.dicts.now.prepared.table.accepted in simp sub-zero (
       λ w e g. record {
-        same = begun (lexicon_of a.rules.now w a.code.now) w.text (seen w) a.look.span.from a.look.span.to (memory (size w) a.places.now) _
-            (looked_are A c.requires.1 g.text);
+        same = begun (lexicon_of a.dicts.now.rules.now w a.dicts.now.code.now) w.text (seen w) a.look.span.from a.look.span.to (memory (size w) a.places.now) _
+            (looked_are A c.requires g.text);
         kept = refl;
       },
-      looked_rows A c.requires.1,
+      looked_rows A c.requires,
       tt,
       refl,
     )
@@ -34,19 +34,19 @@ pub cand_is_valid-valid-requires : goal.cand_is_valid-valid-requires
 cand_is_valid-valid-requires c =
     let l = c.loop-turn in
     let left = c.args.look.found.count - l._turn in
-    (c.requires.0, row_read c.args.rules.now l.row left (omega arith) l.invariant.1, c.requires.1.forward, c.requires.1.inside)
+    (row_read c.args.dicts.now.rules.now l.row left (omega arith) l.invariant.1, c.requires.inside)
 
 pub improve-best-requires : goal.improve-best-requires
 improve-best-requires c =
     let l = c.loop-turn in
     let left = c.args.look.found.count - l._turn in
-    (row_read c.args.rules.now l.row left (omega arith) l.invariant.1, l.invariant.2)
+    (row_read c.args.dicts.now.rules.now l.row left (omega arith) l.invariant.1, l.invariant.2)
 
 pub overflow_add-row : goal.overflow_add-row
 overflow_add-row c =
     let l = c.loop-turn in
     let left = c.args.look.found.count - l._turn in
-    let b = c.args.rules.now in
+    let b = c.args.dicts.now.rules.now in
     let r = (row_read b l.row left (omega arith) l.invariant.1).placed.row in
     let h = row_there b l.row left (omega arith) l.invariant.1 in
     let z = c.size-row.ensures.0 in
@@ -57,12 +57,12 @@ loop-turn-preserved c =
     let l = c.loop-turn in
     let left = c.args.look.found.count - l._turn in
     let a = c.args in
-    let b = a.rules.now in
+    let b = a.dicts.now.rules.now in
     let z = c.size-row.ensures.0 in
     let rest = c.args.look.found.count - (l._turn + 1) in (
       λ w e g. let i = l.invariant.0 w e g in
           let A = c.cand_is_valid-valid.ensures w e (lent-after _ g i.kept) in record {
-            same = next (lexicon_of b w a.code.now) w.text (seen w) a.look.span.from a.look.span.to (memory (size w) l.places) b l.row left rest
+            same = next (lexicon_of b w a.dicts.now.code.now) w.text (seen w) a.look.span.from a.look.span.to (memory (size w) l.places) b l.row left rest
                 (choice_means b l.best) (omega arith) l.invariant.1 _ _ A.did _ c.improve-best.ensures.0 _ z ∙ i.same;
             kept = A.kept ∙ i.kept;
           },
@@ -77,9 +77,9 @@ returns c =
     let left = c.args.look.found.count - l._turn in
     let a = c.args in (
       λ w e g. let i = l.invariant.0 w e g in
-          let L = lexicon_of a.rules.now w a.code.now in record {
-            did = did (sym i.same ∙ over L w.text (seen w) a.look.span.from a.look.span.to (memory (size w) l.places) a.rules.now l.row left
-                (choice_means a.rules.now l.best) (omega arith));
+          let L = lexicon_of a.dicts.now.rules.now w a.dicts.now.code.now in record {
+            did = did (sym i.same ∙ over L w.text (seen w) a.look.span.from a.look.span.to (memory (size w) l.places) a.dicts.now.rules.now l.row left
+                (choice_means a.dicts.now.rules.now l.best) (omega arith));
             kept = i.kept;
           },
       l.invariant.2,

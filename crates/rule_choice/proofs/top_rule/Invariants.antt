@@ -21,5 +21,5 @@ pub record Led (rules code : List ℕ) (w : World) (s e : ℕ) (places₀ places
 
 abbrev pub invariant-loop-turn : goal.invariant-loop-turn
 invariant-loop-turn l =
-    ((w : World) → Told w l.ready → Lent w l.line l.initial.places → Led l.rules l.code w l.look.span.from l.look.span.to l.initial.places l.places l.row (l.look.found.count - l._turn) l.best)
-    × Rows l.rules l.row (l.look.found.count - l._turn) × Rowed l.rules l.best × (length l.places ≡ length l.initial.places)
+    ((w : World) → Told w l.dicts.ready.now → Lent w l.line l.initial.places → Led l.dicts.rules.now l.dicts.code.now w l.look.span.from l.look.span.to l.initial.places l.places l.row (l.look.found.count - l._turn) l.best)
+    × Rows l.dicts.rules.now l.row (l.look.found.count - l._turn) × Rowed l.dicts.rules.now l.best × (length l.places ≡ length l.initial.places)

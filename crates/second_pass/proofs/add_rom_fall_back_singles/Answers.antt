@@ -27,7 +27,7 @@ pub loop-p-init : goal.loop-p-init
 loop-p-init c =
     let b = c.requires.4 in (
       λ vowels w o.
-          passing_first o (fall (tables_of w.choices c.args.rules.now w.classes vowels c.args.code.now) w.text) (c.text_len-n.result - 0)
+          passing_first o (fall (tables_of w.choices c.args.dicts.now.rules.now w.classes vowels c.args.dicts.now.code.now) w.text) (c.text_len-n.result - 0)
           (omega (arith, c.text_len-n.ensures, line-size o.lent.text)),
       subst (λ (m : ℕ). Behind (edges_of c.args.room.now c.args.filled.count c.args.slots.now) m c.args.slots.now c.args.room.now c.args.filled.count 0 c.args.starts.now)
           (sym c.text_len-n.ensures)
@@ -45,13 +45,7 @@ pub fall_back_at-requires : goal.fall_back_at-requires
 fall_back_at-requires c =
     let w = c.requires.3.world in
     let o = over_since c.requires.3.over in
-    let few = c.requires.2 in (
-      c.requires.0,
-      record { own = c.requires.1; inside = omega (arith, c.loop-p-test.true, c.text_len-n.ensures); bytes = c.loop-p.invariant.3 },
-      omega (arith, c.loop-p.invariant.2, c.text_len-n.ensures, few),
-      record { world = with_edges w (edges_of c.loop-p.room c.loop-p.taken.count c.loop-p.slots); over = going_lent o c.loop-p.taken.count (c.loop-p.invariant.0 [] w o) },
-      refl,
-    )
+    let few = c.requires.2 in (record { own = c.requires.1; inside = omega (arith, c.loop-p-test.true, c.text_len-n.ensures); bytes = c.loop-p.invariant.3 }, omega (arith, c.loop-p.invariant.2, c.text_len-n.ensures, few), record { world = with_edges w (edges_of c.loop-p.room c.loop-p.taken.count c.loop-p.slots); over = going_lent o c.loop-p.taken.count (c.loop-p.invariant.0 [] w o) }, refl)
 
 pub overflow_sub-before : goal.overflow_sub-before
 overflow_sub-before c =
@@ -68,10 +62,10 @@ fall_at-requires c =
 
 pub returns-in_err-taken-clause-built : goal.returns-in_err-taken-clause-built
 returns-in_err-taken-clause-built c =
-    let grows : (vowels : List ℕ) → (w : World) → (p : ℕ) (st : State) → Grown 1 st.0 ((fall (tables_of w.choices c.args.rules.now w.classes vowels c.args.code.now) w.text) p st).0 = λ vowels. λ w. fall-grown (tables_of w.choices c.args.rules.now w.classes vowels c.args.code.now) w.text in
-    let one_more : (vowels : List ℕ) → (w : World) → (o : (Over w c.args.ready.now c.args.line.now c.args.slots.now c.args.room.now c.args.places.now (record { count = c.args.filled.count; used = c.args.filled.used; since = 0 }))) → ((c.text_len-n.result - c.loop-p.p)) ≡ ((c.text_len-n.result - (c.loop-p.p + 1))) + 1 = λ vowels. λ w. λ o. omega (arith, c.loop-p-test.true) in
-    let asked : (vowels : List ℕ) → (w : World) → (o : (Over w c.args.ready.now c.args.line.now c.args.slots.now c.args.room.now c.args.places.now (record { count = c.args.filled.count; used = c.args.filled.used; since = 0 }))) → Reached (kinds w) (size w) c.loop-p.slots c.loop-p.room c.fall_back_at.new.slots c.fall_back_at.new.room c.fall_back_at.new.places (c.loop-p.taken.used + most_bytes) ((fall (tables_of w.choices c.args.rules.now w.classes vowels c.args.code.now) w.text) c.loop-p.p ((kept (size w) c.loop-p.slots c.loop-p.room c.loop-p.places c.loop-p.taken.count))) (Err c.in_err-taken.field-0.0) = λ vowels. λ w. λ o. c.in_err-taken.ensures vowels (with_edges w ((kept (size w) c.loop-p.slots c.loop-p.room c.loop-p.places c.loop-p.taken.count)).0) (going_lent o c.loop-p.taken.count (c.loop-p.invariant.0 vowels w o)) in
-    let stops : (vowels : List ℕ) → (w : World) → (o : (Over w c.args.ready.now c.args.line.now c.args.slots.now c.args.room.now c.args.places.now (record { count = c.args.filled.count; used = c.args.filled.used; since = 0 }))) → (q : Refused (Err c.in_err-taken.field-0.0)) → Reached (kinds w) (size w) c.args.slots.now c.args.room.now c.fall_back_at.new.slots c.fall_back_at.new.room c.fall_back_at.new.places (c.args.filled.used + size_in c.args.line.now * most_bytes) (each ((fall (tables_of w.choices c.args.rules.now w.classes vowels c.args.code.now) w.text)) (size w) 0 (state_of w c.args.places.now)) (Err c.in_err-taken.field-0.0) = λ vowels. λ w. λ o. λ q. passing_refused ((fall (tables_of w.choices c.args.rules.now w.classes vowels c.args.code.now) w.text)) 1 (grows vowels w) c.loop-p.p ((c.text_len-n.result - c.loop-p.p)) (c.loop-p.invariant.0 vowels w o) ((c.text_len-n.result - (c.loop-p.p + 1))) (one_more vowels w o) (Err c.in_err-taken.field-0.0) (asked vowels w o)
+    let grows : (vowels : List ℕ) → (w : World) → (p : ℕ) (st : State) → Grown 1 st.0 ((fall (tables_of w.choices c.args.dicts.now.rules.now w.classes vowels c.args.dicts.now.code.now) w.text) p st).0 = λ vowels. λ w. fall-grown (tables_of w.choices c.args.dicts.now.rules.now w.classes vowels c.args.dicts.now.code.now) w.text in
+    let one_more : (vowels : List ℕ) → (w : World) → (o : (Over w c.args.dicts.now.ready.now c.args.line.now c.args.slots.now c.args.room.now c.args.places.now (record { count = c.args.filled.count; used = c.args.filled.used; since = 0 }))) → ((c.text_len-n.result - c.loop-p.p)) ≡ ((c.text_len-n.result - (c.loop-p.p + 1))) + 1 = λ vowels. λ w. λ o. omega (arith, c.loop-p-test.true) in
+    let asked : (vowels : List ℕ) → (w : World) → (o : (Over w c.args.dicts.now.ready.now c.args.line.now c.args.slots.now c.args.room.now c.args.places.now (record { count = c.args.filled.count; used = c.args.filled.used; since = 0 }))) → Reached (kinds w) (size w) c.loop-p.slots c.loop-p.room c.fall_back_at.new.slots c.fall_back_at.new.room c.fall_back_at.new.places (c.loop-p.taken.used + most_bytes) ((fall (tables_of w.choices c.args.dicts.now.rules.now w.classes vowels c.args.dicts.now.code.now) w.text) c.loop-p.p ((kept (size w) c.loop-p.slots c.loop-p.room c.loop-p.places c.loop-p.taken.count))) (Err c.in_err-taken.field-0.0) = λ vowels. λ w. λ o. c.in_err-taken.ensures vowels (with_edges w ((kept (size w) c.loop-p.slots c.loop-p.room c.loop-p.places c.loop-p.taken.count)).0) (going_lent o c.loop-p.taken.count (c.loop-p.invariant.0 vowels w o)) in
+    let stops : (vowels : List ℕ) → (w : World) → (o : (Over w c.args.dicts.now.ready.now c.args.line.now c.args.slots.now c.args.room.now c.args.places.now (record { count = c.args.filled.count; used = c.args.filled.used; since = 0 }))) → (q : Refused (Err c.in_err-taken.field-0.0)) → Reached (kinds w) (size w) c.args.slots.now c.args.room.now c.fall_back_at.new.slots c.fall_back_at.new.room c.fall_back_at.new.places (c.args.filled.used + size_in c.args.line.now * most_bytes) (each ((fall (tables_of w.choices c.args.dicts.now.rules.now w.classes vowels c.args.dicts.now.code.now) w.text)) (size w) 0 (state_of w c.args.places.now)) (Err c.in_err-taken.field-0.0) = λ vowels. λ w. λ o. λ q. passing_refused ((fall (tables_of w.choices c.args.dicts.now.rules.now w.classes vowels c.args.dicts.now.code.now) w.text)) 1 (grows vowels w) c.loop-p.p ((c.text_len-n.result - c.loop-p.p)) (c.loop-p.invariant.0 vowels w o) ((c.text_len-n.result - (c.loop-p.p + 1))) (one_more vowels w o) (Err c.in_err-taken.field-0.0) (asked vowels w o)
     (c.args.filled.used + size_in c.args.line.now * most_bytes) q in
     let p = err_from_is_err_and c.from_residual.result c.from_residual.ensures.1 in
     λ vowels w o. rw (p.1, p.2) (stops vowels w (over_since o) tt)
@@ -79,18 +73,18 @@ returns-in_err-taken-clause-built c =
 pub loop-p-preserved : goal.loop-p-preserved
 loop-p-preserved c =
     let first_count : c.loop-p.taken.count ≡ c.args.filled.count + length c.loop-p.invariant.1.fallbacks = omega (arith, behind-count c.loop-p.invariant.1, edge_count c.args.slots.now c.args.room.now c.args.filled.count) in
-    let asked : (vowels : List ℕ) → (w : World) → (o : (Over w c.args.ready.now c.args.line.now c.args.slots.now c.args.room.now c.args.places.now (record { count = c.args.filled.count; used = c.args.filled.used; since = 0 }))) → Reached (kinds w) (size w) c.loop-p.slots c.loop-p.room c.fall_back_at.new.slots c.fall_back_at.new.room c.fall_back_at.new.places (c.loop-p.taken.used + most_bytes) ((fall (tables_of w.choices c.args.rules.now w.classes vowels c.args.code.now) w.text) c.loop-p.p ((kept (size w) c.loop-p.slots c.loop-p.room c.loop-p.places c.loop-p.taken.count))) (Ok c.in_ok-taken.taken) = λ vowels. λ w. λ o. c.in_ok-taken.ensures vowels (with_edges w ((kept (size w) c.loop-p.slots c.loop-p.room c.loop-p.places c.loop-p.taken.count)).0) (going_lent o c.loop-p.taken.count (c.loop-p.invariant.0 vowels w o)) in
-    let grows : (vowels : List ℕ) → (w : World) → (p : ℕ) (st : State) → Grown 1 st.0 ((fall (tables_of w.choices c.args.rules.now w.classes vowels c.args.code.now) w.text) p st).0 = λ vowels. λ w. fall-grown (tables_of w.choices c.args.rules.now w.classes vowels c.args.code.now) w.text in
-    let one_more : (vowels : List ℕ) → (w : World) → (o : (Over w c.args.ready.now c.args.line.now c.args.slots.now c.args.room.now c.args.places.now (record { count = c.args.filled.count; used = c.args.filled.used; since = 0 }))) → ((c.text_len-n.result - c.loop-p.p)) ≡ ((c.text_len-n.result - (c.loop-p.p + 1))) + 1 = λ vowels. λ w. λ o. omega (arith, c.loop-p-test.true) in
-    let goes : (vowels : List ℕ) → (w : World) → (o : (Over w c.args.ready.now c.args.line.now c.args.slots.now c.args.room.now c.args.places.now (record { count = c.args.filled.count; used = c.args.filled.used; since = 0 }))) → (count : ℕ) → (used : ℕ) → (q : (Ok c.in_ok-taken.taken) ≡ (Ok record { count = count; used = used })) → Going (each ((fall (tables_of w.choices c.args.rules.now w.classes vowels c.args.code.now) w.text)) ((c.text_len-n.result - (c.loop-p.p + 1))) (c.loop-p.p + 1)) (kinds w) (size w) c.args.slots.now c.args.room.now (each ((fall (tables_of w.choices c.args.rules.now w.classes vowels c.args.code.now) w.text)) (size w) 0 (state_of w c.args.places.now)) c.fall_back_at.new.slots c.fall_back_at.new.room c.fall_back_at.new.places count used = λ vowels. λ w. λ o. λ count. λ used. λ q. passing_next ((fall (tables_of w.choices c.args.rules.now w.classes vowels c.args.code.now) w.text)) 1 (grows vowels w) c.loop-p.p ((c.text_len-n.result - c.loop-p.p)) (c.loop-p.invariant.0 vowels w o) ((c.text_len-n.result - (c.loop-p.p + 1))) (one_more vowels w o) (Ok c.in_ok-taken.taken) (asked vowels w o)
+    let asked : (vowels : List ℕ) → (w : World) → (o : (Over w c.args.dicts.now.ready.now c.args.line.now c.args.slots.now c.args.room.now c.args.places.now (record { count = c.args.filled.count; used = c.args.filled.used; since = 0 }))) → Reached (kinds w) (size w) c.loop-p.slots c.loop-p.room c.fall_back_at.new.slots c.fall_back_at.new.room c.fall_back_at.new.places (c.loop-p.taken.used + most_bytes) ((fall (tables_of w.choices c.args.dicts.now.rules.now w.classes vowels c.args.dicts.now.code.now) w.text) c.loop-p.p ((kept (size w) c.loop-p.slots c.loop-p.room c.loop-p.places c.loop-p.taken.count))) (Ok c.in_ok-taken.taken) = λ vowels. λ w. λ o. c.in_ok-taken.ensures vowels (with_edges w ((kept (size w) c.loop-p.slots c.loop-p.room c.loop-p.places c.loop-p.taken.count)).0) (going_lent o c.loop-p.taken.count (c.loop-p.invariant.0 vowels w o)) in
+    let grows : (vowels : List ℕ) → (w : World) → (p : ℕ) (st : State) → Grown 1 st.0 ((fall (tables_of w.choices c.args.dicts.now.rules.now w.classes vowels c.args.dicts.now.code.now) w.text) p st).0 = λ vowels. λ w. fall-grown (tables_of w.choices c.args.dicts.now.rules.now w.classes vowels c.args.dicts.now.code.now) w.text in
+    let one_more : (vowels : List ℕ) → (w : World) → (o : (Over w c.args.dicts.now.ready.now c.args.line.now c.args.slots.now c.args.room.now c.args.places.now (record { count = c.args.filled.count; used = c.args.filled.used; since = 0 }))) → ((c.text_len-n.result - c.loop-p.p)) ≡ ((c.text_len-n.result - (c.loop-p.p + 1))) + 1 = λ vowels. λ w. λ o. omega (arith, c.loop-p-test.true) in
+    let goes : (vowels : List ℕ) → (w : World) → (o : (Over w c.args.dicts.now.ready.now c.args.line.now c.args.slots.now c.args.room.now c.args.places.now (record { count = c.args.filled.count; used = c.args.filled.used; since = 0 }))) → (count : ℕ) → (used : ℕ) → (q : (Ok c.in_ok-taken.taken) ≡ (Ok record { count = count; used = used })) → Going (each ((fall (tables_of w.choices c.args.dicts.now.rules.now w.classes vowels c.args.dicts.now.code.now) w.text)) ((c.text_len-n.result - (c.loop-p.p + 1))) (c.loop-p.p + 1)) (kinds w) (size w) c.args.slots.now c.args.room.now (each ((fall (tables_of w.choices c.args.dicts.now.rules.now w.classes vowels c.args.dicts.now.code.now) w.text)) (size w) 0 (state_of w c.args.places.now)) c.fall_back_at.new.slots c.fall_back_at.new.room c.fall_back_at.new.places count used = λ vowels. λ w. λ o. λ count. λ used. λ q. passing_next ((fall (tables_of w.choices c.args.dicts.now.rules.now w.classes vowels c.args.dicts.now.code.now) w.text)) 1 (grows vowels w) c.loop-p.p ((c.text_len-n.result - c.loop-p.p)) (c.loop-p.invariant.0 vowels w o) ((c.text_len-n.result - (c.loop-p.p + 1))) (one_more vowels w o) (Ok c.in_ok-taken.taken) (asked vowels w o)
     count used q in
-    let uses : (vowels : List ℕ) → (w : World) → (o : (Over w c.args.ready.now c.args.line.now c.args.slots.now c.args.room.now c.args.places.now (record { count = c.args.filled.count; used = c.args.filled.used; since = 0 }))) → (count : ℕ) → (used : ℕ) → (q : (Ok c.in_ok-taken.taken) ≡ (Ok record { count = count; used = used })) → used ≤ c.loop-p.taken.used + most_bytes = λ vowels. λ w. λ o. λ count. λ used. λ q. passing_used ((fall (tables_of w.choices c.args.rules.now w.classes vowels c.args.code.now) w.text)) 1 (grows vowels w) c.loop-p.p ((c.text_len-n.result - c.loop-p.p)) (c.loop-p.invariant.0 vowels w o) ((c.text_len-n.result - (c.loop-p.p + 1))) (one_more vowels w o) (Ok c.in_ok-taken.taken) (asked vowels w o)
+    let uses : (vowels : List ℕ) → (w : World) → (o : (Over w c.args.dicts.now.ready.now c.args.line.now c.args.slots.now c.args.room.now c.args.places.now (record { count = c.args.filled.count; used = c.args.filled.used; since = 0 }))) → (count : ℕ) → (used : ℕ) → (q : (Ok c.in_ok-taken.taken) ≡ (Ok record { count = count; used = used })) → used ≤ c.loop-p.taken.used + most_bytes = λ vowels. λ w. λ o. λ count. λ used. λ q. passing_used ((fall (tables_of w.choices c.args.dicts.now.rules.now w.classes vowels c.args.dicts.now.code.now) w.text)) 1 (grows vowels w) c.loop-p.p ((c.text_len-n.result - c.loop-p.p)) (c.loop-p.invariant.0 vowels w o) ((c.text_len-n.result - (c.loop-p.p + 1))) (one_more vowels w o) (Ok c.in_ok-taken.taken) (asked vowels w o)
     count used q in
-    let counts : (vowels : List ℕ) → (w : World) → (o : (Over w c.args.ready.now c.args.line.now c.args.slots.now c.args.room.now c.args.places.now (record { count = c.args.filled.count; used = c.args.filled.used; since = 0 }))) → (count : ℕ) → (used : ℕ) → (q : (Ok c.in_ok-taken.taken) ≡ (Ok record { count = count; used = used })) → count ≤ c.loop-p.taken.count + 1 = λ vowels. λ w. λ o. λ count. λ used. λ q. passing_few ((fall (tables_of w.choices c.args.rules.now w.classes vowels c.args.code.now) w.text)) 1 (grows vowels w) c.loop-p.p ((c.text_len-n.result - c.loop-p.p)) (c.loop-p.invariant.0 vowels w o) ((c.text_len-n.result - (c.loop-p.p + 1))) (one_more vowels w o) (Ok c.in_ok-taken.taken) (asked vowels w o)
+    let counts : (vowels : List ℕ) → (w : World) → (o : (Over w c.args.dicts.now.ready.now c.args.line.now c.args.slots.now c.args.room.now c.args.places.now (record { count = c.args.filled.count; used = c.args.filled.used; since = 0 }))) → (count : ℕ) → (used : ℕ) → (q : (Ok c.in_ok-taken.taken) ≡ (Ok record { count = count; used = used })) → count ≤ c.loop-p.taken.count + 1 = λ vowels. λ w. λ o. λ count. λ used. λ q. passing_few ((fall (tables_of w.choices c.args.dicts.now.rules.now w.classes vowels c.args.dicts.now.code.now) w.text)) 1 (grows vowels w) c.loop-p.p ((c.text_len-n.result - c.loop-p.p)) (c.loop-p.invariant.0 vowels w o) ((c.text_len-n.result - (c.loop-p.p + 1))) (one_more vowels w o) (Ok c.in_ok-taken.taken) (asked vowels w o)
     count used q in
-    let adds : (vowels : List ℕ) → (w : World) → (o : (Over w c.args.ready.now c.args.line.now c.args.slots.now c.args.room.now c.args.places.now (record { count = c.args.filled.count; used = c.args.filled.used; since = 0 }))) → (count : ℕ) → (used : ℕ) → (q : (Ok c.in_ok-taken.taken) ≡ (Ok record { count = count; used = used })) → Added (Alone c.loop-p.p) (edges_of c.loop-p.room c.loop-p.taken.count c.loop-p.slots) (edges_of c.fall_back_at.new.room count c.fall_back_at.new.slots) = λ vowels. λ w. λ o. λ count. λ used. λ q. fall-added (tables_of w.choices c.args.rules.now w.classes vowels c.args.code.now) w.text (size w) c.loop-p.p c.loop-p.slots c.loop-p.room c.loop-p.places
+    let adds : (vowels : List ℕ) → (w : World) → (o : (Over w c.args.dicts.now.ready.now c.args.line.now c.args.slots.now c.args.room.now c.args.places.now (record { count = c.args.filled.count; used = c.args.filled.used; since = 0 }))) → (count : ℕ) → (used : ℕ) → (q : (Ok c.in_ok-taken.taken) ≡ (Ok record { count = count; used = used })) → Added (Alone c.loop-p.p) (edges_of c.loop-p.room c.loop-p.taken.count c.loop-p.slots) (edges_of c.fall_back_at.new.room count c.fall_back_at.new.slots) = λ vowels. λ w. λ o. λ count. λ used. λ q. fall-added (tables_of w.choices c.args.dicts.now.rules.now w.classes vowels c.args.dicts.now.code.now) w.text (size w) c.loop-p.p c.loop-p.slots c.loop-p.room c.loop-p.places
     c.fall_back_at.new.slots c.fall_back_at.new.room c.loop-p.taken.count count
-    (passing_edges ((fall (tables_of w.choices c.args.rules.now w.classes vowels c.args.code.now) w.text)) 1 (grows vowels w) c.loop-p.p ((c.text_len-n.result - c.loop-p.p)) (c.loop-p.invariant.0 vowels w o) ((c.text_len-n.result - (c.loop-p.p + 1))) (one_more vowels w o) (Ok c.in_ok-taken.taken) (asked vowels w o) count used q) in
+    (passing_edges ((fall (tables_of w.choices c.args.dicts.now.rules.now w.classes vowels c.args.dicts.now.code.now) w.text)) 1 (grows vowels w) c.loop-p.p ((c.text_len-n.result - c.loop-p.p)) (c.loop-p.invariant.0 vowels w o) ((c.text_len-n.result - (c.loop-p.p + 1))) (one_more vowels w o) (Ok c.in_ok-taken.taken) (asked vowels w o) count used q) in
     let S = c.fall_back_at.new.slots in
     let R = c.fall_back_at.new.room in
     let edges = c.in_ok-taken.taken.count in
@@ -123,10 +117,10 @@ loop-p-preserved c =
 
 pub returns : goal.returns
 returns c =
-    let grows : (vowels : List ℕ) → (w : World) → (p : ℕ) (st : State) → Grown 1 st.0 ((fall (tables_of w.choices c.args.rules.now w.classes vowels c.args.code.now) w.text) p st).0 = λ vowels. λ w. fall-grown (tables_of w.choices c.args.rules.now w.classes vowels c.args.code.now) w.text in
+    let grows : (vowels : List ℕ) → (w : World) → (p : ℕ) (st : State) → Grown 1 st.0 ((fall (tables_of w.choices c.args.dicts.now.rules.now w.classes vowels c.args.dicts.now.code.now) w.text) p st).0 = λ vowels. λ w. fall-grown (tables_of w.choices c.args.dicts.now.rules.now w.classes vowels c.args.dicts.now.code.now) w.text in
     record {
       built = λ vowels w o.
-          passing_over ((fall (tables_of w.choices c.args.rules.now w.classes vowels c.args.code.now) w.text)) 1 (grows vowels w) c.loop-p.p (c.text_len-n.result - c.loop-p.p) (c.loop-p.invariant.0 vowels w (over_since o))
+          passing_over ((fall (tables_of w.choices c.args.dicts.now.rules.now w.classes vowels c.args.dicts.now.code.now) w.text)) 1 (grows vowels w) c.loop-p.p (c.text_len-n.result - c.loop-p.p) (c.loop-p.invariant.0 vowels w (over_since o))
           (c.args.filled.used + size_in c.args.line.now * most_bytes) (omega (arith, c.loop-p.invariant.2, c.text_len-n.ensures)) (omega (arith, c.loop-p-test.false));
       starts = behind-stands c.loop-p.invariant.1 (omega (arith, c.loop-p-test.false)) (c.loop-p.invariant.0 [] c.requires.3.world (over_since c.requires.3.over)).keeps.stored.slot;
     }

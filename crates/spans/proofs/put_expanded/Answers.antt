@@ -22,7 +22,7 @@ returns-then-is_untouched c =
       λ u told lent.
           let m = memory (size u) c.args.places.now in
           let U = subst (λ (o : Choices). Untouched u o (text c.args.r) c.args.span.from c.args.span.to) (c.choices_in.ensures ∙ told.choices) (c.is_untouched.ensures c.if-is_untouched.true u lent.text) in
-          asked-none (did_by (ap (λ (w : List ℕ). work w c.args.span.from c.args.span.to note_none) (held-text c.requires.1 c.args.bytes.now _ c.requires.5 e))
-          (did (ap (λ (f : M Work). f m) (U (lexicon_of c.args.rules.now u c.args.code.now) refl (seen u))))),
-      held_clean c.requires.1 c.args.bytes.now _ c.requires.5 e,
+          asked-none (did_by (ap (λ (w : List ℕ). work w c.args.span.from c.args.span.to note_none) (held-text c.requires.0 c.args.bytes.now _ c.requires.3 e))
+          (did (ap (λ (f : M Work). f m) (U (lexicon_of c.args.dicts.now.rules.now u c.args.dicts.now.code.now) refl (seen u))))),
+      held_clean c.requires.0 c.args.bytes.now _ c.requires.3 e,
     )

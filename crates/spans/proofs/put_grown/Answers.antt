@@ -17,8 +17,8 @@ returns c =
     let z = c.expand_rom_with_special_chars-x.result in
     let e = c.put_first.ensures in (
       λ u told lent.
-          asked_by (ap (λ (w : List ℕ). work w z.from z.to z.note) (held-text c.expand_rom_with_special_chars-x.ensures.1 c.args.bytes.now _ c.requires.5 e))
-          (subst (λ (o : Choices). Asked u (expand (lexicon_of c.args.rules.now u c.args.code.now) u.text (seen u) o (text c.args.r) c.args.span.from c.args.span.to)
+          asked_by (ap (λ (w : List ℕ). work w z.from z.to z.note) (held-text c.expand_rom_with_special_chars-x.ensures.1 c.args.bytes.now _ c.requires.3 e))
+          (subst (λ (o : Choices). Asked u (expand (lexicon_of c.args.dicts.now.rules.now u c.args.dicts.now.code.now) u.text (seen u) o (text c.args.r) c.args.span.from c.args.span.to)
           c.args.places.now c.expand_rom_with_special_chars-x.new.places (work_of z)) (c.choices_in.ensures ∙ told.choices) (c.expand_rom_with_special_chars-x.ensures.0 u told lent)),
-      held_clean c.expand_rom_with_special_chars-x.ensures.1 c.args.bytes.now _ c.requires.5 e,
+      held_clean c.expand_rom_with_special_chars-x.ensures.1 c.args.bytes.now _ c.requires.3 e,
     )

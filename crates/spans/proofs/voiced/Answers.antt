@@ -16,7 +16,7 @@ pub add_default_abugida_vowel-requires : goal.add_default_abugida_vowel-requires
 add_default_abugida_vowel-requires c =
     let w = c.args.w.now in
     let q = c.bytes_of.ensures in
-    (c.requires.0, c.requires.1, clean_by w q (omega (arith, c.requires.2)), omega (arith, c.requires.2, len_by w q), c.requires.3, c.requires.4)
+    (c.requires.0, clean_by w q (omega (arith, c.requires.1)), omega (arith, c.requires.1, len_by w q), c.requires.2)
 
 pub returns : goal.returns
 returns c =
@@ -24,8 +24,8 @@ returns c =
     let q = c.bytes_of.ensures in
     let new = text c.add_default_abugida_vowel.result.rom in (
       λ u told lent.
-          subst (λ (x : Text). Asked u (vowel_step (lexicon_of c.args.rules.now u c.args.code.now) u.text (seen u) (vowels_of c.args.vowels.now) c.args.tail x
-          c.args.span.from c.args.span.to) c.args.places.now c.add_default_abugida_vowel.new.places new) (text-by w q (omega (arith, c.requires.2))) (c.add_default_abugida_vowel.ensures.0 u told lent),
+          subst (λ (x : Text). Asked u (vowel_step (lexicon_of c.args.dicts.now.rules.now u c.args.dicts.now.code.now) u.text (seen u) (vowels_of c.args.dicts.now.vowels.now) c.args.tail x
+          c.args.span.from c.args.span.to) c.args.places.now c.add_default_abugida_vowel.new.places new) (text-by w q (omega (arith, c.requires.1))) (c.add_default_abugida_vowel.ensures.0 u told lent),
       c.add_default_abugida_vowel.ensures.1,
       omega (arith, c.add_default_abugida_vowel.ensures.2, ap (λ (r : Rom). r.len) q),
       c.add_default_abugida_vowel.ensures.3 ∙ ap (λ (r : Rom). grown (text r) new) q,

@@ -29,12 +29,12 @@ pub returns-then-is_untouched : goal.returns-then-is_untouched
 unfolding tables_of ret
 returns-then-is_untouched c =
     let w = c.args.w.now in
-    let q = over_zeros _ w (c.put_text.ensures ∙ ap (λ (l : List ℕ). w ++ drop (length w) l) c.requires.4) in
-    let h : length w ≤ most_bytes = omega (arith, c.requires.1) in
+    let q = over_zeros _ w (c.put_text.ensures ∙ ap (λ (l : List ℕ). w ++ drop (length w) l) c.requires.2) in
+    let h : length w ≤ most_bytes = omega (arith, c.requires.0) in
     let E = c.as_edge.ensures w w _ (sym (stays w)) refl in
     λ vowels voiceless. (
       λ u told lent.
-          let D = tables_of u.choices c.args.rules.now u.classes vowels c.args.code.now in
+          let D = tables_of u.choices c.args.dicts.now.rules.now u.classes vowels c.args.dicts.now.code.now in
           let m = memory (size u) c.args.places.now in
           let U = subst (λ (l : Text). Untouched u u.choices l c.args.span.from c.args.span.to) (take-length w)
           (subst (λ (o : Choices). Untouched u o (take (length w) w) c.args.span.from c.args.span.to) (c.choices_in.ensures ∙ told.choices) (c.is_untouched.ensures c.if-is_untouched.true u lent.text)) in
@@ -48,21 +48,21 @@ returns-then-is_untouched c =
 pub put_grown-x-requires : goal.put_grown-x-requires
 put_grown-x-requires c =
     let w = c.args.w.now in
-    let h : length w ≤ most_bytes = omega (arith, c.requires.1) in
-    (c.requires.0, clean_by w c.bytes_of.ensures h, omega (arith, c.requires.1, len_by w c.bytes_of.ensures), c.requires.2, c.requires.3, c.requires.4)
+    let h : length w ≤ most_bytes = omega (arith, c.requires.0) in
+    (clean_by w c.bytes_of.ensures h, omega (arith, c.requires.0, len_by w c.bytes_of.ensures), c.requires.1, c.requires.2)
 
 pub returns : goal.returns
 unfolding tables_of ret
 returns c =
     let w = c.args.w.now in
     let b = c.put_grown-x.new.bytes in
-    let t = text-by w c.bytes_of.ensures (omega (arith, c.requires.1)) in
+    let t = text-by w c.bytes_of.ensures (omega (arith, c.requires.0)) in
     let E = c.as_edge-2.ensures w w (take c.put_grown-x.result.len b) (sym (stays w)) refl in
     λ vowels voiceless. (
       λ u told lent.
-          let D = tables_of u.choices c.args.rules.now u.classes vowels c.args.code.now in
+          let D = tables_of u.choices c.args.dicts.now.rules.now u.classes vowels c.args.dicts.now.code.now in
           let m = memory (size u) c.args.places.now in
-          let Z = subst (λ (l : Text). Asked u (expand (lexicon_of c.args.rules.now u c.args.code.now) u.text (seen u) u.choices l c.args.span.from c.args.span.to)
+          let Z = subst (λ (l : Text). Asked u (expand (lexicon_of c.args.dicts.now.rules.now u c.args.dicts.now.code.now) u.text (seen u) u.choices l c.args.span.from c.args.span.to)
           c.args.places.now c.put_grown-x.new.places (work_in b c.put_grown-x.result)) t (c.put_grown-x.ensures.0 u told lent) in
           record {
             did = did_by E (edge-done D u.text (seen u) c.args.tail w w (work_in b c.put_grown-x.result) c.args.span.from c.args.span.to m

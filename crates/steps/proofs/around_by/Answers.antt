@@ -9,7 +9,7 @@ use Rattle.steps.proofs.around_by.Goals as goal
 
 pub returns-then-text_len-end : goal.returns-then-text_len-end
 returns-then-text_len-end c =
-    let R = rules_of c.args.rules.now in (
+    let R = rules_of c.args.dicts.now.rules.now in (
       (λ u h. sym (frame_past h R c.args.k (work_in c.args.bytes.now c.args.g) (omega (arith, c.requires, line-size h)) (omega (arith, line-size h, c.text_len.ensures)))),
       refl,
     )
@@ -22,7 +22,7 @@ returns c =
     let X = c.number_at-one.ensures in
     let Y = c.number_at-two.ensures in
     let Z = c.number_at-three.ensures in
-    let R = rules_of c.args.rules.now in (
+    let R = rules_of c.args.dicts.now.rules.now in (
       (λ u h.
           let e = frame_first h R c.args.k (work_in c.args.bytes.now c.args.g) _ C X Y Z
           (omega (arith, c.requires, line-size h)) (omega (arith, c.requires, line-size h)) (omega (arith, c.requires, line-size h)) (omega (arith, I, line-size h, N)) c.romanization_by_first_rule-target.ensures.0 in

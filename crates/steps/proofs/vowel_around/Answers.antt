@@ -17,7 +17,7 @@ use Rattle.steps.proofs.vowel_around.Goals.{then-from-eq0-via-then-from-eq0, the
 pub returns-then-from-eq0 : goal.returns-then-from-eq0
 returns-then-from-eq0 c =
     let w = work_in c.args.bytes.now c.args.g in
-    let R = rules_of c.args.rules.now in (
+    let R = rules_of c.args.dicts.now.rules.now in (
       (λ u h. elim c.then-from-eq0.branch [
         | then-from-eq0-via-then-from-eq0 v ↦
             sym (not_framed R (kinds u) u.text w refl (unflagged_frame _ (blank_pre u.classes h.fine u.text c.args.g.from v.if-from-eq0.true) w))
@@ -36,13 +36,13 @@ returns-in-Some c =
       (λ u h.
           let p = flag_prev h c.args.g.from (omega (arith, c.requires, line-size h)) K 6 (λ k. k.pre) (λ m k z. z.pre) refl in
           let x = X.0 u h in
-          x ∙ by_three (rules_of c.args.rules.now) (kinds u) u.text (work_in c.args.bytes.now c.args.g) p d (sym (ap has x))),
+          x ∙ by_three (rules_of c.args.dicts.now.rules.now) (kinds u) u.text (work_in c.args.bytes.now c.args.g) p d (sym (ap has x))),
       X.1,
     )
 
 pub returns-in-Some-around_by : goal.returns-in-Some-around_by
 returns-in-Some-around_by c =
-    let R = rules_of c.args.rules.now in
+    let R = rules_of c.args.dicts.now.rules.now in
     let K = c.kind_at.ensures in
     let d = sym c.is_framed.ensures ∙ c.if-not-is_framed.false in
     let X = c.in_default.ensures in
@@ -56,7 +56,7 @@ returns-in-Some-around_by c =
 
 pub returns : goal.returns
 returns c =
-    let R = rules_of c.args.rules.now in
+    let R = rules_of c.args.dicts.now.rules.now in
     let K = c.kind_at.ensures in
     let d = sym c.is_framed.ensures ∙ c.if-not-is_framed.false in
     let X = c.in_default.ensures in

@@ -20,7 +20,7 @@ use Rattle.steps.proofs.vowel_before.Goals.{then-from-eq0-via-then-from-eq0, the
 pub returns-then-from-eq0 : goal.returns-then-from-eq0
 returns-then-from-eq0 c =
     let w = work_in c.args.bytes.now c.args.g in
-    let R = rules_of c.args.rules.now in (
+    let R = rules_of c.args.dicts.now.rules.now in (
       (λ u h. elim c.then-from-eq0.branch [
         | then-from-eq0-via-then-from-eq0 v ↦
             not_before R (kinds u) u.text w refl refl (unflagged_before _ (blank_pre u.classes h.fine u.text c.args.g.from v.if-from-eq0.true) _ w.rom)
@@ -30,7 +30,7 @@ returns-then-from-eq0 c =
             let q = script-prev h c.args.g.from l v.kind_at.ensures refl in
             not_before R (kinds u) u.text w p q (sym v.is_before.ensures ∙ v.if-not-is_before.true)
       ]),
-      c.requires.1,
+      c.requires.0,
       omega arith,
       omega arith,
       refl,
@@ -46,13 +46,13 @@ returns c =
     let I = c.if-not-is_before.false in
     let C = c.number_at-vowel.ensures in
     let w = work_in b c.args.g in
-    let o = chosen_means c.args.rules.now c.romanization_by_first_rule-target.result in
+    let o = chosen_means c.args.dicts.now.rules.now c.romanization_by_first_rule-target.result in
     let B = behind-there w o in
-    let R = rules_of c.args.rules.now in
+    let R = rules_of c.args.dicts.now.rules.now in
     let e = ap (λ (x : Growing). work_in d x) c.unwrap_or.ensures
     ∙ or_same b d c.args.g m c.put_behind.result (c.put_behind.ensures.0 0 (sym (add-zero c.args.g.to))) c.put_behind.ensures.1 in
     let held = subst (λ (x : Growing). Held d x × (x.len ≤ m)) (sym c.unwrap_or.ensures)
-    (or-held b d c.args.g m c.requires.1 (omega arith) c.put_behind.result c.put_behind.ensures.1) in (
+    (or-held b d c.args.g m c.requires.0 (omega arith) c.put_behind.result c.put_behind.ensures.1) in (
       (λ u g.
           let h : c.args.g.from ≤ size u + 2 = omega (arith, c.requires, line-size g) in
           let p = flag_prev g c.args.g.from h K 6 (λ k. k.pre) (λ m k z. z.pre) refl in

@@ -50,12 +50,12 @@ pub returns-then-not-is_alpha_kind : goal.returns-then-not-is_alpha_kind
 returns-then-not-is_alpha_kind c =
     elim c.then-not-is_alpha_kind.branch [
       | then-not-is_alpha_kind-via-then-not-is_alpha_kind v ↦ λ w e g.
-          asked-none (word_begins (lexicon_of c.args.rules.now w c.args.code.now) w.text (seen w) c.args.p _ (memory (size w) c.args.places.now) refl
-          (back-alpha g.text c.args.p c.requires.2 c.kind_at-back.ensures c.is_alpha_kind.ensures v.if-not-is_alpha_kind.true))
+          asked-none (word_begins (lexicon_of c.args.dicts.now.rules.now w c.args.dicts.now.code.now) w.text (seen w) c.args.p _ (memory (size w) c.args.places.now) refl
+          (back-alpha g.text c.args.p c.requires.1 c.kind_at-back.ensures c.is_alpha_kind.ensures v.if-not-is_alpha_kind.true))
       | then-not-is_alpha_kind-via-else-not-is_alpha_kind+then-class_flag v ↦ λ w e g.
-          asked-none (pre-left (lexicon_of c.args.rules.now w c.args.code.now) w.text (seen w) c.args.p _ (memory (size w) c.args.places.now) refl
-          (back-alpha g.text c.args.p c.requires.2 c.kind_at-back.ensures c.is_alpha_kind.ensures v.if-not-is_alpha_kind.false)
-          (back-pre g.text c.args.p c.requires.2 c.kind_at-back.ensures v.class_flag.ensures v.if-class_flag.true))
+          asked-none (pre-left (lexicon_of c.args.dicts.now.rules.now w c.args.dicts.now.code.now) w.text (seen w) c.args.p _ (memory (size w) c.args.places.now) refl
+          (back-alpha g.text c.args.p c.requires.1 c.kind_at-back.ensures c.is_alpha_kind.ensures v.if-not-is_alpha_kind.false)
+          (back-pre g.text c.args.p c.requires.1 c.kind_at-back.ensures v.class_flag.ensures v.if-class_flag.true))
     ]
 
 pub overflow_add-q : goal.overflow_add-q
@@ -72,27 +72,27 @@ pub returns-then-class_flag-2 : goal.returns-then-class_flag-2
 returns-then-class_flag-2 c =
     elim c.then-class_flag-2.branch [
       | then-class_flag-2-via-then-class_flag-2 v ↦ λ w e g.
-          asked-none (pre-right (lexicon_of c.args.rules.now w c.args.code.now) w.text (seen w) c.args.p c.past_tone-q.result (memory (size w) c.args.places.now) (tone g.text c.args.p c.requires.2 c.past_tone-q.result c.past_tone-q.ensures) (back-alpha g.text c.args.p c.requires.2 c.kind_at-back.ensures c.is_alpha_kind.ensures c.if-not-is_alpha_kind.false) (back-pre g.text c.args.p c.requires.2 c.kind_at-back.ensures c.class_flag.ensures c.if-class_flag.false) (next-pre g.text c.args.p c.requires.2 c.past_tone-q.result c.past_tone-q.ensures c.kind_at-next.ensures c.class_flag-2.ensures v.if-class_flag-2.true))
+          asked-none (pre-right (lexicon_of c.args.dicts.now.rules.now w c.args.dicts.now.code.now) w.text (seen w) c.args.p c.past_tone-q.result (memory (size w) c.args.places.now) (tone g.text c.args.p c.requires.1 c.past_tone-q.result c.past_tone-q.ensures) (back-alpha g.text c.args.p c.requires.1 c.kind_at-back.ensures c.is_alpha_kind.ensures c.if-not-is_alpha_kind.false) (back-pre g.text c.args.p c.requires.1 c.kind_at-back.ensures c.class_flag.ensures c.if-class_flag.false) (next-pre g.text c.args.p c.requires.1 c.past_tone-q.result c.past_tone-q.ensures c.kind_at-next.ensures c.class_flag-2.ensures v.if-class_flag-2.true))
       | then-class_flag-2-via-else-class_flag-2+then-not-is_alpha_kind-2 v ↦ λ w e g.
-          asked-none (word_ends (lexicon_of c.args.rules.now w c.args.code.now) w.text (seen w) c.args.p c.past_tone-q.result (memory (size w) c.args.places.now) (tone g.text c.args.p c.requires.2 c.past_tone-q.result c.past_tone-q.ensures) (back-alpha g.text c.args.p c.requires.2 c.kind_at-back.ensures c.is_alpha_kind.ensures c.if-not-is_alpha_kind.false) (back-pre g.text c.args.p c.requires.2 c.kind_at-back.ensures c.class_flag.ensures c.if-class_flag.false) (next-pre g.text c.args.p c.requires.2 c.past_tone-q.result c.past_tone-q.ensures c.kind_at-next.ensures c.class_flag-2.ensures v.if-class_flag-2.false)
-          (next-alpha g.text c.args.p c.requires.2 c.past_tone-q.result c.past_tone-q.ensures c.kind_at-next.ensures v.is_alpha_kind-else-class_flag-2.ensures v.if-not-is_alpha_kind-2.true))
+          asked-none (word_ends (lexicon_of c.args.dicts.now.rules.now w c.args.dicts.now.code.now) w.text (seen w) c.args.p c.past_tone-q.result (memory (size w) c.args.places.now) (tone g.text c.args.p c.requires.1 c.past_tone-q.result c.past_tone-q.ensures) (back-alpha g.text c.args.p c.requires.1 c.kind_at-back.ensures c.is_alpha_kind.ensures c.if-not-is_alpha_kind.false) (back-pre g.text c.args.p c.requires.1 c.kind_at-back.ensures c.class_flag.ensures c.if-class_flag.false) (next-pre g.text c.args.p c.requires.1 c.past_tone-q.result c.past_tone-q.ensures c.kind_at-next.ensures c.class_flag-2.ensures v.if-class_flag-2.false)
+          (next-alpha g.text c.args.p c.requires.1 c.past_tone-q.result c.past_tone-q.ensures c.kind_at-next.ensures v.is_alpha_kind-else-class_flag-2.ensures v.if-not-is_alpha_kind-2.true))
     ]
 
 pub vowel_test-requires : goal.vowel_test-requires
 vowel_test-requires c =
     let near = tone-near c.args.line.now c.args.p c.past_tone-q.result c.past_tone-q.ensures in
-    (c.requires.0, omega (arith, near, c.requires.2))
+    omega (arith, near, c.requires.1)
 
 pub returns-then-not-is_closed : goal.returns-then-not-is_closed
 returns-then-not-is_closed c =
     λ w e g. let A = c.vowel_test.ensures w e g in record {
-      did = by-vowel (lexicon_of c.args.rules.now w c.args.code.now) w.text (seen w) c.args.p c.past_tone-q.result (memory (size w) c.args.places.now) (tone g.text c.args.p c.requires.2 c.past_tone-q.result c.past_tone-q.ensures) (back-alpha g.text c.args.p c.requires.2 c.kind_at-back.ensures c.is_alpha_kind.ensures c.if-not-is_alpha_kind.false) (back-pre g.text c.args.p c.requires.2 c.kind_at-back.ensures c.class_flag.ensures c.if-class_flag.false) (next-pre g.text c.args.p c.requires.2 c.past_tone-q.result c.past_tone-q.ensures c.kind_at-next.ensures c.class_flag-2.ensures c.if-class_flag-2.false)
-          (next-alpha g.text c.args.p c.requires.2 c.past_tone-q.result c.past_tone-q.ensures c.kind_at-next.ensures c.is_alpha_kind-else-class_flag-2.ensures c.if-not-is_alpha_kind-2.false)
-          (sym (closed-shown g.edges (c.args.p - 1) (omega (arith, near-back g.text c.args.p c.requires.2))) ∙ sym c.is_closed.ensures ∙ c.if-not-is_closed.true) A.did;
+      did = by-vowel (lexicon_of c.args.dicts.now.rules.now w c.args.dicts.now.code.now) w.text (seen w) c.args.p c.past_tone-q.result (memory (size w) c.args.places.now) (tone g.text c.args.p c.requires.1 c.past_tone-q.result c.past_tone-q.ensures) (back-alpha g.text c.args.p c.requires.1 c.kind_at-back.ensures c.is_alpha_kind.ensures c.if-not-is_alpha_kind.false) (back-pre g.text c.args.p c.requires.1 c.kind_at-back.ensures c.class_flag.ensures c.if-class_flag.false) (next-pre g.text c.args.p c.requires.1 c.past_tone-q.result c.past_tone-q.ensures c.kind_at-next.ensures c.class_flag-2.ensures c.if-class_flag-2.false)
+          (next-alpha g.text c.args.p c.requires.1 c.past_tone-q.result c.past_tone-q.ensures c.kind_at-next.ensures c.is_alpha_kind-else-class_flag-2.ensures c.if-not-is_alpha_kind-2.false)
+          (sym (closed-shown g.edges (c.args.p - 1) (omega (arith, near-back g.text c.args.p c.requires.1))) ∙ sym c.is_closed.ensures ∙ c.if-not-is_closed.true) A.did;
       kept = A.kept;
     }
 
 pub returns-else-not-is_closed : goal.returns-else-not-is_closed
 returns-else-not-is_closed c =
-    λ w e g. asked_by (ap not c.if-not-is_closed.false) (asked-none (consonant_left (lexicon_of c.args.rules.now w c.args.code.now) w.text (seen w) c.args.p c.past_tone-q.result (memory (size w) c.args.places.now) (tone g.text c.args.p c.requires.2 c.past_tone-q.result c.past_tone-q.ensures) (back-alpha g.text c.args.p c.requires.2 c.kind_at-back.ensures c.is_alpha_kind.ensures c.if-not-is_alpha_kind.false) (back-pre g.text c.args.p c.requires.2 c.kind_at-back.ensures c.class_flag.ensures c.if-class_flag.false) (next-pre g.text c.args.p c.requires.2 c.past_tone-q.result c.past_tone-q.ensures c.kind_at-next.ensures c.class_flag-2.ensures c.if-class_flag-2.false)
-    (next-alpha g.text c.args.p c.requires.2 c.past_tone-q.result c.past_tone-q.ensures c.kind_at-next.ensures c.is_alpha_kind-else-class_flag-2.ensures c.if-not-is_alpha_kind-2.false) (sym (closed-shown g.edges (c.args.p - 1) (omega (arith, near-back g.text c.args.p c.requires.2))) ∙ sym c.is_closed.ensures ∙ c.if-not-is_closed.false)))
+    λ w e g. asked_by (ap not c.if-not-is_closed.false) (asked-none (consonant_left (lexicon_of c.args.dicts.now.rules.now w c.args.dicts.now.code.now) w.text (seen w) c.args.p c.past_tone-q.result (memory (size w) c.args.places.now) (tone g.text c.args.p c.requires.1 c.past_tone-q.result c.past_tone-q.ensures) (back-alpha g.text c.args.p c.requires.1 c.kind_at-back.ensures c.is_alpha_kind.ensures c.if-not-is_alpha_kind.false) (back-pre g.text c.args.p c.requires.1 c.kind_at-back.ensures c.class_flag.ensures c.if-class_flag.false) (next-pre g.text c.args.p c.requires.1 c.past_tone-q.result c.past_tone-q.ensures c.kind_at-next.ensures c.class_flag-2.ensures c.if-class_flag-2.false)
+    (next-alpha g.text c.args.p c.requires.1 c.past_tone-q.result c.past_tone-q.ensures c.kind_at-next.ensures c.is_alpha_kind-else-class_flag-2.ensures c.if-not-is_alpha_kind-2.false) (sym (closed-shown g.edges (c.args.p - 1) (omega (arith, near-back g.text c.args.p c.requires.1))) ∙ sym c.is_closed.ensures ∙ c.if-not-is_closed.false)))

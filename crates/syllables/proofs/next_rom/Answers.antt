@@ -10,8 +10,8 @@ use Rattle.syllables.proofs.next_rom.Goals as goal
 pub returns-then-is_some : goal.returns-then-is_some
 returns-then-is_some c = (
   λ w e g. let A = c.simple_top_romanization_candidate_for_span-two.ensures.0 w e g in record {
-    did = two-told (lexicon_of c.args.rules.now w c.args.code.now) w.text (seen w) c.args.q (memory (size w) c.args.places.now) A.did
-        (sym (c.is_some.ensures ∙ has-chosen c.args.rules.now c.simple_top_romanization_candidate_for_span-two.result) ∙ c.if-is_some.true);
+    did = two-told (lexicon_of c.args.dicts.now.rules.now w c.args.dicts.now.code.now) w.text (seen w) c.args.q (memory (size w) c.args.places.now) A.did
+        (sym (c.is_some.ensures ∙ has-chosen c.args.dicts.now.rules.now c.simple_top_romanization_candidate_for_span-two.result) ∙ c.if-is_some.true);
     kept = A.kept;
   },
   c.simple_top_romanization_candidate_for_span-two.ensures.1,
@@ -21,8 +21,8 @@ pub returns : goal.returns
 returns c = (
   λ w e g. let A = c.simple_top_romanization_candidate_for_span-two.ensures.0 w e g in
       let B = c.simple_top_romanization_candidate_for_span.ensures.0 w e (lent-after _ g A.kept) in record {
-        did = one_told (lexicon_of c.args.rules.now w c.args.code.now) w.text (seen w) c.args.q (memory (size w) c.args.places.now) A.did
-            (sym (c.is_some.ensures ∙ has-chosen c.args.rules.now c.simple_top_romanization_candidate_for_span-two.result) ∙ c.if-is_some.false) B.did;
+        did = one_told (lexicon_of c.args.dicts.now.rules.now w c.args.dicts.now.code.now) w.text (seen w) c.args.q (memory (size w) c.args.places.now) A.did
+            (sym (c.is_some.ensures ∙ has-chosen c.args.dicts.now.rules.now c.simple_top_romanization_candidate_for_span-two.result) ∙ c.if-is_some.false) B.did;
         kept = B.kept ∙ A.kept;
       },
   c.simple_top_romanization_candidate_for_span.ensures.1,

@@ -14,14 +14,14 @@ pub returns : goal.returns
 returns c =
     λ w e g. let A = c.simple_top_romanization_candidate_for_span-rom.ensures.0 w e g in
     let z = line-size g.text in
-    let here : at w.text c.args.q ≡ o_ang = omega (arith, char_at g.text c.args.q (omega (arith, c.requires.1)), c.number_at.ensures) in
+    let here : at w.text c.args.q ≡ o_ang = omega (arith, char_at g.text c.args.q (omega (arith, c.requires)), c.number_at.ensures) in
     asked_by c.opens.ensures record {
-      did = o_ang_follows (lexicon_of c.args.rules.now w c.args.code.now) w.text (seen w) c.args.q (memory (size w) c.args.places.now) (eq-eqb (at w.text c.args.q) o_ang here) A.did;
+      did = o_ang_follows (lexicon_of c.args.dicts.now.rules.now w c.args.dicts.now.code.now) w.text (seen w) c.args.q (memory (size w) c.args.places.now) (eq-eqb (at w.text c.args.q) o_ang here) A.did;
       kept = A.kept;
     }
 
 pub returns-then-number_at-ne-O_ANG : goal.returns-then-number_at-ne-O_ANG
 returns-then-number_at-ne-O_ANG c =
     λ w e g. let z = line-size g.text in
-    asked-none (no_o_ang (lexicon_of c.args.rules.now w c.args.code.now) w.text (seen w) c.args.q (memory (size w) c.args.places.now)
-    (ne_eqb (at w.text c.args.q) o_ang (λ y. omega (arith, y, char_at g.text c.args.q (omega (arith, c.requires.1)), c.number_at.ensures))))
+    asked-none (no_o_ang (lexicon_of c.args.dicts.now.rules.now w c.args.dicts.now.code.now) w.text (seen w) c.args.q (memory (size w) c.args.places.now)
+    (ne_eqb (at w.text c.args.q) o_ang (λ y. omega (arith, y, char_at g.text c.args.q (omega (arith, c.requires)), c.number_at.ensures))))

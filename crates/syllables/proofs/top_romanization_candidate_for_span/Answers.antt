@@ -15,24 +15,24 @@ use Rattle.syllables.proofs.top_romanization_candidate_for_span.Goals.{else-flag
 
 pub returns-in_err-row : goal.returns-in_err-row
 returns-in_err-row c = (
-  λ w e g. let L = lexicon_of c.args.rules.now w c.args.code.now in
+  λ w e g. let L = lexicon_of c.args.dicts.now.rules.now w c.args.dicts.now.code.now in
       let A = c.top_rule-best.ensures.0 w e g in
       record {
-        did = did_by (ap (chosen_means c.args.rules.now) c.from_residual.ensures) (no_rule L w.text (seen w) c.args.look.span.from c.args.look.span.to
-            (memory (size w) c.args.places.now) (did_by (sym (ap (choice_means c.args.rules.now) c.in_err-row.was)) A.did));
+        did = did_by (ap (chosen_means c.args.dicts.now.rules.now) c.from_residual.ensures) (no_rule L w.text (seen w) c.args.look.span.from c.args.look.span.to
+            (memory (size w) c.args.places.now) (did_by (sym (ap (choice_means c.args.dicts.now.rules.now) c.in_err-row.was)) A.did));
         kept = A.kept;
       },
-  subst (Said c.args.rules.now) (sym c.from_residual.ensures) tt,
+  subst (Said c.args.dicts.now.rules.now) (sym c.from_residual.ensures) tt,
 )
 
 pub returns-then-is_at_end_of_syllable : goal.returns-then-is_at_end_of_syllable
 unfolding rule_of text_where pick
 returns-then-is_at_end_of_syllable c =
-    let R = c.args.rules.now in
+    let R = c.args.dicts.now.rules.now in
     let s = drop c.in_ok-row.row R in
     let flag = sym c.flag.ensures ∙ c.if-flag.true in
     let ended = ap (λ x. text_where x (drop (end_target_at s) s)) flag in (
-      λ w e g. let L = lexicon_of c.args.rules.now w c.args.code.now in
+      λ w e g. let L = lexicon_of c.args.dicts.now.rules.now w c.args.dicts.now.code.now in
           let A = c.top_rule-best.ensures.0 w e g in
           let d = did_by (sym (ap (choice_means R) c.in_ok-row.was)) A.did in
           let B = c.is_at_end_of_syllable.ensures w e (lent-after _ g A.kept) in
@@ -47,13 +47,13 @@ returns-then-is_at_end_of_syllable c =
 pub returns : goal.returns
 unfolding rule_of text_where pick
 returns c =
-    let R = c.args.rules.now in
+    let R = c.args.dicts.now.rules.now in
     let s = drop c.in_ok-row.row R in
     let rule = ap (choice_means R) c.in_ok-row.was in
     let target = c.target_of.ensures.0 ∙ ap (λ o. bind o (λ x. x.target)) rule in (
       elim c.else-flag.branch [
         | else-flag-via-then-flag+else-is_at_end_of_syllable v ↦ λ w e g.
-            let L = lexicon_of R w c.args.code.now in
+            let L = lexicon_of R w c.args.dicts.now.code.now in
             let A = c.top_rule-best.ensures.0 w e g in
             let B = v.is_at_end_of_syllable.ensures w e (lent-after _ g A.kept) in
             let ended = ap (λ x. text_where x (drop (end_target_at s) s)) (sym c.flag.ensures ∙ v.if-flag.true) in
@@ -63,7 +63,7 @@ returns c =
               kept = B.kept ∙ A.kept;
             }
         | else-flag-via-else-flag v ↦ λ w e g.
-            let L = lexicon_of R w c.args.code.now in
+            let L = lexicon_of R w c.args.dicts.now.code.now in
             let A = c.top_rule-best.ensures.0 w e g in
             let ended = ap (λ x. text_where x (drop (end_target_at s) s)) (sym c.flag.ensures ∙ v.if-flag.false) in
             rw v.places-is record {

@@ -12,7 +12,7 @@ pub returns-else-not-opens : goal.returns-else-not-opens
 returns-else-not-opens c =
     λ w e g. let A = c.next_rom-rom.ensures.0 w e g in
     let B = c.o_ang_test.ensures w e (lent-after _ g A.kept) in record {
-      did = a_vowel (lexicon_of c.args.rules.now w c.args.code.now) w.text (seen w) c.args.q (memory (size w) c.args.places.now) A.did
+      did = a_vowel (lexicon_of c.args.dicts.now.rules.now w c.args.dicts.now.code.now) w.text (seen w) c.args.q (memory (size w) c.args.places.now) A.did
           (sym c.opens.ensures ∙ c.if-not-opens.false) B.did;
       kept = B.kept ∙ A.kept;
     }
@@ -20,7 +20,7 @@ returns-else-not-opens c =
 pub returns-then-not-opens : goal.returns-then-not-opens
 returns-then-not-opens c =
     λ w e g. let A = c.next_rom-rom.ensures.0 w e g in record {
-      did = did_by (ap not c.if-not-opens.true) (no_vowel (lexicon_of c.args.rules.now w c.args.code.now) w.text (seen w) c.args.q (memory (size w) c.args.places.now) A.did
+      did = did_by (ap not c.if-not-opens.true) (no_vowel (lexicon_of c.args.dicts.now.rules.now w c.args.dicts.now.code.now) w.text (seen w) c.args.q (memory (size w) c.args.places.now) A.did
           (sym c.opens.ensures ∙ c.if-not-opens.true));
       kept = A.kept;
     }

@@ -16,7 +16,7 @@ unfolding shown
 returns-then-is_bare c =
     λ vowel w e g. let u = shown c.args.bytes.now vowel c.args.f in
     let n = line-size g.text in
-    let L = lexicon_of c.args.rules.now w c.args.code.now in
+    let L = lexicon_of c.args.dicts.now.rules.now w c.args.dicts.now.code.now in
     let m = memory (size w) c.args.places.now in
     let x = sym c.takes_vowel.ensures ∙ c.if-not-takes_vowel.false in
     let y = sym (c.is_bare.ensures w g.text) ∙ c.if-is_bare.true in
@@ -27,11 +27,11 @@ unfolding shown
 returns-then-class_flag c =
     λ vowel w e g. let u = shown c.args.bytes.now vowel c.args.f in
     let n = line-size g.text in
-    let L = lexicon_of c.args.rules.now w c.args.code.now in
+    let L = lexicon_of c.args.dicts.now.rules.now w c.args.dicts.now.code.now in
     let m = memory (size w) c.args.places.now in
     let x = sym c.takes_vowel.ensures ∙ c.if-not-takes_vowel.false in
     let y = sym (c.is_bare.ensures w g.text) ∙ c.if-is_bare.false in
-    let z = sym (flag_prev g.text c.args.span.from (omega (arith, c.requires.2, c.requires.3, n)) c.kind_at.ensures 3 (λ l. l.virama)
+    let z = sym (flag_prev g.text c.args.span.from (omega (arith, c.args.span.forward, c.requires.1, n)) c.kind_at.ensures 3 (λ l. l.virama)
     (λ j l z. z.virama) c.class_flag.ensures) ∙ c.if-class_flag.true in
     asked-none (after-virama L w.text (seen w) c.args.tail u c.args.span.from c.args.span.to m x y z)
 
@@ -40,11 +40,11 @@ unfolding shown
 returns-then-starts_bare c =
     λ vowel w e g. let u = shown c.args.bytes.now vowel c.args.f in
     let n = line-size g.text in
-    let L = lexicon_of c.args.rules.now w c.args.code.now in
+    let L = lexicon_of c.args.dicts.now.rules.now w c.args.dicts.now.code.now in
     let m = memory (size w) c.args.places.now in
     let x = sym c.takes_vowel.ensures ∙ c.if-not-takes_vowel.false in
     let y = sym (c.is_bare.ensures w g.text) ∙ c.if-is_bare.false in
-    let z = sym (flag_prev g.text c.args.span.from (omega (arith, c.requires.2, c.requires.3, n)) c.kind_at.ensures 3 (λ l. l.virama)
+    let z = sym (flag_prev g.text c.args.span.from (omega (arith, c.args.span.forward, c.requires.1, n)) c.kind_at.ensures 3 (λ l. l.virama)
     (λ j l z. z.virama) c.class_flag.ensures) ∙ c.if-class_flag.false in
     let A = c.is_at_start_of_word-start.ensures w g in record {
       did = word_starts L w.text (seen w) c.args.tail u c.args.span.from c.args.span.to m x y z A.did (sym c.starts_bare.ensures ∙ c.if-starts_bare.true);
@@ -56,11 +56,11 @@ unfolding shown
 returns c =
     λ vowel w e g. let u = shown c.args.bytes.now vowel c.args.f in
     let n = line-size g.text in
-    let L = lexicon_of c.args.rules.now w c.args.code.now in
+    let L = lexicon_of c.args.dicts.now.rules.now w c.args.dicts.now.code.now in
     let m = memory (size w) c.args.places.now in
     let x = sym c.takes_vowel.ensures ∙ c.if-not-takes_vowel.false in
     let y = sym (c.is_bare.ensures w g.text) ∙ c.if-is_bare.false in
-    let z = sym (flag_prev g.text c.args.span.from (omega (arith, c.requires.2, c.requires.3, n)) c.kind_at.ensures 3 (λ l. l.virama)
+    let z = sym (flag_prev g.text c.args.span.from (omega (arith, c.args.span.forward, c.requires.1, n)) c.kind_at.ensures 3 (λ l. l.virama)
     (λ j l z. z.virama) c.class_flag.ensures) ∙ c.if-class_flag.false in
     let A = c.is_at_start_of_word-start.ensures w g in record {
       did = did_by (ap (λ (o : Which). form_means o u) (c.form_settled.ensures w e g.text))
@@ -72,7 +72,7 @@ pub returns-then-not-takes_vowel : goal.returns-then-not-takes_vowel
 unfolding shown
 returns-then-not-takes_vowel c =
     λ vowel w e g. let u = shown c.args.bytes.now vowel c.args.f in
-    let L = lexicon_of c.args.rules.now w c.args.code.now in
+    let L = lexicon_of c.args.dicts.now.rules.now w c.args.dicts.now.code.now in
     let m = memory (size w) c.args.places.now in
     let x = sym c.takes_vowel.ensures ∙ c.if-not-takes_vowel.true in
     asked-none (takes_none L w.text (seen w) c.args.tail u c.args.span.from c.args.span.to m x)

@@ -9,5 +9,5 @@ use Rattle.words.proofs.is_at_end_of_word.Given as goal
 
 abbrev pub invariant-loop-end : goal.invariant-loop-end
 invariant-loop-end l =
-    (w : World) → Told w l.ready → Lined w l.line
-    → goes_from (kinds w) w.text l.p (rules_of l.rules) l.end ≡ any (goes_on (kinds w) w.text l.p) (rules_of l.rules)
+    (w : World) → Told w l.dicts.ready.now → Lined w l.line
+    → goes_from (kinds w) w.text l.p (rules_of l.dicts.rules.now) l.end ≡ any (goes_on (kinds w) w.text l.p) (rules_of l.dicts.rules.now)

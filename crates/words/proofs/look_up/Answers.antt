@@ -18,11 +18,11 @@ returns c =
     let line = a.line.now in
     let z : e + 1 - (s + 1) ≡ e - s = omega arith in (
       record {
-        forward = k.requires.1;
-        inside = k.requires.2;
-        first = f.first ∙ ap (λ n. first_at a.rules.now (take n (drop (s + 1) line))) z;
-        count = f.count ∙ ap (λ n. equal_rows a.rules.now (take n (drop (s + 1) line))) z;
-        more = f.more ∙ ap (λ n. has_longer (take n (drop (s + 1) line)) (rules_of a.rules.now)) z;
+        forward = k.args.span.forward;
+        inside = k.requires;
+        first = f.first ∙ ap (λ n. first_at a.dicts.now.rules.now (take n (drop (s + 1) line))) z;
+        count = f.count ∙ ap (λ n. equal_rows a.dicts.now.rules.now (take n (drop (s + 1) line))) z;
+        more = f.more ∙ ap (λ n. has_longer (take n (drop (s + 1) line)) (rules_of a.dicts.now.rules.now)) z;
       },
       refl,
     )

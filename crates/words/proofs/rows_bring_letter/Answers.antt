@@ -11,19 +11,19 @@ use Rattle.words.proofs.Ends.{rows-over, rows_turn, rows_next}
 use Rattle.words.proofs.rows_bring_letter.Goals as goal
 
 pub brings_letter-requires : goal.brings_letter-requires
-brings_letter-requires c = row_read c.args.rules.now c.loop-turn.row (c.args.count - c.loop-turn._turn) (omega arith) c.loop-turn.invariant.1
+brings_letter-requires c = row_read c.args.dicts.now.rules.now c.loop-turn.row (c.args.count - c.loop-turn._turn) (omega arith) c.loop-turn.invariant.1
 
 pub returns-then-brings_letter : goal.returns-then-brings_letter
 returns-then-brings_letter c =
     let l = c.loop-turn in
     let left = c.args.count - l._turn in
-    λ classes e. rows_turn c.args.rules.now l.row left (left - 1) (omega arith) l.invariant.1 _ refl (brings (classes_of classes)) true
+    λ classes e. rows_turn c.args.dicts.now.rules.now l.row left (left - 1) (omega arith) l.invariant.1 _ refl (brings (classes_of classes)) true
     (sym c.if-brings_letter.true ∙ c.brings_letter.ensures classes e) ∙ l.invariant.0 classes e
 
 pub overflow_add-row : goal.overflow_add-row
 overflow_add-row c =
     let l = c.loop-turn in
-    let b = c.args.rules.now in
+    let b = c.args.dicts.now.rules.now in
     let left = c.args.count - l._turn in
     let r = (row_read b l.row left (omega arith) l.invariant.1).placed.row in
     let h = row_there b l.row left (omega arith) l.invariant.1 in
@@ -33,7 +33,7 @@ overflow_add-row c =
 pub loop-turn-preserved : goal.loop-turn-preserved
 loop-turn-preserved c =
     let l = c.loop-turn in
-    let b = c.args.rules.now in
+    let b = c.args.dicts.now.rules.now in
     let left = c.args.count - l._turn in
     let rest = c.args.count - (l._turn + 1) in (
       λ classes e. rows_turn b l.row left rest (omega arith) l.invariant.1 _ c.size-row.ensures.0 (brings (classes_of classes)) false
@@ -44,4 +44,4 @@ loop-turn-preserved c =
 pub returns : goal.returns
 returns c =
     let l = c.loop-turn in
-    λ classes e. rows-over c.args.rules.now l.row (c.args.count - l._turn) (brings (classes_of classes)) (omega arith) ∙ l.invariant.0 classes e
+    λ classes e. rows-over c.args.dicts.now.rules.now l.row (c.args.count - l._turn) (brings (classes_of classes)) (omega arith) ∙ l.invariant.0 classes e

@@ -12,6 +12,6 @@ use Rattle.words.proofs.rows_bring_letter.Given as goal
 
 abbrev pub invariant-loop-turn : goal.invariant-loop-turn
 invariant-loop-turn l =
-    ((classes : List ℕ) → letters_in l.ready ≡ alphas_of classes
-    → any (brings (classes_of classes)) (rules_in l.rules l.row (l.count - l._turn)) ≡ any (brings (classes_of classes)) (rules_in l.rules l.first l.count))
-    × Rows l.rules l.row (l.count - l._turn)
+    ((classes : List ℕ) → letters_in l.dicts.ready.now ≡ alphas_of classes
+    → any (brings (classes_of classes)) (rules_in l.dicts.rules.now l.row (l.count - l._turn)) ≡ any (brings (classes_of classes)) (rules_in l.dicts.rules.now l.first l.count))
+    × Rows l.dicts.rules.now l.row (l.count - l._turn)

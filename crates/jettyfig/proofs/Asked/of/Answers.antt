@@ -3,7 +3,6 @@ use mathlib.Core.Option.{some}
 use mathlib.Core.Path.{◌≡◌, ap, ◌∙◌}
 use Prim.Native.Nat.{ℕ, ◌≤◌}
 use native.Mathlib.Omega.{arith}
-use Rattle.definition.specs.Limits.{most_mode, most_choice}
 use Rattle.jettyfig.specs.declared.Refusal.{Refusal}
 use Rattle.jettyfig.specs.Verdicts.{refusal_means, choose, passed_on}
 use Rattle.jettyfig.proofs.Tests.{mode_few, capitals_few, o_ang_few, readings_few, mode_refused, capitals_refused, o_ang_refused, readings_refused, none_refused}
