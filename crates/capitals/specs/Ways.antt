@@ -4,10 +4,23 @@ use Rattle.std.proofs.Math.Bool.{and-false, and-true}
 use Rattle.std.proofs.Math.Path.{sym}
 use borrow.Author.Tests.{eq-eqb, ne_eqb}
 use Rattle.base.specs.Pick.{pick}
-use Rattle.definition.specs.Texts.{Text, at}
+use Rattle.base.specs.Lists.{any}
+use Rattle.definition.specs.Blocks.{small}
+use Rattle.definition.specs.Texts.{Text, at, capital}
 use Rattle.definition.specs.Tables.{Class, Choices}
 use Rattle.definition.specs.Classes.{class}
 use Rattle.definition.specs.Expansion.{Work, work, upper_case, capitalized, capitalizes, capitalize}
+use Rattle.rom.specs.Sets.{between}
+
+-- upper case, by a small letter and by a capital
+module _ (w : Text) where
+  pub some_small : true ≡ any (between 97 122) w → false ≡ upper_case w
+  unfolding upper_case between small
+  some_small e = simp (sym e, and-false)
+
+  pub no_small : false ≡ any (between 97 122) w → any (between 65 90) w ≡ upper_case w
+  unfolding upper_case between small capital
+  no_small e = simp (sym e, and-true)
 
 -- whether the step acts
 module _ (c : Choices) (ks : List Class) (t : Text) (w : Work) where

@@ -8,7 +8,7 @@ use Rattle.std.proofs.Common.{◌∙◌, take-append-drop, take-suc, take-take, 
 use native.Mathlib.Omega.{arith}
 use Rattle.std.proofs.Math.Dec.{ltb}
 use Rattle.std.proofs.Math.ListN.{get_or}
-use Rattle.std.proofs.Math.Seq.{slice, slice_empty, slice-cons}
+use Rattle.std.proofs.Math.Seq.{take-nil, slice, slice_empty, slice-cons}
 use Rattle.std.proofs.lemmas.List.{drop-append-le}
 use Rattle.base.specs.Lists.{head, is, front, after}
 use Rattle.rom.proofs.Backwards.{back, back_cons}
@@ -22,6 +22,15 @@ pub back_suc : (s : List ℕ) (i : ℕ) → i < length s → back s (suc i) ≡ 
 back_suc s i h =
     let e : suc i - 1 ≡ i = omega arith in
     back_cons s (suc i) (omega arith) (omega arith) ∙ ap (λ (n : ℕ). get_or s n 0 ∷ back s n) e
+
+-- a part as it is lent
+pub slice_lent : (f t : ℕ) (s : List ℕ) → take (t - f) (drop f s) ≡ slice f t s
+slice_lent zero t s = let e : t - 0 ≡ t = omega arith in ap (λ (n : ℕ). take n s) e
+slice_lent (suc f) zero s = let e : 0 - suc f ≡ 0 = omega arith in ap (λ (n : ℕ). take n (drop (suc f) s)) e
+slice_lent (suc f) (suc t) [] = take-nil (suc t - suc f)
+slice_lent (suc f) (suc t) (x ∷ s) =
+    let e : suc t - suc f ≡ t - f = omega arith in
+    ap (λ (n : ℕ). take n (drop f s)) e ∙ slice_lent f t s
 
 -- Parts of one text, put together
 module _ (s : List ℕ) where

@@ -106,6 +106,11 @@ module _ (L : Lexicon) (t : Text) (v : View) where
     unfolding expand ret pick
     nothing-to-expand f = did (rw f)
 
+    pub expanded : same rom [] ≡ false → {y x : Work} {m₁ : Mem} → y ≡ double L.classes t s (capitalize c L.classes t (work rom s e note_none))
+        → Did (by_script L t v c s y m) x m₁ → Did (expand L t v c rom s e m) x m₁
+    unfolding expand pick
+    expanded f h d = did (rw (f, sym h) (outcome d))
+
     module _ (f : same rom [] ≡ false) {y : Work} (h : y ≡ double L.classes t s (capitalize c L.classes t (work rom s e note_none))) where
       -- the steps by script break off, or the rest comes
       pub broken-off : {x : Work} → ret x ≡ by_script L t v c s y → Did (expand L t v c rom s e m) x m

@@ -249,6 +249,14 @@ pub passed_on : {A : Type 0} → (v : Result A Refused) (r : Refused) → IsErrA
 passed_on (Ok x) r h = absurd h
 passed_on (Err e) r h = ap (λ (q : Refused). some (refusal_means q)) h
 
+-- What a verdict says of the tests that it begins: they go on past one that accepts, and end with one that refuses
+module _ {A : Type 0} (v : Result A Refused) (o : Option Refusal) (l : List (Option Refusal)) (told : verdict_means v ≡ o) where
+  pub goes_on : (x : A) → v ≡ Ok x → first_of l ≡ first_of (o ∷ l)
+  goes_on x e = sym (first_past o l (sym told ∙ ap verdict_means e))
+
+  pub ends_here : (r : Refused) → v ≡ Err r → verdict_means v ≡ first_of (o ∷ l)
+  ends_here r e = let q = ap verdict_means e in q ∙ sym (first-here o l (refusal_means r) (sym told ∙ q))
+
 -- a number that is above the highest, by which the call is refused, or not: the mode, or a choice
 module _ (most n number : ℕ) (l : List (Option Refusal)) where
   pub above : most < n → some (refuse number 0) ≡ first_of (when (ltb most n) number 0 ∷ l)
@@ -260,34 +268,47 @@ module _ (most n number : ℕ) (l : List (Option Refusal)) where
   not_above h = sym (first_past (when (ltb most n) number 0) l (rw (le-ltb most n h)))
 
 -- what is refused of mode and choices goes before the other tests
-first_firsts : (k l : List (Option Refusal)) → or_else (first_of k) (first_of l) ≡ first_of (k ++ l)
+first_firsts : (k l : List (Option Refusal)) → first_of (first_of k ∷ l) ≡ first_of (k ++ l)
 unfolding first_of
 first_firsts [] l = refl
 first_firsts (none ∷ k) l = first_firsts k l
 first_firsts (some r ∷ k) l = refl
 
-pub asked-first : (mode : ℕ) (choices : Choices) (rules classes vowels decompositions code : List ℕ)
+pub asked-first : (mode : ℕ) (choices : Choices) (l : List (Option Refusal)) → first_of (by_asked mode choices ∷ l)
+    ≡ first_of (when (ltb most_mode mode) refused_mode 0 ∷ when (ltb most_choice choices.capitals) refused_capitals 0
+    ∷ when (ltb most_choice choices.o_ang) refused_o_ang 0 ∷ when (ltb most_choice choices.readings) refused_readings 0 ∷ l)
+unfolding by_asked
+asked-first mode choices l =
+    first_firsts (when (ltb most_mode mode) refused_mode 0 ∷ when (ltb most_choice choices.capitals) refused_capitals 0
+    ∷ when (ltb most_choice choices.o_ang) refused_o_ang 0 ∷ when (ltb most_choice choices.readings) refused_readings 0 ∷ []) l
+
+-- and before those of tables and code
+first_then : (o : Option Refusal) (l : List (Option Refusal)) → or_else o (first_of l) ≡ first_of (o ∷ l)
+unfolding first_of
+first_then none l = refl
+first_then (some r) l = refl
+
+pub asked-then : (mode : ℕ) (choices : Choices) (rules classes vowels decompositions code : List ℕ)
     → or_else (by_asked mode choices) (by_tables rules classes vowels decompositions code)
     ≡ before_text mode choices rules classes vowels decompositions code
-unfolding by_asked by_tables before_text
-asked-first mode choices rules classes vowels decompositions code =
-    first_firsts (when (ltb most_mode mode) refused_mode 0 ∷ when (ltb most_choice choices.capitals) refused_capitals 0
-    ∷ when (ltb most_choice choices.o_ang) refused_o_ang 0 ∷ when (ltb most_choice choices.readings) refused_readings 0 ∷ [])
-    (rule_fault rules ∷ placed refused_classes (class_fault classes) ∷ placed refused_vowels (vowel_fault vowels)
-    ∷ placed refused_decompositions (decomposition_fault decompositions) ∷ when (not (code_right code)) refused_code 0 ∷ [])
+unfolding by_tables before_text
+asked-then mode choices rules classes vowels decompositions code =
+    let l = rule_fault rules ∷ placed refused_classes (class_fault classes) ∷ placed refused_vowels (vowel_fault vowels)
+    ∷ placed refused_decompositions (decomposition_fault decompositions) ∷ when (not (code_right code)) refused_code 0 ∷ [] in
+    first_then (by_asked mode choices) l ∙ asked-first mode choices l
 
 -- so they are refused by the first, or else by the rest
 pub asked-refused : (mode : ℕ) (choices : Choices) (rules classes vowels decompositions code : List ℕ) (r : Refusal)
     → by_asked mode choices ≡ some r → before_text mode choices rules classes vowels decompositions code ≡ some r
 asked-refused mode choices rules classes vowels decompositions code r e =
-    sym (asked-first mode choices rules classes vowels decompositions code)
+    sym (asked-then mode choices rules classes vowels decompositions code)
     ∙ ap (λ (o : Option Refusal). or_else o (by_tables rules classes vowels decompositions code)) e
 
 pub asked-passed : (mode : ℕ) (choices : Choices) (rules classes vowels decompositions code : List ℕ)
     → by_asked mode choices ≡ none → by_tables rules classes vowels decompositions code ≡ before_text mode choices rules classes vowels decompositions code
 asked-passed mode choices rules classes vowels decompositions code e =
     sym (ap (λ (o : Option Refusal). or_else o (by_tables rules classes vowels decompositions code)) e)
-    ∙ asked-first mode choices rules classes vowels decompositions code
+    ∙ asked-then mode choices rules classes vowels decompositions code
 
 -- nothing refused of either is nothing refused
 pub nothing-refused : (i : Inputs) → before_text i.mode i.choices i.rules i.classes i.vowels i.decompositions i.code ≡ none → text_refusal i.text ≡ none → refusal i ≡ none

@@ -93,6 +93,16 @@ note-is o k (Alternative j) h = sym (rw (lt-ltb k o.others h.1))
 note-is o k EndTarget h = sym (rw (le-ltb k o.others h.0, h.1))
 note-is o k Target h = sym (rw (le-ltb k o.others h.0, h.1))
 
+-- and so of each
+pub alt-note : (o : Offers) (k : ℕ) → k < o.others → note_alt ≡ note_at o k
+alt-note o k h = note-is o k (Alternative k) (refl, h)
+
+pub alt2_note : (o : Offers) (k : ℕ) → o.others ≤ k → is_reading o k ≡ true → note_alt2 ≡ note_at o k
+alt2_note o k h e = note-is o k EndTarget (h, e)
+
+pub alt3-note : (o : Offers) (k : ℕ) → o.others ≤ k → is_reading o k ≡ false → note_alt3 ≡ note_at o k
+alt3-note o k h e = note-is o k Target (h, e)
+
 pub at-reading : (o : Offers) (k : ℕ) → is_reading o k ≡ true → (k ≡ o.others) × (o.reading ≡ true)
 at-reading o k z = (eqb-true k o.others (and_right o.reading _ z), and_left o.reading _ z)
 

@@ -4,3 +4,7 @@ pub mod Writes
 pub mod Capitals
 -- What is left of lent bytes, and their last
 pub mod Walks
+-- no character past z is in a set
+pub mod Past
+-- what is written a turn at a time
+pub mod Turns

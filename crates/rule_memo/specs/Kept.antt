@@ -1,7 +1,7 @@
 -- What a look-up tells of a text, and of single characters kept behind the index: of each two numbers, a note and where its
 -- first row is. The note's lowest 14 bits are the character's bits above its place, then comes whether a longer source
 -- starts with it, then how many rows it has.
-use Rattle.std.specs.Prelude.{Bool, ◌&&◌, ◌≡◌, ℕ, zero, suc, ◌+◌, ◌*◌, ◌/◌, ◌%◌, ◌<◌, eqb, length, get_or, set, take, drop, replicate}
+use Rattle.std.specs.Prelude.{Bool, ◌&&◌, ◌≡◌, ℕ, zero, suc, ◌+◌, ◌*◌, ◌/◌, ◌%◌, ◌≤◌, ◌<◌, eqb, length, get_or, set, take, drop, replicate}
 use Rattle.std.proofs.Math.Bool.{true, false}
 use mathlib.Core.List.{List, [], ◌∷◌, ◌++◌}
 use Rattle.std.proofs.Math.Option.{none}
@@ -11,7 +11,7 @@ use native.Mathlib.Omega.{arith}
 use Rattle.std.proofs.Math.Decide.{ℕ_discrete}
 use Rattle.std.proofs.Math.Dec.{ltb}
 use Rattle.std.proofs.lemmas.List.{length-replicate, take-set-le}
-use borrow.Author.Tests.{eq-eqb, ne_eqb, ltb-true}
+use borrow.Author.Tests.{eq-eqb, ne_eqb, lt-ltb, le-ltb, ltb-true}
 use Rattle.base.specs.Pick.{pick}
 use Rattle.base.specs.Bools.{and_left, and_right}
 use Rattle.definition.specs.Texts.{Text}
@@ -115,6 +115,26 @@ module _ (c : ℕ) (f : Found) where
         ltb-true f.count count_limit (and_left (ltb f.count count_limit) (ltb f.first offset_limit) rest),
         ltb-true f.first offset_limit (and_right (ltb f.count count_limit) (ltb f.first offset_limit) rest),
       )
+
+  pub high_character : character_limit ≤ c → false ≡ fits c f
+  unfolding fits
+  high_character h = sym (rw (le-ltb c character_limit h))
+
+  pub many_rows : c < character_limit → count_limit ≤ f.count → false ≡ fits c f
+  unfolding fits
+  many_rows h k = sym (rw (lt-ltb c character_limit h, le-ltb f.count count_limit k))
+
+  pub near-rows : c < character_limit → f.count < count_limit → ltb f.first offset_limit ≡ fits c f
+  unfolding fits
+  near-rows h k = sym (rw (lt-ltb c character_limit h, lt-ltb f.count count_limit k))
+
+  pub note-longer : f.more ≡ true → c / kept_characters + f.count * rows_unit + more_unit ≡ note_of c f
+  unfolding note_of pick
+  note-longer e = rw e
+
+  pub note-last : f.more ≡ false → c / kept_characters + f.count * rows_unit ≡ note_of c f
+  unfolding note_of pick
+  note-last e = rw e (omega arith)
 
   pub put-there : fits c f ≡ true → (x : List ℕ)
       → set (set x (place (c % kept_characters)) (note_of c f)) (place (c % kept_characters) + 1) f.first ≡ noted c f x

@@ -52,8 +52,15 @@ module _ (t : List ℕ) (at : ℕ) where
   unfolding next_row pick
   inside h = rw (lt-leb (length t) at h) refl
 
-  pub some_next : at < length t → (z : ℕ) → z ≡ rule_size (drop at t) → at + min z (length t - at) ≡ next_row t at
-  some_next h z e = let i = inside h in omega arith
+  pub next-by : at < length t → (z : ℕ) → z ≡ rule_size (drop at t) → at + min z (length t - at) ≡ next_row t at
+  next-by h z e = let i = inside h in omega arith
+
+  module _ (h : at < length t) (z : ℕ) (e : z ≡ rule_size (drop at t)) where
+    pub last-next : length t - at ≤ z → length t ≡ next_row t at
+    last-next l = let i = inside h in omega arith
+
+    pub some_next : z < length t - at → at + z ≡ next_row t at
+    some_next l = let i = inside h in omega arith
 
   -- a right row lies in the table, and the next begins behind it
   pub right-inside : (old : Text) → rule_right old (drop at t) ≡ true

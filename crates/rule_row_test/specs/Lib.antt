@@ -1,3 +1,4 @@
+pub mod Turns
 pub mod All
 pub mod Threes
 pub mod Texts

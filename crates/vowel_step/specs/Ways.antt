@@ -8,7 +8,7 @@ use Rattle.base.specs.Pick.{pick}
 use Rattle.base.specs.Bits.{flagged}
 use Rattle.base.specs.Lists.{any, same, maybe}
 use Rattle.definition.specs.Texts.{Text, chars, at, prev, vowels}
-use Rattle.definition.specs.Tables.{Class, Vowel, Lexicon}
+use Rattle.definition.specs.Tables.{Class, Vowel, Lexicon, script_devanagari}
 use Rattle.definition.specs.Classes.{class, script}
 use Rattle.definition.specs.Edges.{View, Mem, M, ret, ◌>>=◌}
 use Rattle.definition.specs.Boundaries.{word_start, word_end}
@@ -44,6 +44,20 @@ settled L t s e =
     pick (word_end L.rules L.classes t e)
     (pick (keeps_end L.code (script L.classes (at t s))) Which.Rom Which.Plus)
     (inside L.classes t s e)
+
+-- the end of a word is kept
+module _ (code : Text) (k : ℕ) where
+  pub of_sanskrit : k ≡ script_devanagari → same code (chars "san") ≡ true → keeping code ≡ keeps_end code k
+  unfolding keeps_end keeping
+  of_sanskrit e d = simp (eq-eqb k script_devanagari e, d)
+
+  pub of_devanagari : k ≡ script_devanagari → same code (chars "san") ≡ false → true ≡ keeps_end code k
+  unfolding keeps_end
+  of_devanagari e d = simp (eq-eqb k script_devanagari e, d)
+
+  pub of_another : (k ≡ script_devanagari → ⊥) → keeping code ≡ keeps_end code k
+  unfolding keeps_end keeping
+  of_another e = simp (ne_eqb k script_devanagari e)
 
 -- the ways inside a word
 module _ (ks : List Class) (t : Text) (s e : ℕ) where

@@ -10,7 +10,7 @@ ghost use Rattle.definition.specs.ClassRows.{classes_of};
 ghost use Rattle.definition.specs.Boundaries.{fresh, word_start, word_end};
 ghost use Rattle.table_classes.specs.Told.{alphas_of};
 ghost use Rattle.words.specs.Did.{Asked};
-ghost use Rattle.words.specs.Given.{World, kinds, seen, size_in, kind_in, forms_in, index_from, index_in, letters_in, choices_in, mode_in, all_ready, ready_in, line_in, Prepared, Told, Lined, Lent, alpha_kind};
+ghost use Rattle.words.specs.Given.{World, kinds, seen, size_in, kind_in, forms_in, index_from, index_in, letters_in, choices_in, mode_in, all_ready, ready_in, line_in, Told, Lined, Lent, alpha_kind};
 ghost use Rattle.words.specs.Found.{Row, Rows, rules_in};
 ghost use Rattle.words.specs.Looks.{Looked};
 ghost use Rattle.words.specs.Choosing.{choices_of};

@@ -2,7 +2,7 @@
 use mathlib.Core.Path.{ap, ◌∙◌}
 use Prim.Native.Nat.{◌+◌}
 use native.Mathlib.Omega.{arith}
-use Rattle.rule_reader.specs.Here.{none-next, some_next}
+use Rattle.rule_reader.specs.Here.{none-next, next-by}
 use Rattle.rule_reader.proofs.next_at.Goals as goal
 
 pub returns-then-table-at : goal.returns-then-table-at
@@ -11,4 +11,4 @@ returns-then-table-at c = none-next _ _ (omega arith)
 pub returns : goal.returns
 returns c =
     let a = c.args in
-    ap (λ n. a.at + n) c.min.ensures ∙ some_next a.table.now a.at (omega arith) c.size.result c.size.ensures.0
+    ap (λ n. a.at + n) c.min.ensures ∙ next-by a.table.now a.at (omega arith) c.size.result c.size.ensures.0

@@ -1,0 +1,2 @@
+-- A note by whether a longer source starts with its character
+pub mod Notes
