@@ -16,7 +16,7 @@ ghost use Rattle.edge.specs.Best.{best_means};
 ghost use Rattle.listing.specs.Sizes.{Countable};
 ghost use Rattle.listing.specs.Items.{Puts};
 ghost use Rattle.words.specs.Found.{Row, Rows};
-ghost use Rattle.words.specs.Given.{size_in, Prepared};
+ghost use Rattle.words.specs.Given.{size_in};
 ghost use Rattle.marks.specs.Marked.{Marked};
 ghost use Rattle.offers.specs.Texts.{Spoken, holding};
 ghost use Rattle.alternatives.specs.News.{offered, earlier, row_offered, holding_offers, Blank, offer_bytes, edge_bytes};

@@ -2,7 +2,7 @@
 // lower-case one, on a romanization in upper case. What it does is `rom::make_small`.
 #![tactic(auto)]
 
-ghost use Rattle.std.specs.Prelude.{◌≡◌, ◌+◌, ◌/◌, ◌<◌, ◌≤◌, length};
+ghost use Rattle.std.specs.Prelude.{◌≡◌, ◌+◌, ◌/◌, ◌≤◌, length};
 ghost use Rattle.base.specs.Bits.{flagged};
 ghost use Rattle.definition.specs.Expansion.{upper_case, capitalizes};
 ghost use Rattle.words.specs.Given.{World, kinds, size_in, kind_in, Lined};

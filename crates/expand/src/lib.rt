@@ -2,15 +2,15 @@
 #![tactic(auto)]
 
 ghost use Rattle.std.specs.Prelude.{true, ◌∷◌, ◌++◌, ◌≡◌, ◌+◌, ◌<◌, ◌≤◌, length, take};
-ghost use Rattle.base.specs.Lists.{has, is};
+ghost use Rattle.base.specs.Lists.{has};
 ghost use Rattle.definition.specs.Limits.{most_bytes, most_target, most_vowel};
-ghost use Rattle.definition.specs.Texts.{without_last, letter_e, at};
+ghost use Rattle.definition.specs.Texts.{without_last, letter_e};
 ghost use Rattle.definition.specs.Notes.{note_exp};
 ghost use Rattle.definition.specs.RuleRows.{rules_of};
 ghost use Rattle.definition.specs.Classes.{script};
 ghost use Rattle.definition.specs.Expansion.{work, capitalize, double, small_ya, small_target, grave, small_y, rest, thai, by_script, expand};
 ghost use Rattle.rom.specs.Rom.{text, held, Clean};
-ghost use Rattle.words.specs.Given.{World, kinds, size_in, Prepared, Lined};
+ghost use Rattle.words.specs.Given.{World, kinds, size_in, Lined};
 ghost use Rattle.rule_choice.specs.Lent.{Answers};
 ghost use Rattle.rule_choice.specs.Chosen.{chosen_means, Said, or_nothing};
 ghost use Rattle.words.specs.Choosing.{choices_of};

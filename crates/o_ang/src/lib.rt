@@ -10,7 +10,7 @@ ghost use Rattle.definition.specs.RuleRows.{rules_of};
 ghost use Rattle.definition.specs.Classes.{script};
 ghost use Rattle.definition.specs.Rules.{first_rule};
 ghost use Rattle.definition.specs.Expansion.{work, stretch_start, walk_start, o_ang_side, between, silent};
-ghost use Rattle.words.specs.Given.{World, kinds, seen, size_in, Prepared, Lined, Lent};
+ghost use Rattle.words.specs.Given.{World, kinds, seen, size_in, Lined, Lent};
 ghost use Rattle.words.specs.Choosing.{choices_of};
 ghost use Rattle.o_ang.specs.Sides.{beside};
 

@@ -1,14 +1,14 @@
 // Choosing a rule (rules.rs).
 #![tactic(auto)]
 
-ghost use Rattle.std.specs.Prelude.{◌≡◌, ◌||◌, List, ℕ, ◌<◌, ◌≤◌, drop};
+ghost use Rattle.std.specs.Prelude.{◌≡◌, ◌||◌, ◌<◌, ◌≤◌, drop};
 ghost use Rattle.base.specs.Pick.{pick};
-ghost use Rattle.base.specs.Lists.{has, bind};
+ghost use Rattle.base.specs.Lists.{bind};
 ghost use Rattle.definition.specs.Texts.{Text};
 ghost use Rattle.definition.specs.RuleRows.{rule_flag, whole_word_bit, rule_of, rules_of};
 ghost use Rattle.definition.specs.Boundaries.{word_end};
 ghost use Rattle.definition.specs.Rules.{higher, first_rule, lang, asks_start, holds_at, valid, choose, simple};
-ghost use Rattle.words.specs.Given.{World, kinds, size_in, Prepared, Told, Lined};
+ghost use Rattle.words.specs.Given.{World, kinds, size_in, Told, Lined};
 ghost use Rattle.words.specs.Found.{Row};
 ghost use Rattle.words.specs.Looks.{Looked};
 ghost use Rattle.rule_choice.specs.Lent.{Answers};

@@ -7,7 +7,7 @@ ghost use Rattle.base.specs.Pick.{pick};
 ghost use Rattle.base.specs.Lists.{has};
 ghost use Rattle.definition.specs.Building.{fall};
 ghost use Rattle.edge.specs.Slots.{two_bytes};
-ghost use Rattle.words.specs.Given.{size_in, kind_in, alpha_kind, Prepared};
+ghost use Rattle.words.specs.Given.{size_in, kind_in, alpha_kind};
 ghost use Rattle.rule_choice.specs.Chosen.{chosen_means};
 ghost use Rattle.passes.specs.Reached.{addressable, Somewhere};
 ghost use Rattle.passes.specs.Endings.{last_letter};

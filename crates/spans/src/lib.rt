@@ -11,7 +11,7 @@ ghost use Rattle.definition.specs.Expansion.{work};
 ghost use Rattle.definition.specs.Building.{is_tail, without_plus, grown, as_edge, edge_of, span_edge, fallback_plus};
 ghost use Rattle.table_vowels.specs.Told.{FineVowels};
 ghost use Rattle.rom.specs.Rom.{text, rom, Clean};
-ghost use Rattle.words.specs.Given.{World, size_in, Prepared, Lined};
+ghost use Rattle.words.specs.Given.{World, size_in, Lined};
 ghost use Rattle.words.specs.Looks.{Looked};
 ghost use Rattle.rule_choice.specs.Chosen.{chosen_means, Said};
 ghost use Rattle.steps.specs.Works.{work_in, Held};

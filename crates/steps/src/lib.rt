@@ -3,14 +3,13 @@
 
 ghost use Rattle.std.specs.Prelude.{true, ◌∷◌, ◌++◌, reverse, ◌≡◌, ℕ, ◌+◌, ◌-◌, ◌/◌, ◌%◌, ◌<◌, ◌≤◌, take};
 ghost use Rattle.base.specs.Bits.{flagged};
-ghost use Rattle.base.specs.Lists.{has};
 ghost use Rattle.definition.specs.Limits.{most_bytes, most_target};
 ghost use Rattle.definition.specs.Texts.{the_space, stands, vowels, last_is};
 ghost use Rattle.definition.specs.Notes.{note_exp};
 ghost use Rattle.definition.specs.RuleRows.{rules_of};
 ghost use Rattle.definition.specs.Expansion.{work, small_tsu, doubled, double, widen, around_by, around, before, trim, finish};
 ghost use Rattle.rom.specs.Rom.{rom, held, Clean};
-ghost use Rattle.words.specs.Given.{World, kinds, size_in, Prepared, Lined};
+ghost use Rattle.words.specs.Given.{World, kinds, size_in, Lined};
 ghost use Rattle.rule_choice.specs.Chosen.{chosen_means, Said};
 ghost use Rattle.steps.specs.Works.{work_in, Held, outcome, Left, letter_of, framed_by, before_by, kana, long_by, front_of, back_of};
 

@@ -4,10 +4,10 @@
 ghost use Rattle.std.specs.Prelude.{◌≡◌, ◌+◌, ◌/◌, ◌≤◌, length};
 ghost use Rattle.base.specs.Pick.{pick};
 ghost use Rattle.base.specs.Bits.{flagged};
-ghost use Rattle.base.specs.Lists.{has, head, is};
+ghost use Rattle.base.specs.Lists.{head, is};
 ghost use Rattle.definition.specs.Texts.{vowels, lower};
 ghost use Rattle.definition.specs.Syllables.{opens, next_rom, o_ang_test, vowel_test, syllable_end, full};
-ghost use Rattle.words.specs.Given.{size_in, kind_in, Prepared};
+ghost use Rattle.words.specs.Given.{size_in, kind_in};
 ghost use Rattle.words.specs.Looks.{Looked};
 ghost use Rattle.rule_choice.specs.Lent.{Answers};
 ghost use Rattle.rule_choice.specs.Chosen.{chosen_means, Said};

@@ -13,7 +13,7 @@ ghost use Rattle.table_vowels.specs.Told.{FineVowels};
 ghost use Rattle.rom.specs.Rom.{text, held, Clean};
 ghost use Rattle.ends.specs.Shown.{Within, shown, form_means};
 ghost use Rattle.ends.specs.Grew.{grew};
-ghost use Rattle.words.specs.Given.{World, kinds, size_in, kind_in, Prepared, Told, Lined};
+ghost use Rattle.words.specs.Given.{World, kinds, size_in, kind_in, Told, Lined};
 ghost use Rattle.rule_choice.specs.Lent.{Answers, lexicon_of};
 ghost use Rattle.vowel_step.specs.Ways.{keeping, silent, inside, settled};
 ghost use Rattle.vowel_step.specs.Steps.{Voices, voiced};
