@@ -258,6 +258,8 @@ fn check_part(part: &[u8], index: &mut [u32]) -> Result<(), TableFault>
 }
 
 // The first fault of a decomposition table. The index is left filled with every 16th row of the part that is right by itself.
+// It is not compiled into the call, where its loops lack registers and miss a bar of speed.
+#[inline(never)]
 pub fn check_decompositions(table: &[u8], index: &mut [u32]) -> Result<(), TableFault>
     requires { index.old ≡ replicate index_entries 0 }
     ensures answer { table_means result ≡ decomposition_fault table.now }
