@@ -34,6 +34,7 @@ pub fn add_romanization(
         n,
         0,
     );
+    // a `while`: each turn goes on to the next character that stands for others
     while at < n {
         let stretch = Stretch {
             count: taken.count,
