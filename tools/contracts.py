@@ -1,8 +1,8 @@
 #!/usr/bin/env python3
-"""Which promises moved between two states of the project: the contract of every public function with the meaning of each name in
-it, structs and enums too, and every file of the specs of definition, stretches and jettyfig, with those theorems of the first two
-that stand in proofs/. Prints what differs, and a last line that counts; fails where a promise that stands in both states has moved.
-A type that gains a derive promises what it promised, and one that loses a derive does not.
+"""Which promises moved between two states of the project: the contract of every public function, method and conversion with the
+meaning of each name in it, structs and enums too, and every file of the specs of definition, stretches and jettyfig, with those
+theorems of the first two that stand in proofs/. Prints what differs, and a last line that counts; fails where a promise that stands
+in both states has moved. A type that gains a derive promises what it promised, and one that loses a derive does not.
 
 usage: contracts.py BEFORE [AFTER] [--private]    states as git names them; without AFTER, the files as they are now;
                                                   with --private also the functions that are not public"""
@@ -10,21 +10,27 @@ import pathlib
 import re
 import subprocess
 import sys
+import textwrap
 
 ROOT = pathlib.Path(__file__).resolve().parents[1]
 FIXED = ["definition", "stretches", "jettyfig"]
 # crates with theorems that stand in the modules of the same name in proofs/, since a wrong edit of a definition makes them false
 BESIDE = ["definition", "stretches"]
-FUNCTION = re.compile(r'^((?:pub )?(?:extern "C" )?fn )(\w+)(.*?)^\{', re.M | re.S)
+# a body begins at a line's start, since a clause may have a brace at a line's end, too; without clauses at the first brace there is
+FUNCTION = re.compile(r'^(?:#[^\n]*\n)*((?:pub )?(?:extern "C" )?fn )(\w+)([^{]*|.*?^)\{\n.*?^\}', re.M | re.S)
+IMPL = re.compile(r"^(impl(?:<[^{]*?>)?)\s([^{]*)\{\n(.*?)^\}", re.M | re.S)
 TYPE = re.compile(r"^(?:#[^\n]*\n)*(?:pub )?(?:struct|enum) (\w+).*?^\}", re.M | re.S)
 DERIVE = re.compile(r"^#\[derive\((.*?)\)\]\n", re.M)
-USE = re.compile(r"^(?:ghost )?use Rattle\.(\w+)\.(?:specs|proofs)\.(?:declared\.(\w+)(?:\.TheVariants)?|(\w+))(?:\.\{(.*?)\}| as (\w+))", re.M)
-# the module under which specs find a crate's structs and enums
+USE = re.compile(r"^(?:ghost )?use Rattle\.(\w+)\.(?:specs|proofs)\.(?:declared\.(?:\w+\.)*?(\w+)(?:\.TheVariants)?|(\w+))"
+                 r"(?:\.\{(.*?)\}| as (\w+))", re.M)
+# the module under which specs find a crate's structs and enums: each by its name alone, whatever file it stands in, since lib.rt may
+# hand it on as its own
 TYPES = "declared"
 DECLARED = re.compile(r"\s*(?:abbrev |unfoldable )?(?:pub )?(?:record )?([^\s:(]+)")
 # a use of a crate's items: one of them, or several in brackets, which may take some lines
-ITEMS = re.compile(r"^(?:pub )?use (\w+)::(?:(\w+)|\{(.*?)\});", re.M | re.S)
-WORD = re.compile(r"[^\s(){},;.:=]+(?:\.[^\s(){},;.:=]+)?")
+ITEMS = re.compile(r"^(?:pub )?use (\w+)::(?:\w+::)*(?:(\w+)|\{(.*?)\});", re.M | re.S)
+MODULE = re.compile(r"^(?:pub )?mod (\w+);", re.M)
+WORD = re.compile(r"[^\s(){}<>\[\],;.:=&]+(?:\.[^\s(){}<>\[\],;.:=&]+)?")
 
 
 def git(*words):
@@ -41,17 +47,32 @@ def files(state, pattern):
     return {name: (ROOT / name).read_text(encoding="utf-8") if state is None else git("show", "%s:%s" % (state, name)) for name in found}
 
 
-def imported(text):
-    """what the names that a file takes from specs stand for: crate, module and name"""
-    found = {}
+def imported(text, own):
+    """what the names that a file of a crate takes from specs stand for: crate, module and name"""
+    found, inside = {}, {"crate", "self", "super", *MODULE.findall(text)}
     for crate, kind, module, names, alias in USE.findall(text):
         if alias:
             found[alias] = (crate, TYPES, kind) if kind else (crate, module, None)
         for name in names.split(", ") if names else []:
             found[name] = crate, TYPES if kind else module, kind or name
     for crate, one, several in ITEMS.findall(text):
-        found.update({name: (crate, TYPES, name) for name in re.findall(r"\w+", one or several)})
+        found.update({name: (own if crate in inside else crate, TYPES, name) for name in re.findall(r"\w+", one or several)})
     return found
+
+
+def functions(text):
+    """of each function of a file whether it is public, its name and its contract; a method's are with its type, and all that a type
+    has of a trait is one contract, as a conversion's ghost member and types"""
+    for head, function, rest in FUNCTION.findall(text):
+        yield head.startswith("pub"), function, rest
+    for impl, of, inner in IMPL.findall(text):
+        trait, _, of = " ".join(of.split()).rpartition(" for ")
+        name, inner = re.search(r"\w+", of).group(), textwrap.dedent(inner)
+        if trait:
+            yield True, "%s::%s" % (name, trait), " ".join((impl, trait, "for", of, FUNCTION.sub(r"\1\2\3", inner)))
+            continue
+        for head, function, rest in FUNCTION.findall(inner):
+            yield head.startswith("pub"), "%s::%s" % (name, function), " ".join((impl, of, rest))
 
 
 def meant(text, names):
@@ -66,21 +87,23 @@ def meant(text, names):
 class State:
     def __init__(self, state):
         self.public, self.private, self.speaks, self.defined, self.uses, self.derives = {}, {}, {}, {}, {}, {}
-        for path, text in files(state, r"crates/\w+/src/lib\.rt").items():
-            crate, names, text = path.split("/")[1], imported(text), re.sub(r"^ *//.*\n", "", text, flags=re.M)
+        for path, text in files(state, r"crates/\w+/src/.*\.rt").items():
+            crate = path.split("/")[1]
+            names, text = imported(text, crate), re.sub(r"^ *//.*\n", "", text, flags=re.M)
             names.update({made.group(1): (crate, TYPES, made.group(1)) for made in TYPE.finditer(text)})
             for made in TYPE.finditer(text):
-                self.defined[crate, TYPES, made.group(1)] = [" ".join(DERIVE.sub("", made.group()).split())]
-                self.derives[crate, TYPES, made.group(1)] = {name for of in DERIVE.findall(made.group()) for name in re.findall(r"\w+", of)}
-                self.uses[crate, TYPES, made.group(1)] = set(meant(made.group(), names)) - {(crate, TYPES, made.group(1))}
-            for head, function, rest in FUNCTION.findall(text):
+                key = crate, TYPES, made.group(1)
+                self.defined.setdefault(key, []).append(" ".join(DERIVE.sub("", made.group()).split()))
+                self.derives.setdefault(key, set()).update(name for of in DERIVE.findall(made.group()) for name in re.findall(r"\w+", of))
+                self.uses.setdefault(key, set()).update(set(meant(made.group(), names)) - {key})
+            for public, function, words in functions(text):
                 name = "%s::%s" % (crate, function)
-                contract = re.sub(r"\( | (?=\))|, (?=\))", lambda m: m.group().strip(" ,"), " ".join(rest.split()))
-                (self.public if head.startswith("pub") else self.private)[name] = contract
-                self.speaks[name] = set(meant(contract, names))
+                contract = re.sub(r"\( | (?=\))|, (?=\))", lambda m: m.group().strip(" ,"), " ".join(words.split()))
+                (self.public if public else self.private).setdefault(name, []).append(contract)
+                self.speaks.setdefault(name, set()).update(meant(contract, names))
         for path, text in files(state, r"crates/(?:\w+/specs|(?:%s)/proofs)/\w+\.antt" % "|".join(BESIDE)).items():
             crate, module = path.split("/")[1], pathlib.Path(path).stem
-            names, blocks = imported(text), []
+            names, blocks = imported(text, crate), []
             for block in re.split(r"\n\s*\n", text):
                 lines = [line for line in block.split("\n") if not re.match(r"\s*(--|use |pub mod |module |unfolding )", line)]
                 if lines and DECLARED.match(lines[0]):

@@ -61,6 +61,43 @@ pub fn same(n: Number) -> Number
     n
 }
 """
+# a type in a file of its own, which lib.rt hands on; a method of it, and a conversion to it
+KEPT = """// A number that was checked.
+#[derive(Clone, Copy)]
+pub struct Kept {
+    pub digits: u32,
+    pub ghost small: { digits < 8 },
+}
+"""
+HANDED = """mod kept;
+
+pub use kept::Kept;
+
+impl Kept {
+    // One more.
+    pub fn more(self) -> u32
+        ensures { result ≡ self.digits + 1 }
+    {
+        self.digits + 1
+    }
+}
+
+impl From<bool> for Kept {
+    ghost from_gives = { λ b kept. kept.digits ≡ 1 };
+
+    fn from(b: bool) -> Kept {
+        Kept { digits: 1 }
+    }
+}
+"""
+TAKING = """use sum::Kept;
+
+pub fn digits(kept: &Kept) -> u32
+    ensures { result ≡ kept.now.digits }
+{
+    kept.digits
+}
+"""
 LAST = "%d contracts of public functions stand, %d of them moved; %d functions gone, %d new; %d files of the specs of definition, stretches, jettyfig, %d differ"
 
 
@@ -89,6 +126,12 @@ class Contracts(unittest.TestCase):
         done = subprocess.run([sys.executable, self.root / "tools" / "contracts.py", "HEAD", "--private"], capture_output=True, text=True)
         self.assertEqual((done.returncode, done.stdout.splitlines()[-1:]), (status, [LAST % (*numbers, *specs)]), done.stdout + done.stderr)
         return done.stdout
+
+    def hand_on(self):
+        self.write("src/kept.rt", KEPT)
+        self.write("src/lib.rt", HANDED)
+        self.write("src/lib.rt", TAKING, "above")
+        self.commit()
 
     def test_another_body(self):
         self.write("src/lib.rt", CODE % "2 * n")
@@ -135,6 +178,39 @@ class Contracts(unittest.TestCase):
     def test_no_derive(self):
         self.write("src/lib.rt", (CODE % "n + n").replace("#[derive(Drop)]\n", ""))
         self.assertIn("sum::next speaks of sum.Sums.value, sum.declared.Number", self.told(1, 2, 1, 0, 0))
+
+    def test_another_ghost_field_in_another_file(self):
+        self.hand_on()
+        self.write("src/kept.rt", KEPT.replace("digits < 8", "digits < 9"))
+        self.assertIn("above::digits speaks of sum.declared.Kept", self.told(1, 3, 3, 0, 0))
+
+    def test_another_file(self):
+        self.hand_on()
+        self.write("src/kept.rt", "")
+        self.write("src/lib.rt", HANDED.replace("mod kept;\n\npub use kept::Kept;\n", KEPT))
+        self.told(0, 3, 0, 0, 0)
+
+    def test_another_struct_by_its_file(self):
+        self.write("src/kept.rt", KEPT)
+        self.write("specs/Sums.antt", (SPECS % "0").replace("declared.Number", "declared.kept.Kept").replace("Number", "Kept"))
+        self.commit()
+        self.write("src/kept.rt", KEPT.replace("digits < 8", "digits < 9"))
+        self.assertIn("sum::next speaks of sum.Sums.value", self.told(1, 2, 1, 0, 0))
+
+    def test_another_contract_of_a_method(self):
+        self.hand_on()
+        self.write("src/lib.rt", HANDED.replace("≡ self.digits + 1", "≡ self.digits + 2"))
+        self.assertIn("public functions, moved: sum::Kept::more", self.told(1, 3, 1, 0, 0))
+
+    def test_another_conversion(self):
+        self.hand_on()
+        self.write("src/lib.rt", HANDED.replace("kept.digits ≡ 1", "kept.digits ≡ 2"))
+        self.assertIn("public functions, moved: sum::Kept::From<bool>", self.told(1, 3, 1, 0, 0))
+
+    def test_another_body_of_a_method_and_a_conversion(self):
+        self.hand_on()
+        self.write("src/lib.rt", HANDED.replace("  self.digits + 1", "  1 + self.digits").replace("digits: 1 }", "digits: 1u32 }"))
+        self.told(0, 3, 0, 0, 0)
 
     def test_another_theorem(self):
         self.write("proofs/Laws.antt", "pub law : 1 ≡ 1\nlaw = refl\n", "definition")
