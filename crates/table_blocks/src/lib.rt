@@ -50,7 +50,7 @@ pub fn all_small(s: &[u8], from: usize, to: usize) -> bool
     requires { (from ≤ to) × (to ≤ length s.now) }
     ensures { result ≡ all small (take (to - from) (drop from s.now)) }
 {
-    s[from..to].iter().all(|b| small(u32::from(*b)))
+    (from..to).all(|at| small(base::byte(s, at)))
 }
 
 // The block's header: version 1, and a length that fills the slice.
