@@ -2,9 +2,9 @@
 pub mod Backwards
 pub mod Writes
 pub mod Capitals
--- What is left of lent bytes, and their last
+-- What is left of lent bytes, their first and their last
 pub mod Walks
--- no character past z is in a set
+-- the letters of a set, and none past z
 pub mod Past
 -- what is written a turn at a time
 pub mod Turns

@@ -7,8 +7,9 @@ use native.Mathlib.Omega.{arith}
 use native.Mathlib.Nat.{add-zero}
 use native.Mathlib.Numerals.{add-one}
 use native.Mathlib.Decide.{dec_lt}
-use lib.ListN.{length, take, drop, set, get_or, length-append, length-replicate, length-drop, drop_of_length-le, get_or-eq_default}
-use lib.Seq.{slice, take-take, take_all, length-take-le, length-slice, get_or-take, get_or-drop}
+use lib.ListN.{length, take, drop, set, get_or, length-append, length-replicate, length-drop, take-append-drop, drop_of_length-le, get_or-eq_default}
+use Rattle.std.proofs.lemmas.List.{drop-replicate}
+use lib.Seq.{slice, take-take, take_all, drop-append-add, length-take-le, length-slice, get_or-take, get_or-drop}
 use Rattle.base.specs.Pick.{pick}
 use Rattle.base.specs.Copies.{copied}
 use Rattle.definition.specs.Limits.{most_bytes}
@@ -47,6 +48,13 @@ module _ (d : List ℕ) (n : ℕ) (c : Clean (held d n)) where
           ap (λ (y : List ℕ). set y i v) e ∙ ap (set (take i (x ∷ d) ++ drop i d) i) q ∙ copied d (x ∷ d) i (omega arith) (omega arith),
           ap (λ (y : List ℕ). get_or y i 0) e ∙ still d (x ∷ d) i i (omega arith) (omega arith) ∙ ap (λ (k : ℕ). get_or (x ∷ d) k 0) (sym (add-one i)),
         )
+
+    pub front-is : (b : List ℕ) (i : ℕ) → i ≡ n + 1 → b ≡ take i (x ∷ d) ++ drop i d → held b (n + 1) ≡ rom (x ∷ take n d)
+    front-is b i z e =
+        let l = text-length c in
+        as_rom b (x ∷ take n d) (n + 1) (omega arith)
+        (e ∙ ap (λ (k : ℕ). take k (x ∷ d) ++ drop k d) z ∙ ap (λ (k : ℕ). take k (x ∷ d) ++ drop (n + 1) d) (add-one n)
+        ∙ ap (λ (w : List ℕ). (x ∷ take n d) ++ w) (behind c 1))
 
   -- a part moved to the front, a turn at a time
   module _ (from to : ℕ) (l : from ≤ to) (h : to ≤ n) where
@@ -91,6 +99,18 @@ module _ (d : List ℕ) (n : ℕ) (c : Clean (held d n)) where
         ∙ ap (λ (w : List ℕ). get_or (drop from w) i 0) (sym (take-take to n d h)) ∙ sym (padded kept (most_bytes - (to - from)) i) in
         ap (λ (y : List ℕ). set y i v) e ∙ ap (set (take i moved ++ drop i d) i) value
         ∙ copied d moved i (omega (arith, bytes-length c)) (omega (arith, moved_length))
+
+    pub kept-is : (b : List ℕ) (i : ℕ) → i ≡ n → b ≡ take i moved ++ drop i d → held b (to - from) ≡ rom (slice from to (take n d))
+    kept-is b i z e =
+        let k = n - (to - from) in
+        let m = most_bytes - (to - from) in
+        let p : n ≡ length kept + k = omega (arith, kept-length) in
+        let q : m - k ≡ most_bytes - (n + 0) = omega arith in
+        let rest : drop n d ≡ drop n moved =
+        ap (λ (j : ℕ). drop j d) (sym (add-zero n)) ∙ behind c 0 ∙ ap zeros (sym q)
+        ∙ sym (ap (λ (j : ℕ). drop j moved) p ∙ drop-append-add kept (zeros m) k ∙ drop-replicate k m 0) in
+        as_rom b kept (to - from) kept-length
+        (e ∙ ap (λ (j : ℕ). take j moved ++ drop j d) z ∙ ap (λ (w : List ℕ). take n moved ++ w) rest ∙ take-append-drop n moved)
 
 -- a later byte of the text that is to be
 lower-at : (w : Text) (i : ℕ) → get_or (map lower w) i 0 ≡ lower (get_or w i 0)

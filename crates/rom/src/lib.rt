@@ -111,6 +111,7 @@ pub fn starts_with(s: &[u8], w: &[u8]) -> bool
 }
 
 // Is a character in a set?
+#[tactic(auto, using(crate::proofs::Past::letter_bit), unfolding(crate::specs::Sets::member))]
 pub fn is_in(set: u32, c: u32) -> bool
     ensures { result ≡ member set c }
 {
