@@ -373,6 +373,7 @@ fn row_parts(rules: &[u8], row: usize, size: usize) -> RowParts
 }
 
 // The row at `row`: its parts, or its first fault with its field's offset in the row.
+#[tactic(auto, unfolding(crate::specs::Row::Parted))]
 pub fn read_row(rules: &[u8], row: usize) -> Result<RowParts, RuleFault>
     requires { row ≤ length rules.now }
     ensures { (row_means result ≡ read_row (drop row rules.now)) × Parted (drop row rules.now) result }

@@ -53,6 +53,7 @@ pub fn compare_source(rules: &[u8], row: usize, w: &[u32]) -> Ordering
 
 // The offset of row `n`, put into the index if it is one of those and there is room: of this table, and of the decomposition
 // table.
+#[tactic(auto, unfolding(crate::specs::Index::entered, base::specs::Pick::pick))]
 pub fn put_offset(index: &mut [u32], n: usize, at: usize)
     requires { at < 0x100000000 }
     ensures { index.new ≡ entered n at index.old }
