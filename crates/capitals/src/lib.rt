@@ -20,13 +20,14 @@ const FIRST_SMALL: u32 = 97;
 
 const LAST_SMALL: u32 = 122;
 
-// Is a romanization in upper case? It has a capital, and no small letter; other bytes are not asked.
-#[tactic(auto, unfolding(definition::specs::Expansion::upper_case, definition::specs::Blocks::small, definition::specs::Texts::capital, rom::specs::Sets::between))]
+// Is a romanization in upper case? It has a capital, and no small letter; other bytes are not asked. Most have a small letter in front,
+// which ends the first question there, so that this is asked first.
+#[tactic(auto, using(crate::specs::Ways::some_small, crate::specs::Ways::no_small))]
 fn is_upper_case(text: &[u8]) -> bool
     ensures { result ≡ upper_case text.now }
 {
-    rom::any_between(text, FIRST_CAPITAL, LAST_CAPITAL)
-        && !rom::any_between(text, FIRST_SMALL, LAST_SMALL)
+    !rom::any_between(text, FIRST_SMALL, LAST_SMALL)
+        && rom::any_between(text, FIRST_CAPITAL, LAST_CAPITAL)
 }
 
 // Is the character at a place of the line lower case?
