@@ -3,14 +3,15 @@ use mathlib.Core.Bool.{true, false, true≢false}
 use mathlib.Core.List.{[], ◌∷◌}
 use mathlib.Core.Option.{Option, none, some}
 use mathlib.Core.Path.{◌≡◌, refl, sym, ap}
-use Prim.Native.Nat.{◌<◌}
+use Prim.Native.Nat.{ℕ, ◌<◌}
 use native.Mathlib.Omega.{arith}
 use lib.Dec.{eqb}
 use lib.ListN.{length, drop}
 use Rattle.base.specs.Bools.{and_left}
 use Rattle.base.specs.Lists.{head, tail, has, is, maybe}
-use Rattle.definition.specs.Texts.{Text, plus_sign}
+use Rattle.definition.specs.Texts.{Text, plus_sign, among}
 use Rattle.definition.specs.Building.{is_tail, fallback_plus}
+use Rattle.rom.specs.Sets.{member, plus_before_set, in_plus-before}
 use Rattle.rule_choice.specs.Chosen.{or_nothing}
 use Rattle.spans.specs.Spans.{plus_dropped, fallback_bytes}
 
@@ -27,6 +28,10 @@ tail_not_empty w e = plus_there w (and_left _ _ e)
 pub fallback_not_empty : (w : Text) → fallback_plus w ≡ true → 0 < length w
 unfolding fallback_plus
 fallback_not_empty w e = plus_there w (and_left _ _ e)
+
+-- A plus is dropped before a letter of the set: the law of `rom`, under a name that an attribute can have
+pub in_plus_before : (c : ℕ) → member plus_before_set c ≡ among "mngr" c
+in_plus_before = in_plus-before
 
 -- all but its first byte
 pub behind_first : (w : Text) → drop 1 w ≡ tail w

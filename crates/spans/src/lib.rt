@@ -255,11 +255,11 @@ pub fn put_span_edge(
 }
 
 // A fallback's plus is dropped before m, n, g or r.
-#[tactic(auto, unfolding(definition::specs::Building::fallback_plus, base::specs::Lists::head, definition::specs::Texts::among))]
+#[tactic(auto, using(crate::proofs::Tails::in_plus_before), unfolding(definition::specs::Building::fallback_plus, base::specs::Lists::head))]
 fn fallback_plus(w: &[u8]) -> bool
     ensures { result ≡ fallback_plus w.now }
 {
-    matches!(w, [b'+', b'm' | b'n' | b'g' | b'r', ..])
+    matches!(w, [b'+', c, ..] if rom::is_in(rom::PLUS_BEFORE, u32::from(*c)))
 }
 
 #[tactic(auto, using(crate::proofs::Tails::fallback_not_empty, crate::proofs::Tails::behind_first), unfolding(crate::specs::Spans::plus_dropped, base::specs::Pick::pick))]
