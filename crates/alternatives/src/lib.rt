@@ -200,7 +200,7 @@ fn put_filtered(
         (holding dicts.now.code.now asked.start asked.end dicts.now.rules.now asked.first rows)) edge_bytes
         (at, out.old) (result, out.new) }
 {
-    cells.fill(0);
+    lent_bytes::clear(cells);
     put_rows(out, at, dicts, asked, rows, e, text, cells)
 }
 

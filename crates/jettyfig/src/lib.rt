@@ -445,11 +445,11 @@ fn show(
         memory.out,
     );
     if is_uncounted(built.mode, needed) {
-        memory.out.fill(0);
+        lent_bytes::clear(memory.out);
         return Err(Refusal::Listing);
     }
     if memory.out.len() < needed {
-        memory.out.fill(0);
+        lent_bytes::clear(memory.out);
         return Err(Refusal::Output { needed });
     }
     Ok(Romanized {
@@ -693,9 +693,9 @@ pub fn jettyfig_romanize<'a>(
         code,
     };
     let mut memory = Memory { slots, room, out };
-    memory.out.fill(0);
+    lent_bytes::clear(memory.out);
     let called = romanize(mode, capitals, o_ang, readings, &tables, text, &mut memory);
-    memory.slots.fill(0);
-    memory.room.fill(0);
+    lent_bytes::clear(memory.slots);
+    lent_bytes::clear(memory.room);
     Answer::from(called)
 }
