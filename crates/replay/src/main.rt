@@ -2,7 +2,7 @@
 // output or rooms are other than given. Slots, text room and output are full of rubbish before each call.
 #![tactic(auto)]
 
-ghost use Rattle.std.specs.Prelude.{◌≡◌, ◌+◌, ◌<◌, length};
+ghost use Rattle.std.specs.Prelude.{◌≡◌, ◌+◌, ◌<◌, length, get_or};
 ghost use Rattle.replay.specs.Given.{number_at, zeros, are_numbers, is_right};
 
 use jettyfig::Answer;
@@ -34,7 +34,9 @@ fn number(input: &[u8], at: usize) -> usize
 }
 
 // A byte; past the end it is 0.
-fn byte(input: &[u8], at: usize) -> u8 {
+fn byte(input: &[u8], at: usize) -> u8
+    ensures { result ≡ get_or input.now at 0 }
+{
     input.get(at).copied().unwrap_or(0)
 }
 

@@ -1,5 +1,5 @@
 -- What the arguments and the text on standard input say.
-use Rattle.std.specs.Prelude.{Bool, true, ◌&&◌, List, [], ◌∷◌, ℕ, ◌-◌, eqb, leb, Option, None, Some}
+use Rattle.std.specs.Prelude.{Bool, true, ◌&&◌, List, [], ◌∷◌, ℕ, ◌-◌, eqb, leb, Option, None, Some, unwrap_or}
 use Rattle.base.specs.Pick.{pick}
 use Rattle.base.specs.Lists.{same}
 use Rattle.definition.specs.Texts.{chars, last_is, without_last}
@@ -10,6 +10,14 @@ unfoldable pub mode_of : List ℕ → Option ℕ
 mode_of [] = None
 mode_of (d ∷ []) = pick (leb 48 d && leb d 57) (Some (d - 48)) None
 mode_of (d ∷ e ∷ w) = None
+
+-- no mode, which the call refuses
+abbrev pub no_mode : ℕ
+no_mode = 255
+
+-- the mode that the call is asked
+unfoldable pub mode_asked : List ℕ → ℕ
+mode_asked w = unwrap_or (mode_of w) no_mode
 
 -- what words behind the mode choose: one more names a choice, and no word may name one twice or name none
 abbrev chosen_as : Bool → Bool → Bool → Chosen

@@ -12,7 +12,7 @@
 
 ghost use Rattle.std.specs.Prelude.{◌≡◌, ◌+◌, ◌<◌, ◌≤◌, length, IfOk, IfSome};
 ghost use Rattle.definition.specs.Limits.{most_rows};
-ghost use Rattle.romanize.specs.Arguments.{mode_of, with_choice, code_of, without_line_end};
+ghost use Rattle.romanize.specs.Arguments.{mode_of, mode_asked, with_choice, code_of, without_line_end};
 
 use jettyfig::Answer;
 use rule_row_faults::{Fault, RuleFault};
@@ -199,6 +199,14 @@ fn mode_of(arg: &[u8]) -> Option<u8>
         digit @ b'0'..=b'9' => Some(digit - b'0'),
         _ => None,
     }
+}
+
+// The mode that the call is asked: it refuses what is not one digit.
+#[tactic(auto, unfolding(crate::specs::Arguments::mode_asked))]
+fn mode_asked(arg: &[u8]) -> u8
+    ensures { result ≡ mode_asked arg.now }
+{
+    mode_of(arg).unwrap_or(NO_MODE)
 }
 
 // A word more, which names a choice that no word before it has named; else none.
@@ -493,7 +501,7 @@ fn with_tables(
     romanize(
         &mut rt.stdout(),
         &mut err,
-        mode_of(&mode[..m]).unwrap_or(NO_MODE),
+        mode_asked(&mode[..m]),
         chosen,
         rules,
         classes,

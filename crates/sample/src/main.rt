@@ -5,6 +5,9 @@
 // the failure stays, and nothing is written after it.
 #![tactic(auto)]
 
+ghost use Rattle.std.specs.Prelude.{◌≡◌, ◌<◌};
+ghost use Rattle.sample.specs.Hex.{hex_digit};
+
 use jettyfig::Answer;
 use std::io;
 use std::io::Write;
@@ -41,10 +44,22 @@ const VOWELS: [u8; 13] = [1, 0, 0, 0, 8, 5, 0, 1, 97, 6, 0, 1, 97];
 // Decompositions: none.
 const DECOMPOSITIONS: [u8; 5] = [1, 0, 0, 0, 0];
 
-// The first `n` bytes in hex, two digits for each, and a line end.
+// A digit in lower-case hex.
+fn digit(x: u8) -> u8
+    requires { x < 16 }
+    ensures { result ≡ hex_digit x }
+{
+    if x < 10 {
+        return 48 + x;
+    }
+    87 + x
+}
+
+// The first `n` bytes in hex, two digits for each, and a line end. Both digits go out in one write: standard output has no buffer, and
+// `{b:02x}` would write the 0 before a small byte by itself.
 fn print_hex<W: Write>(out: &mut W, bytes: &[u8], n: usize) -> io::Result<()> {
     for b in bytes.iter().take(n) {
-        write!(out, "{b:02x}")?;
+        out.write_all(&[digit(*b / 16 % 16), digit(*b % 16)])?;
     }
     out.write_all(b"\n")
 }
