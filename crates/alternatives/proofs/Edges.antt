@@ -69,23 +69,23 @@ core-bytes b core t y =
 
 -- The edge in a slot: its numbers and its text as they were read, the text copied
 module _ (room s : List ℕ) (n used : ℕ) (h : Sound n (edge_of room s)) (t : Slot room used s) (l : used ≤ length room) where
-  slot-short : length (bytes_of room s) ≤ most_bytes
+  pub slot-short : length (bytes_of room s) ≤ most_bytes
   slot-short = let k = h.short in omega (arith, k, slot-size room s used t l, slot-length room s used t l)
 
   module _ (e : Numbers) (q : e ≡ numbers_of s) where
-    span_inside : (e.from < e.to) × (e.to ≤ n)
+    pub span_inside : (e.from < e.to) × (e.to ≤ n)
     unfolding edge_by
     span_inside = subst (λ (m : Numbers). (m.from < m.to) × (m.to ≤ n)) (sym q) (h.forward, h.inside)
 
     module _ (b : List ℕ) (p : b ≡ bytes_of room s) where
-      spoken_at : Spoken e b
+      pub spoken_at : Spoken e b
       unfolding edge_by
       spoken_at = subst (λ (m : Numbers). Spoken m b) (sym q) (subst (Spoken (numbers_of s)) (sym p) (record {
         text = t.text;
         core = λ z. core-bytes (bytes_of room s) (numbers_of s).core t.text (h.core.there z);
       }))
 
-      edge-at-slot : edge_by e b ≡ edge_of room s
+      pub edge-at-slot : edge_by e b ≡ edge_of room s
       edge-at-slot = ap (λ m. edge_by m b) q ∙ ap (edge_by (numbers_of s)) p
 
 -- The rows with a source are no more than the table has
@@ -98,7 +98,7 @@ keep-most f (x ∷ l) = go (f x) (keep-most f l)
     go true h = omega arith
     go false h = omega arith
 
-rows_few : (b : List ℕ) (w : Text) (at n : ℕ) → rule_fault b ≡ none → rules_in b at n ≡ with_source w (rules_of b) → Rows b at n
+pub rows_few : (b : List ℕ) (w : Text) (at n : ℕ) → rule_fault b ≡ none → rules_in b at n ≡ with_source w (rules_of b) → Rows b at n
     → n ≤ most_rows
 unfolding with_source
 rows_few b w at n e f r =
@@ -172,7 +172,7 @@ pub best_sound : (n p : ℕ) (es : List Edge) (o : Option Edge) → All (Sound n
 best_sound n p es o h e = subst (Opt (Sound n)) (sym e) (Opt-map (λ x z. z.0) (right_best es p) (right-all (Sound n) p es h))
 
 -- where the path goes on from there
-next-inside : (n p : ℕ) (es : List Edge) (o : Option Edge) → All (Sound n) es → o ≡ right_best es p → p < n → (p < next o p) × (next o p ≤ n)
+pub next-inside : (n p : ℕ) (es : List Edge) (o : Option Edge) → All (Sound n) es → o ≡ right_best es p → p < n → (p < next o p) × (next o p ≤ n)
 next-inside n p es o h e l = go o (subst (Opt (λ x. Sound n x × (x.from ≡ p))) (sym e) (right-all (Sound n) p es h))
   where
     go : (o : Option Edge) → Opt (λ x. Sound n x × (x.from ≡ p)) o → (p < next o p) × (next o p ≤ n)
@@ -233,11 +233,11 @@ module _ (slots room room' : List ℕ) (count used : ℕ) (h : Stored slots room
   }
 
 -- the slot that was answered is one of them
-slot-found : (slots room : List ℕ) (count used o : ℕ) → Stored slots room count used → Found count (Some o) → Slot room used (drop o slots)
+pub slot-found : (slots room : List ℕ) (count used o : ℕ) → Stored slots room count used → Found count (Some o) → Slot room used (drop o slots)
 slot-found slots room count used o h f =
     subst (λ k. Slot room used (drop k slots)) (sym f.2) (all-at slot_bytes (Slot room used) count f.0 slots f.1 h.rows)
 
-slot-wide : (room s : List ℕ) (used : ℕ) → used ≤ length room → Slot room used s → Slot room (length room) s
+pub slot-wide : (room s : List ℕ) (used : ℕ) → used ≤ length room → Slot room used s → Slot room (length room) s
 slot-wide room s used l h = slot-agree room room used refl s s refl (length room) l h
 
 -- The room behind the texts was lent, and came back

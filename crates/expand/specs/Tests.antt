@@ -76,6 +76,19 @@ module _ (L : Lexicon) (t : Text) (v : View) where
     unfolding rest ret ◌>>=◌
     rest-is d f = did (rw (outcome d, outcome f))
 
+  -- What the steps by script left: the expansion ends with it where they were done, else the rest comes
+  unfoldable pub onward : ℕ → Bool → Work → M Work
+  onward o done w = pick done (ret w) (rest L t v o w)
+
+  module _ (o : ℕ) (w : Work) (m : Mem) {b : Bool} where
+    pub ends_there : b ≡ true → {f : M Work} → onward o b w ≡ f → Did (f m) w m
+    unfolding onward ret pick
+    ends_there d e = did (ap (λ (g : M Work). g m) (sym e) ∙ rw d)
+
+    pub goes_on : b ≡ false → {f : M Work} → onward o b w ≡ f → {x : Work} {m₁ : Mem} → Did (rest L t v o w m) x m₁ → Did (f m) x m₁
+    unfolding onward pick
+    goes_on d e h = did (ap (λ (g : M Work). g m) (sym e) ∙ rw d (outcome h))
+
   -- Thai
   module _ (c : Choices) (o : ℕ) (w : Work) where
     pub patterned : {x : Work} → some x ≡ around L.rules L.classes t w → ret x ≡ thai L t v c o w

@@ -1,6 +1,6 @@
 -- The edge of a span can be written: it lies within the text, and its text is ASCII.
-use Rattle.std.specs.Prelude.{ℕ, ◌≤◌, ◌<◌, List, ◌≡◌, length, take}
-use Rattle.std.proofs.Math.Option.{some}
+use Rattle.std.specs.Prelude.{ℕ, ◌≤◌, ◌<◌, List, ◌≡◌, refl, length, take, None}
+use Rattle.std.proofs.Math.Option.{none, some}
 use Rattle.std.proofs.Common.{sym, subst, arith}
 use Rattle.std.proofs.Math.Path.{ap}
 use Rattle.base.specs.Alls.{Opt}
@@ -20,7 +20,11 @@ use Rattle.utf8.specs.Encodings.{low_bytes, low-decoded}
 use Rattle.edge.specs.Slots.{four_bytes, edge_by}
 use Rattle.edge.specs.Adding.{Writable}
 use Rattle.spans.specs.declared.Spanned.{Spanned}
-use Rattle.spans.specs.Spans.{edge_with}
+use Rattle.spans.specs.Spans.{edge_with, found}
+
+-- what was answered, where nothing is there
+pub found_not : (b : List ℕ) → found b None ≡ none
+found_not b = refl
 
 module _ (b : List ℕ) (r : Spanned) where
   abbrev w : List ℕ

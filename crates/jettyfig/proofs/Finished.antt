@@ -79,7 +79,7 @@ module _ {rules ready line vowels bytes code S R P : List ℕ} {filled : Filled}
 
     module _ (mode : ℕ) (text : List ℕ) where
       -- a fallback that did not fit is what the call refuses
-      second_stops : (out : List ℕ) → out ≡ replicate (length out) 0 → (n p : ℕ)
+      pub second_stops : (out : List ℕ) → out ≡ replicate (length out) 0 → (n p : ℕ)
           → misfit (length S / slot_bytes) (length R) (lattice D ds t).0 ≡ some (refuse n p)
           → returned (refusing n p) out ≡ accepted (given mode w.choices rules w.classes vowels bytes code text (length S) (length R) (length out)) D t
       unfolding decompositions

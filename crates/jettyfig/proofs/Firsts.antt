@@ -53,7 +53,7 @@ module _ (dicts : Dicts) (S R : List ℕ) (w : World) where
       given mode w.choices dicts.rules.now w.classes dicts.vowels.now dicts.decompositions.now dicts.code.now text
 
   -- an edge that did not fit is what the call refuses
-  first_stops : (mode : ℕ) (text out : List ℕ) → out ≡ replicate (length out) 0 → (n p : ℕ)
+  pub first_stops : (mode : ℕ) (text out : List ℕ) → out ≡ replicate (length out) 0 → (n p : ℕ)
       → overflow D ds t (length S / slot_bytes) (length R) first.0 ≡ some (refuse n p)
       → returned (refusing n p) out ≡ accepted (call mode text (length S) (length R) (length out)) D t
   unfolding decompositions

@@ -247,10 +247,10 @@ module _ (mode : ℕ) (a : Choices) (text : List ℕ) (size : ℕ) (l : all_read
   abbrev zeros : List ℕ
   zeros = replicate size 0
 
-  zeros-long : length zeros ≡ size
+  pub zeros-long : length zeros ≡ size
   zeros-long = length-replicate {A = ℕ} size 0
 
-  enough : all_ready ≤ length zeros
+  pub enough : all_ready ≤ length zeros
   enough = omega (arith, zeros-long)
 
   pub fresh : Fresh text (asking mode a zeros)

@@ -1,5 +1,5 @@
--- What a mode past the highest is refused by, and that a text has few characters and the output is zeros still: named on
--- `check_asked` and `respond`, so that no answer there hangs on the words of a condition.
+-- That a text has few characters, and how long zeros are: the first is named on `is_short`, so that no answer there hangs on the words
+-- of a condition.
 use Prim.Native.Nat.{ℕ, ◌≤◌}
 use mathlib.Core.List.{List}
 use mathlib.Core.Path.{◌≡◌}

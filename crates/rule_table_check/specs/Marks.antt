@@ -81,6 +81,12 @@ abbrev pub Past : Text → List ℕ → ℕ → Option ℕ → Type 0
 Past old s row (Some end) = (true ≡ rule_right old s) × (end ≡ row + rule_size s)
 Past old s row None = false ≡ rule_right old s
 
+pub past-right : (old : Text) (s : List ℕ) (row r : ℕ) → r ≡ row + rule_size s → true ≡ rule_right old s → Past old s row (Some r)
+past-right old s row r e h = (h, e)
+
+pub past-wrong : (old : Text) (s : List ℕ) (row : ℕ) → false ≡ rule_right old s → Past old s row None
+past-wrong old s row h = h
+
 -- after a right row: the mark, and what rises over it
 module _ (b : List ℕ) (at low : ℕ) (e : low ≡ be3 (drop at b) 6 + 1) where
   pub mark-after : mark_at b at low ≡ rule_source (drop at b)

@@ -108,6 +108,10 @@ module _ (low : ℕ) (s : List ℕ) (row past : ℕ) (p : Plain low s row past) 
   unfolding rule_right
   plain-right old r = sym (rw (fits, sourced old r, coded, targeted, ended, othered) refl)
 
+-- 0 says nothing
+pub not_plain : {low : ℕ} {s : List ℕ} {row : ℕ} → 0 < 0 → Plain low s row 0
+not_plain e = absurd (omega arith)
+
 -- a row is plain where the tests say so, each of what was read
 module _ (b : List ℕ) (row low n c : ℕ) where
   pub told : n ≡ get_or (drop row b) 10 0 → 12 + n ≤ length b - row → rule_size (drop row b) ≡ 12 + n

@@ -1,5 +1,5 @@
 -- The edge of a span as it is answered, and the text of a fallback.
-use Rattle.std.specs.Prelude.{Option, Some, None, List, ◌≡◌, ℕ, eqb, take}
+use Rattle.std.specs.Prelude.{Option, Some, None, List, ◌≡◌, refl, ℕ, eqb, take}
 use mathlib.Core.Option.{none, some}
 use mathlib.Core.Option as math
 use Rattle.base.specs.Pick.{pick}
@@ -33,6 +33,9 @@ edge_with e w = record { from = e.from; to = e.to; note = e.note; core = e.core;
 abbrev pub found : List ℕ → Option Spanned → math.Option Edge
 found b None = none
 found b (Some r) = some (edge_with r.numbers (take r.len b))
+
+pub found-there : (b : List ℕ) (r : Spanned) → found b (Some r) ≡ some (edge_with r.numbers (take r.len b))
+found-there b r = refl
 
 -- An edge is found, that of the definition's `f`, and its text in the array `b` is clean
 abbrev pub FindsEdge : List ℕ → List ℕ → List ℕ → List ℕ → List ℕ → List ℕ → List ℕ → (Tables → Text → View → M Edge) → List ℕ → Spanned → Type 0

@@ -23,6 +23,10 @@ pub record Plain (low : ℕ) (s : List ℕ) (past : ℕ) : Type 0 where
   pub right : true ≡ class_right low s
   pub passed : past ≡ class_char s + 1
 
+-- 0 says nothing
+pub not_plain : {low : ℕ} {s : List ℕ} → 0 < 0 → Plain low s 0
+not_plain e = absurd (omega arith)
+
 -- a row is plain where the tests say so
 module _ (s : List ℕ) (low : ℕ) (l : 6 ≤ length s) (r : low ≤ class_char s) (h : 122 < class_char s) (g : class_char s < 0xD800)
     (k : class_category s ≤ category_Zs) (n : class_script s ≤ most_script) where

@@ -9,7 +9,7 @@ use borrow.Author.Tests.{lt-ltb}
 use Rattle.base.specs.Pick.{pick}
 use Rattle.definition.specs.Utf8.{char, six, sequence, read}
 
-one : (b x y z : ℕ) → b < 128 → char b 1 ≡ sequence b x y z
+pub one : (b x y z : ℕ) → b < 128 → char b 1 ≡ sequence b x y z
 unfolding sequence pick
 one b x y z h = rw (lt-ltb b 128 h)
 
