@@ -30,6 +30,11 @@ with_choice w c =
     (pick (same w (chars "readings")) (pick c.readings None (Some (chosen_as c.capitals c.o_ang true)))
     None))
 
+-- and a wrong word is not forgotten
+unfoldable pub with_word : List ℕ → Option Chosen → Option Chosen
+with_word w None = None
+with_word w (Some c) = with_choice w c
+
 -- a dash is no language code
 unfoldable pub code_of : List ℕ → List ℕ
 code_of w = pick (same w (chars "-")) [] w

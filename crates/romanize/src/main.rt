@@ -12,7 +12,7 @@
 
 ghost use Rattle.std.specs.Prelude.{◌≡◌, ◌+◌, ◌<◌, ◌≤◌, length, IfOk, IfSome};
 ghost use Rattle.definition.specs.Limits.{most_rows};
-ghost use Rattle.romanize.specs.Arguments.{mode_of, mode_asked, with_choice, code_of, without_line_end};
+ghost use Rattle.romanize.specs.Arguments.{mode_of, mode_asked, with_choice, with_word, code_of, without_line_end};
 
 use jettyfig::Answer;
 use rule_row_faults::{Fault, RuleFault};
@@ -235,11 +235,22 @@ fn with_choice(word: &[u8], chosen: Chosen) -> Option<Chosen>
     None
 }
 
+// A word more, behind words of which one may have been wrong: then it stays so.
+#[tactic(auto, unfolding(crate::specs::Arguments::with_word))]
+fn with_word(word: &[u8], chosen: Option<Chosen>) -> Option<Chosen>
+    ensures { result ≡ with_word word.now chosen }
+{
+    match chosen {
+        Some(chosen) => with_choice(word, chosen),
+        None => None,
+    }
+}
+
 // The argument `i` behind those before it; one that is too long for a choice is a word that names none.
-fn with_argument<R: Env>(rt: &R, i: usize, chosen: Chosen) -> Option<Chosen> {
+fn with_argument<R: Env>(rt: &R, i: usize, chosen: Option<Chosen>) -> Option<Chosen> {
     let mut word = [0u8; 16];
     let n = read_argument(rt, i, &mut word);
-    with_choice(&word[..n], chosen)
+    with_word(&word[..n], chosen)
 }
 
 // Is there an argument `i`?
@@ -252,18 +263,18 @@ fn choices<R: Env>(rt: &R) -> Option<Chosen> {
     if !has_argument(rt, 6) {
         return None;
     }
-    let mut chosen = Chosen {
+    let mut chosen = Some(Chosen {
         capitals: false,
         o_ang: false,
         readings: false,
-    };
+    });
     for i in 7..usize::MAX {
         if !has_argument(rt, i) {
             break;
         }
-        chosen = with_argument(rt, i, chosen)?;
+        chosen = with_argument(rt, i, chosen);
     }
-    Some(chosen)
+    chosen
 }
 
 // The language code: none for a dash.

@@ -17,14 +17,14 @@ large w b m n e h t k = ap (λ (i : ℕ). uncounted i w) e ∙ sym h ∙ k
 pub returns-then-is_uncounted-clause-written : goal.returns-then-is_uncounted-clause-written
 returns-then-is_uncounted-clause-written c = λ i l m vowels w told lent e.
     let s = c.put_shown-needed.ensures vowels w told lent e in
-    let z : c.fill.new.self ≡ replicate (length c.put_shown-needed.new.out) 0 = search rules in
+    let z : c.clear.new.s ≡ replicate (length c.put_shown-needed.new.out) 0 = search rules in
     shown_large _ _ _ _ s c.requires.1 i l c.args.built.count _ z
     (large _ c.is_uncounted.result i.mode c.args.built.mode m (c.is_uncounted.ensures _ s.needed) _ c.if-is_uncounted.true)
 
 pub returns-then-memory-needed-clause-written : goal.returns-then-memory-needed-clause-written
 returns-then-memory-needed-clause-written c = λ i l m vowels w told lent e.
     let s = c.put_shown-needed.ensures vowels w told lent e in
-    let z : c.fill-then-memory-needed.new.self ≡ replicate (length c.put_shown-needed.new.out) 0 = search rules in
+    let z : c.clear-then-memory-needed.new.s ≡ replicate (length c.put_shown-needed.new.out) 0 = search rules in
     shown_misses _ _ _ _ s c.requires.1 i l c.args.built.count _ z
     (large _ c.is_uncounted.result i.mode c.args.built.mode m (c.is_uncounted.ensures _ s.needed) _ c.if-is_uncounted.false) (omega arith)
 
