@@ -64,14 +64,30 @@ pub fn put_behind(bytes: &mut [u8], n: usize, s: &[u8]) -> usize
     n + s.len()
 }
 
-// A letter put in front of the first `n` bytes of an array, each of which takes the place of the next; the new length is told.
+// A letter put in front of the first `n` bytes of an array, each of which takes the place of the next; the new length is told. By a
+// loop, as in `keep`: `copy_within` is a memmove, which the archive for C would need from outside.
 pub fn put_front(bytes: &mut [u8], n: usize, letter: u8) -> usize
     requires { Clean (held bytes.old n) × (n < most_bytes) }
     ensures { held bytes.new result ≡ rom (letter ∷ take n bytes.old) }
 {
-    bytes.copy_within(..n, 1);
-    bytes[0] = letter;
+    let mut next = letter;
+    for i in 0..n + 1 {
+        let old = bytes[i];
+        bytes[i] = next;
+        next = old;
+    }
     n + 1
+}
+
+// The byte at a place before `to`; zero elsewhere.
+fn byte_before(bytes: &[u8], to: usize, at: usize) -> u8
+    requires { to ≤ length bytes.now }
+    ensures { result ≡ get_or (take to bytes.now) at 0 }
+{
+    if at < to {
+        return bytes[at];
+    }
+    0
 }
 
 // Of the first `n` bytes of an array those from one place to another, moved to the front, and zeros behind; their number is told.
@@ -79,8 +95,9 @@ pub fn keep(bytes: &mut [u8], n: usize, from: usize, to: usize) -> usize
     requires { Clean (held bytes.old n) × (from ≤ to) × (to ≤ n) }
     ensures { held bytes.new result ≡ rom (slice from to (take n bytes.old)) }
 {
-    bytes.copy_within(from..to, 0);
-    bytes[to - from..n].fill(0);
+    for i in 0..n {
+        bytes[i] = byte_before(bytes, to, from + i);
+    }
     to - from
 }
 

@@ -111,12 +111,15 @@ fn voiced(
     vowel_step::add_default_abugida_vowel(dicts, line, places, rom::bytes_of(w), tail, span)
 }
 
-// The first `n` bytes of an array, copied to the front of what is lent: the zeros behind a romanization are there already.
+// The first `n` bytes of an array, copied to the front of what is lent: the zeros behind a romanization are there already. By a loop,
+// as lent_bytes' `put_text` does.
 fn put_first(room: &mut [u8], bytes: &[u8], n: usize)
     requires { (n ≤ length bytes.now) × (n ≤ length room.old) }
     ensures { room.new ≡ take n bytes.now ++ drop n room.old }
 {
-    room[..n].copy_from_slice(&bytes[..n]);
+    for i in 0..n {
+        room[i] = bytes[i];
+    }
 }
 
 // A romanization through the expansion, and put into what is lent.

@@ -1,19 +1,34 @@
--- `rom::put_front`: every byte takes the place of the next, and the letter the first.
-use Rattle.std.proofs.Common.{List, ℕ, ◌+◌, set, ap, ◌∙◌, arith}
-use Rattle.rom.specs.Rom.{held, bytes-length}
-use Rattle.rom.proofs.Writes.{front-is}
+-- `rom::put_front`: the first `i` bytes are those of the array with the letter in front.
+use native.Mathlib.Omega.{arith}
+use lib.ListN.{length-set}
+use Rattle.rom.specs.Rom.{bytes-length}
+use Rattle.rom.proofs.Turns.{front_turn, front-is}
 use Rattle.rom.proofs.put_front.Goals as goal
 
-pub copy_within-requires-clause-in_bounds : goal.copy_within-requires-clause-in_bounds
-copy_within-requires-clause-in_bounds c = omega (arith, c.requires.1, bytes-length c.requires.0)
+pub bounds-bytes-i : goal.bounds-bytes-i
+bounds-bytes-i c =
+    let s = c in
+    let q = c.loop-i.invariant in
+    omega (arith, q.0, s.requires.1, bytes-length s.requires.0)
 
-pub copy_within-requires-clause-dest_in_bounds : goal.copy_within-requires-clause-dest_in_bounds
-copy_within-requires-clause-dest_in_bounds c = omega (arith, c.requires.1, bytes-length c.requires.0)
+pub bounds-bytes-i-in-loop-i : goal.bounds-bytes-i-in-loop-i
+bounds-bytes-i-in-loop-i c =
+    let s = c in
+    let q = c.loop-i.invariant in
+    omega (arith, q.0, s.requires.1, bytes-length s.requires.0)
 
-pub bounds-bytes-0 : goal.bounds-bytes-0
-bounds-bytes-0 c = omega (arith, c.copy_within.ensures.len, c.requires.1, bytes-length c.requires.0)
+pub loop-i-preserved : goal.loop-i-preserved
+loop-i-preserved c =
+    let s = c in
+    let a = s.args in
+    let l = c.loop-i in
+    let q = l.invariant in
+    let t = front_turn a.bytes.now a.n s.requires.0 a.letter l.bytes l.i l.next (omega arith) s.requires.1 q.1 q.2 in
+    (simp length-set q.0, t.0, t.1)
 
 pub returns : goal.returns
 returns c =
-    let a = c.args in
-    ap (λ (b : List ℕ). held (set b 0 a.letter) (a.n + 1)) c.copy_within.ensures.after ∙ front-is a.bytes.now a.n c.requires.0 a.letter c.requires.1
+    let s = c in
+    let a = s.args in
+    let l = c.loop-i in
+    front-is a.bytes.now a.n s.requires.0 a.letter l.bytes l.i (omega arith) l.invariant.1
