@@ -95,7 +95,9 @@ fn as_edge(tail: bool, core: usize, grows: bool, from: usize, to: usize, note: u
     }
 }
 
-// A text through the vowel step.
+// A text through the vowel step. It is not compiled into its caller, where its romanizations would take stack beside those of the
+// expansion.
+#[inline(never)]
 fn voiced(
     dicts: &Dicts,
     line: &[u32],
