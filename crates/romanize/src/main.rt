@@ -22,10 +22,10 @@ use std::io;
 use std::io::{Cursor, Read, Write};
 use std::rt::{Env, Files};
 
-// What an annotation is called: its number is its place.
+// What an annotation is called, with blanks behind it, eight letters in all, so that they go out in one write: its number is its place.
 const NAMES: [&str; 16] = [
-    "none", "rom", "core", "tail", "expanded", "deleted", "single", "Mn", "Cf", "Co", "Zs", "orig",
-    "alt", "alt2", "alt3", "decomp",
+    "none    ", "rom     ", "core    ", "tail    ", "expanded", "deleted ", "single  ", "Mn      ",
+    "Cf      ", "Co      ", "Zs      ", "orig    ", "alt     ", "alt2    ", "alt3    ", "decomp  ",
 ];
 
 // What the words behind the mode choose.
@@ -201,7 +201,7 @@ fn mode_of(arg: &[u8]) -> Option<u8>
     }
 }
 
-// The mode that the call is asked: it refuses what is not one digit.
+// The mode that the call is asked: the digit's value, and for anything else a number that the call refuses.
 #[tactic(auto, unfolding(crate::specs::Arguments::mode_asked))]
 fn mode_asked(arg: &[u8]) -> u8
     ensures { result ≡ mode_asked arg.now }
@@ -235,7 +235,7 @@ fn with_choice(word: &[u8], chosen: Chosen) -> Option<Chosen>
     None
 }
 
-// A word more, behind words of which one may have been wrong: then it stays so.
+// A word more behind those before it. Where one of these was wrong (`None`), the answer is `None`.
 #[tactic(auto, unfolding(crate::specs::Arguments::with_word))]
 fn with_word(word: &[u8], chosen: Option<Chosen>) -> Option<Chosen>
     ensures { result ≡ with_word word.now chosen }
@@ -313,7 +313,7 @@ fn print_edge<W: Write>(out: &mut W, rows: &[u8], at: usize, len: usize) -> io::
         .copied()
         .unwrap_or("");
     let core = base::at(rows, at, 7);
-    write!(out, "{start} {end} {name:8} {core} ")?;
+    write!(out, "{start} {end} {name} {core} ")?;
     if 6 < len {
         out.write_all(lent_bytes::part_or_none(rows, at + 8, len - 6))?;
     }
